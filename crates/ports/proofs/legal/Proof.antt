@@ -1,0 +1,15 @@
+use borrow.Author.Needs.{needs}
+use mathlib.Core.Path.{sym, _∙_}
+use Rattle.ports.specs.Kinds.{kindOf}
+use Rattle.ports.proofs.Laws.{legal-by}
+use Rattle.ports.proofs.legal.Statement.{statement}
+use Rattle.ports.proofs.legal.Tie as tie
+
+returns : tie.Need-returns
+returns c =
+    let row = c .before .before .before .ports-of in
+    let a = c .before .before .before .before .args in
+    c .type-fits .ensures ∙ legal-by (kindOf (a .kind)) (a .ty) (row .result) (row .ensures) (sym (c .before .before .exists .ensures) ∙ c .before .if1 .taken)
+
+pub legal-spec : {M : Type 1} → statement M
+legal-spec = tie.close (tie.spec (λ c κs. search needs) (λ c κs. search needs) (λ c κs. search needs) returns (λ c. search needs))
