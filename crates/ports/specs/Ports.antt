@@ -111,16 +111,22 @@ gives k t = givesRow (portsOf k) t
 abbrev pub arity : Kind → ℕ
 arity k = portsOf k .operands
 
--- how many words its constant has
-abbrev pub constantWords : Kind → ℕ
-constantWords k = portsOf k .words
-
 -- the words of all results
 abbrev pub resultWords : Ports → ℕ → ℕ
 resultWords r t = cond (r .typed) (width t) (r .words)
 
 abbrev pub formOf : Kind → Form
 formOf k = portsOf k .form
+
+-- how many words its constant has
+abbrev pub constantIn : Form → ℕ → ℕ
+constantIn Absent n = 0
+constantIn Constant n = n
+constantIn References n = 0
+constantIn Call n = 0
+
+abbrev pub constantWords : Kind → ℕ
+constantWords k = constantIn (formOf k) (portsOf k .words)
 
 -- a kind there is
 abbrev pub exists : Form → Bool

@@ -1,0 +1,111 @@
+-- The checks 9 to 13, function by function, and the verdict.
+use Prim.Native.Nat.{ℕ}
+use mathlib.Core.Bool.{Bool, true, false, not, _&&_, cond}
+use mathlib.Core.List.{List, [], _∷_, map, reverse}
+use mathlib.Core.Option.{Option, none, some}
+use lib.Dec.{eqb}
+use lib.ListN.{length, getElem?}
+use Rattle.graph.specs.Outcome.{Outcome, ok, fault, _>>=_, _>>_, need, each}
+use Rattle.graph.specs.Graph.{Ref, Payload, consts, refs, calls, Node, Output, Function}
+use Rattle.ports.specs.Kinds.{kindOf}
+use Rattle.ports.specs.Ports.{takes, gives}
+use Rattle.graph.specs.Read.{version1, parse}
+use Rattle.graph.specs.Look.{findNode, findFunction, found, reads}
+use Rattle.graph.specs.Loops.{loops}
+
+-- ---- what a node wants at its references, what it gives
+
+-- the inputs and outputs of the function i among the earlier ones
+abbrev pub inputsOf : Option Function → List ℕ
+inputsOf none = []
+inputsOf (some f) = f .inputs
+
+abbrev pub outputTypes : List Output → List ℕ
+outputTypes = map (λ o. o .type)
+
+abbrev pub outputsOf : Option Function → List ℕ
+outputsOf none = []
+outputsOf (some f) = outputTypes (f .outputs)
+
+abbrev pub wantsOf : List Function → Node → Payload → List ℕ
+wantsOf early n (consts ws) = []
+wantsOf early n (refs rs) = takes (kindOf (n .kind)) (n .type)
+wantsOf early n (calls c rs) = inputsOf (findFunction c early)
+
+abbrev pub givesOf : List Function → Node → Payload → List ℕ
+givesOf early n (consts ws) = gives (kindOf (n .kind)) (n .type)
+givesOf early n (refs rs) = gives (kindOf (n .kind)) (n .type)
+givesOf early n (calls c rs) = outputsOf (findFunction c early)
+
+abbrev pub givesAt : List Function → Option Node → List ℕ
+givesAt early none = []
+givesAt early (some n) = givesOf early n (n .payload)
+
+-- the type that a reference has in the function f, if it has one
+abbrev pub refType : List Function → Function → Ref → Option ℕ
+refType early f r = getElem? (cond (eqb (r .node) 0) (f .inputs) (givesAt early (findNode (r .node) (f .nodes)))) (r .port)
+
+-- ---- 9, 10, 11, 12
+
+abbrev pub fresh : List Node → List Node → Outcome (Unit {0})
+fresh before [] = ok tt
+fresh before (n ∷ ns) = do
+  need (not (found (findNode (n .id) before))) 9 (n .place)
+  fresh (n ∷ before) ns
+
+abbrev pub callOk : List Function → ℕ → Payload → Outcome (Unit {0})
+callOk early at (consts ws) = ok tt
+callOk early at (refs rs) = ok tt
+callOk early at (calls c rs) =
+    need (found (findFunction c early) && eqb (length rs) (length (inputsOf (findFunction c early)))) 10 at
+
+-- there is such a node and port, and its type is the one wanted
+abbrev pub typeIs : ℕ → ℕ → Option ℕ → Outcome (Unit {0})
+typeIs want at none = fault 11 at
+typeIs want at (some t) = need (eqb t want) 12 at
+
+abbrev pub refOk : List Function → Function → ℕ → Ref → Outcome (Unit {0})
+refOk early f want r = typeIs want (r .place) (refType early f r)
+
+abbrev pub refsOk : List Function → Function → List ℕ → List Ref → Outcome (Unit {0})
+refsOk early f [] rs = ok tt
+refsOk early f (w ∷ ws) [] = ok tt
+refsOk early f (w ∷ ws) (r ∷ rs) = do
+  refOk early f w r
+  refsOk early f ws rs
+
+-- ---- the verdict
+
+-- 13: a node on a loop
+abbrev pub loopFree : Function → Outcome (Unit {0})
+loopFree f = each (λ n. need (not (loops (f .nodes) (n .id))) 13 (n .place)) (f .nodes)
+
+-- function by function: its id, its node ids, its calls, its references, its loops
+abbrev pub judge : List Function → Function → Outcome (Unit {0})
+judge early f = do
+  need (not (found (findFunction (f .id) early))) 9 (f .place)
+  fresh [] (f .nodes)
+  each (λ n. callOk early (n .place) (n .payload)) (f .nodes)
+  each (λ o. refOk early f (o .type) (o .ref)) (f .outputs)
+  each (λ n. refsOk early f (wantsOf early n (n .payload)) (reads n)) (f .nodes)
+  loopFree f
+
+-- the functions one after another; `early` has those before, the last first
+abbrev pub judgeAll : List Function → List Function → Outcome (Unit {0})
+judgeAll early [] = ok tt
+judgeAll early (f ∷ fs) = do
+  judge early f
+  judgeAll (f ∷ early) fs
+
+-- the functions of an accepted table, the last first, or the first fault
+unfoldable pub table : List ℕ → Outcome (List Function)
+table s = do
+  fs ← parse version1 s
+  judgeAll [] fs
+  ok (reverse fs)
+
+-- accepted with the function count, or refused
+unfoldable pub verdict : List ℕ → Outcome ℕ
+verdict s = do
+  fs ← table s
+  ok (length fs)

@@ -1,0 +1,11 @@
+pub mod Outcome
+pub mod Bytes
+pub mod Graph
+pub mod Read
+pub mod Look
+pub mod Loops
+pub mod Judge
+pub mod Sums
+pub mod Meaning
+pub mod Table
+pub mod Sound

@@ -1,0 +1,82 @@
+-- What an accepted function is.
+use Prim.Native.Nat.{ℕ, _≤_}
+use mathlib.Core.Path.{_≡_}
+use mathlib.Core.Bool.{Bool, true, false}
+use mathlib.Core.List.{List, [], _∷_, map}
+use mathlib.Core.Option.{Option, none, some}
+use mathlib.Core.Logic.{_⊎_, inl, inr}
+use lib.ListN.{length}
+use Rattle.ports.specs.Kinds.{Kind, kindOf}
+use Rattle.ports.specs.declared.Form.the-variants.{Constant, References, Call}
+use Rattle.ports.specs.Ports.{takes, arity, constantWords, formOf, legal}
+use Rattle.value.specs.Values.{constantWord, every}
+use Rattle.value.specs.Typed.{TypeCode, Word, Each}
+use Rattle.graph.specs.Graph.{Ref, Payload, consts, refs, calls, Node, Output, Function}
+use Rattle.graph.specs.Look.{findNode, findFunction, reads, outputRefs}
+use Rattle.graph.specs.Loops.{Leads}
+use Rattle.graph.specs.Judge.{wantsOf, refType, outputTypes}
+
+abbrev pub Is : {A : Type 0} → A → List A → Type 0
+Is n [] = ⊥
+Is n (x ∷ xs) = (n ≡ x) ⊎ Is n xs
+
+-- ---- what the reading ensures
+
+abbrev pub FormedPayload : Kind → Payload → Type 0
+FormedPayload k (consts ws) = (formOf k ≡ Constant) × (length ws ≡ constantWords k) × (every constantWord ws ≡ true) × Each Word ws
+FormedPayload k (refs rs) = (formOf k ≡ References) × (length rs ≡ arity k)
+FormedPayload k (calls c rs) = (formOf k ≡ Call) × (length rs ≤ 8)
+
+pub record FormedNode (n : Node) : Type 0 where
+  pub id : 1 ≤ n .id
+  pub legal : legal (kindOf (n .kind)) (n .type) ≡ true
+  pub payload : FormedPayload (kindOf (n .kind)) (n .payload)
+
+pub record Formed (f : Function) : Type 0 where
+  pub id : 1 ≤ f .id
+  pub inputs : length (f .inputs) ≤ 8
+  pub inputTypes : Each TypeCode (f .inputs)
+  pub some-output : 1 ≤ length (f .outputs)
+  pub outputs : length (f .outputs) ≤ 8
+  pub outputTypes : Each TypeCode (outputTypes (f .outputs))
+  pub nodes : Each FormedNode (f .nodes)
+
+-- ---- what the checks ensure
+
+-- each reference has the type wanted at its place
+abbrev pub Wired : (Ref → Option ℕ) → List ℕ → List Ref → Type 0
+Wired g [] [] = Unit {0}
+Wired g [] (r ∷ rs) = ⊥
+Wired g (w ∷ ws) [] = ⊥
+Wired g (w ∷ ws) (r ∷ rs) = (g r ≡ some w) × Wired g ws rs
+
+-- a constant takes nothing, and a callee is an earlier function
+abbrev pub Shaped : List Function → Node → Payload → Type 0
+Shaped early n (consts ws) = takes (kindOf (n .kind)) (n .type) ≡ []
+Shaped early n (refs rs) = Unit {0}
+Shaped early n (calls c rs) = (g : Function) × (findFunction c early ≡ some g)
+
+-- the checks before the loops
+pub record Resolved (early : List Function) (f : Function) : Type 0 where
+  pub formed : Formed f
+  pub fresh : findFunction (f .id) early ≡ none
+  pub own : (n : Node) → Is n (f .nodes) → findNode (n .id) (f .nodes) ≡ some n
+  pub shaped : (n : Node) → Is n (f .nodes) → Shaped early n (n .payload)
+  pub wired : (n : Node) → Is n (f .nodes) → Wired (refType early f) (wantsOf early n (n .payload)) (reads n)
+  pub answers : Wired (refType early f) (outputTypes (f .outputs)) (outputRefs (f .outputs))
+
+pub record Sound (early : List Function) (f : Function) : Type 0 where
+  pub resolved : Resolved early f
+  pub free : (i : ℕ) → Leads (f .nodes) i i → ⊥
+
+-- every function over those before it; the last stands first
+abbrev pub AllSound : List Function → Type 0
+AllSound [] = Unit {0}
+AllSound (f ∷ early) = Sound early f × AllSound early
+
+abbrev pub AllFormed : List Function → Type 0
+AllFormed = Each Formed
+
+-- no function has more nodes than the limit
+abbrev pub AllWithin : ℕ → List Function → Type 0
+AllWithin limit = Each (λ f. length (f .nodes) ≤ limit)
