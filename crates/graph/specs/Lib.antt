@@ -6,6 +6,7 @@ pub mod Look
 pub mod Loops
 pub mod Judge
 pub mod Sums
+pub mod Schedule
 pub mod Meaning
 pub mod Table
 pub mod Sound
