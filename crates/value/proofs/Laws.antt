@@ -8,7 +8,7 @@ use native.Mathlib.Omega.{arith}
 use lib.Dec.{T, eqb, leb}
 use lib.ListN.{length, getD, take, drop, length-append, length-drop, take-append-drop}
 use lib.Seq.{length-take-le}
-use borrow.Author.Tests.{ltb-true, le-ltb, eqb-true, eqb-false}
+use borrow.Author.Tests.{ltb-true, le-ltb, eqb-true, eqb-false, ne-eqb}
 use lib.Ieee as Ieee
 use lib.Ieee.{Float, nan, inf, fin, binary64}
 use lib.Ieee.Bits.{ofBits-toBits, ofBits-fits, toBits-ofBits, nanBits-is, nanBits-above}
@@ -371,3 +371,14 @@ matrix-at-address m a =
 
 pub value-at : (m : List ℕ) (t a : ℕ) → valueAt m t a ≡ valueOf t (wordsAt m a (width t))
 value-at m t a = by-type (λ t. valueAt m t a ≡ valueOf t (wordsAt m a (width t))) (scalar-at-address m a) (vector-at-address m a) (λ t p q. rw (p, q) (matrix-at-address m a)) t
+
+-- a number that is no scalar's and no vector's type is read as a matrix's
+pub value-else : (m : List ℕ) (t a : ℕ) → (t ≡ 1 → ⊥) → (t ≡ 2 → ⊥) → valueAt m t a ≡ Matrix (matAt m a)
+value-else m t a p q = simp (ne-eqb t 1 p, ne-eqb t 2 q)
+
+pub width-else : (t : ℕ) → (t ≡ 1 → ⊥) → (t ≡ 2 → ⊥) → width t ≡ 16
+width-else t p q = simp (ne-eqb t 1 p, ne-eqb t 2 q)
+
+-- the words of a value
+abbrev pub size : Value → ℕ
+size v = length (wordsOf v)
