@@ -23,44 +23,17 @@ use Rattle.graph.specs.Meaning.{bind, functionMeans, meaningOf, words, graphMea
 use Rattle.graph.specs.Table.{Chosen, chosen}
 use Rattle.graph.proofs.Loops.{and-both}
 use Rattle.graph.proofs.Steps.{takes, passes}
-use Rattle.graph.proofs.Formed.{Bytes, accepted}
+use Rattle.graph.specs.Bytes.{Bytes}
+use Rattle.graph.proofs.Formed.{accepted}
 use Rattle.graph.proofs.Table.{chosen-sound, chosen-means}
 use Rattle.list.specs.Board.{BoardList, run}
 use Rattle.list.specs.Compile.{boardListOf}
 use Rattle.list.specs.Code.{encode, decode}
 use Rattle.list.specs.Answers.{compilable, codeOf, Compiled, compiled, Buffers, ran}
+use Rattle.list.specs.Demand3.{Within, Lent, Demand3}
 use Rattle.list.proofs.Promise.{runs}
 use Rattle.list.proofs.Back.{all-finite}
 use Rattle.list.proofs.Limits.{words-of, output-words, code-of}
-
--- a function of an accepted table, within the limits
-pub record Within (s : List ℕ) (c : ℕ) (fs : List Function) (x : Chosen) : Type 0 where
-  pub bytes : Bytes s
-  pub accepted : table s ≡ ok fs
-  pub chosen : chosen c fs ≡ some x
-  pub operations : functionOperations (operationsOf (x .early)) (x .function) ≤ 4096
-  pub words : functionWords (x .early) (x .function) ≤ 8192
-
--- arguments of the right count, and buffers that are long enough
-pub record Lent (x : Chosen) (buffer arguments work out : List ℕ) : Type 0 where
-  pub code-fits : length (codeOf x) ≤ length buffer
-  pub finite : Each Finite arguments
-  pub count : length arguments ≡ widths (x .function .inputs)
-  pub work-fits : functionWords (x .early) (x .function) ≤ length work
-  pub out-fits : widths (outputTypes (x .function .outputs)) ≤ length out
-
--- the compiler's code, run on the arguments, gives the words of what the graph means
-pub record Claim (s : List ℕ) (c : ℕ) (fs : List Function) (x : Chosen) (buffer arguments work out : List ℕ) : Type 0 where
-  pub code : Compiled
-  pub compiles : compiled s c buffer ≡ ok code
-  pub after : Buffers
-  pub runs : ran (take (code .size) (code .buffer)) arguments work out ≡ ok after
-  pub answer : List ℕ
-  pub meant : graphMeans fs c arguments ≡ some answer
-  pub size : length answer ≡ widths (outputTypes (x .function .outputs))
-  pub given : after .out ≡ sets out 0 answer
-  pub same : length (after .work) ≡ length work
-  pub rest : (i : ℕ) → functionWords (x .early) (x .function) ≤ i → wordAt (after .work) i ≡ wordAt work i
 
 front : (xs ys : List ℕ) → length ys ≤ length xs → take (length ys) (sets xs 0 ys) ≡ ys
 front xs ys h = ap (take (length ys)) (sets-eq ys xs 0 (omega arith)) ∙ take-at ys (drop (0 + length ys) xs) (length ys) refl
@@ -77,7 +50,7 @@ compile-ok s c fs x buffer w l =
     ∙ passes (leb (functionWords (x .early) (x .function)) 8192) 16 0 _ (le-leb _ _ (w .words)) in
     takes (compilable s c) _ x found ∙ passes (leb (length (codeOf x)) (length buffer)) 17 0 _ (le-leb _ _ l)
 
-run-ok : (code arguments work out : List ℕ) (b : BoardList) → decode code ≡ some b → length arguments ≡ b .arguments → Each Finite arguments
+pub run-ok : (code arguments work out : List ℕ) (b : BoardList) → decode code ≡ some b → length arguments ≡ b .arguments → Each Finite arguments
     → b .words ≤ length work → length (b .outputs) ≤ length out
     → ran code arguments work out ≡ ok (record { count = length (b .outputs); work = run b arguments work .memory; out = sets out 0 (run b arguments work .outputs) })
 unfolding ran
@@ -87,9 +60,9 @@ run-ok code arguments work out b d n f w o =
     ∙ passes (every argumentWord arguments) 20 0 _ (all-finite arguments f)
     ∙ passes (leb (b .words) (length work) && leb (length (b .outputs)) (length out)) 21 0 _ (and-both _ _ (le-leb _ _ w) (le-leb _ _ o))
 
-pub claim : (s : List ℕ) (c : ℕ) (fs : List Function) (x : Chosen) → Within s c fs x → (buffer arguments work out : List ℕ) → Lent x buffer arguments work out
-    → Claim s c fs x buffer arguments work out
-claim s c fs x w buffer arguments work out l =
+pub demand3 : (s : List ℕ) (c : ℕ) (fs : List Function) (x : Chosen) → Within s c fs x → (buffer arguments work out : List ℕ) → Lent x buffer arguments work out
+    → Demand3 s c fs x buffer arguments work out
+demand3 s c fs x w buffer arguments work out l =
     let f = x .function in
     let early = x .early in
     let b = boardListOf early f in
@@ -107,12 +80,14 @@ claim s c fs x w buffer arguments work out l =
     ap decode (front buffer (codeOf x) (l .code-fits)) ∙ code-of early f sound (w .operations) (w .words) in
     record {
       code = record { size = length (codeOf x); buffer = sets buffer 0 (codeOf x) };
+      list = refl;
       compiles = compile-ok s c fs x buffer w (l .code-fits);
       after = record { count = length (b .outputs); work = run b arguments work .memory; out = sets out 0 (run b arguments work .outputs) };
       runs = run-ok _ arguments work out b d (l .count) (l .finite) room room′;
       answer = allWords (r .values);
       meant = rw (w .chosen, m) refl;
       size = typed-widths (outputTypes (f .outputs)) (r .values) (r .typed);
+      count = outs ∙ sym (typed-widths (outputTypes (f .outputs)) (r .values) (r .typed));
       given = ap (sets out 0) (subst (λ (ws : List ℕ). run b ws work .outputs ≡ allWords (r .values)) same (r .outputs));
       same = subst (λ (ws : List ℕ). length (run b ws work .memory) ≡ length work) same (r .size);
       rest = λ i h.
