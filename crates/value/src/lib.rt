@@ -7,7 +7,7 @@ ghost use lib.Ieee as Ieee;
 ghost use lib.Ieee.{binary64};
 ghost use Rattle.ports.specs.Ports.{width};
 ghost use Rattle.value.specs.Values as Values;
-ghost use Rattle.value.specs.Values.{vec, typeOf, word, vecWords, rowWords, wordsOf, floatAt, vecAt, rowAt, matAt, valueAt, constantWord, argumentWord};
+ghost use Rattle.value.specs.Values.{vec, typeOf, word, rowWords, wordsOf, floatAt, vecAt, rowAt, matAt, valueAt, constantWord, argumentWord};
 ghost use Rattle.value.specs.Steps as Steps;
 ghost use Rattle.value.specs.Steps.{stepOf, selected, clamped, zeroVec, zeroRow, zeroMat, scalar, vector, matrix, eachVec, eachRow, eachMat, components, dotProduct, crossProduct, rowTimes, matrixTimes, fromColumns, fromRows, transposed};
 
