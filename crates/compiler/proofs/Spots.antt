@@ -1,19 +1,32 @@
 -- The spots found before a function is opened are where its values stand once it is opened.
 use Prim.Native.Nat.{ℕ, zero, suc, _+_, _≤_, _<_}
 use mathlib.Core.Path.{_≡_, refl, ap, sym, _∙_, subst}
-use mathlib.Core.Bool.{Bool, true, false, cond}
-use mathlib.Core.List.{List, [], _∷_, _++_, map, map-map}
+use mathlib.Core.Bool.{Bool, true, false, _&&_, _||_, not, cond}
+use mathlib.Core.List.{List, [], _∷_, _++_, map, map-map, reverse, reverseAux}
+use mathlib.Core.Option.{Option, none, some}
+use mathlib.Core.Logic.{_⊎_, inl, inr, ⊎-elim}
 use native.Mathlib.Omega.{arith}
 use lib.Dec.{eqb}
 use lib.ListN.{length, getD, List·getD-map}
+use borrow.Author.Tests.{eqb-true, eqb-false, eq-eqb, ne-eqb}
 use Rattle.ports.specs.Kinds.{kindOf}
 use Rattle.ports.specs.Ports.{width, widths, gives}
 use Rattle.graph.specs.Graph.{Ref, Payload, consts, refs, calls, Node, Output, Function}
-use Rattle.graph.specs.Look.{outputRefs}
-use Rattle.graph.specs.Schedule.{schedule}
+use Rattle.value.specs.Typed.{Each}
+use Rattle.graph.specs.Look.{member, findNode, found, findFunction, readsOf, reads, outputRefs}
+use Rattle.graph.specs.Schedule.{ready, schedule}
+use Rattle.graph.specs.Outcome.{Outcome, ok, _>>=_, _>>_, need}
+use Rattle.graph.specs.Read.{version1, parse}
+use Rattle.graph.specs.Judge.{fresh, judge, judgeAll, table}
+use Rattle.graph.specs.Sums.{sum}
+use Rattle.graph.specs.Sound.{Is, Sound}
+use Rattle.graph.proofs.Loops.{and-inv, or-inv}
+use Rattle.graph.proofs.Steps.{took, after, passed}
+use Rattle.graph.proofs.Accept.{fresh-own}
+use Rattle.graph.proofs.Order.{ids, Ordered, scheduled}
 use Rattle.list.specs.Board.{Instruction}
-use Rattle.list.specs.Compile.{Written, portsAt, address, places, Opened, Open, openNode, Body, also, openNodes, openFunction, opened}
-use Rattle.compiler.specs.Static.{Spot, nowhere, input, offset, spotAt, through, Spotted, spotsOf, spotOf, Closed, Callee, closedNode, Spread, spread, closedFunction, closed}
+use Rattle.list.specs.Compile.{Written, portsAt, address, places, Opened, Open, single, openNode, Body, also, openNodes, openFunction, opened}
+use Rattle.compiler.specs.Static.{Spot, nowhere, input, offset, spotAt, through, Spotted, spotsOf, spotOf, Closed, Callee, closedNode, Spread, spread, closedFunction, closed, emitNodes, Agrees}
 
 -- ---- lists
 
@@ -189,3 +202,221 @@ opened-ports early c ins next = opened-follows early .ports c ins next
 -- the first word behind the function of an id
 pub opened-next : (early : List Function) (c : ℕ) (ins : List ℕ) (next : ℕ) → opened early c ins next .next ≡ next + closed early c .words
 opened-next early c ins next = opened-follows early .next c ins next
+
+-- ---- ids that are single
+
+-- no two nodes have one id
+abbrev pub Single : List Node → Type 0
+Single [] = Unit {0}
+Single (n ∷ ns) = (member (n .id) (ids ns) ≡ false) × Single ns
+
+-- how many nodes have an id
+abbrev count : ℕ → List Node → ℕ
+count i = sum (λ n. cond (eqb (n .id) i) 1 0)
+
+absent-count : (i : ℕ) (ns : List Node) → member i (ids ns) ≡ false → count i ns ≡ 0
+absent-count i [] e = refl
+absent-count i (n ∷ ns) e = pickOne (eqb (n .id) i) (absent-count i ns) e
+  where
+    pickOne : (b : Bool) → (member i (ids ns) ≡ false → count i ns ≡ 0) → cond b true (member i (ids ns)) ≡ false → cond b 1 0 + count i ns ≡ 0
+    pickOne true ih h = let z : _≡_ {A = ℕ} 0 1 = cc in absurd (omega arith)
+    pickOne false ih h = let q = ih h in omega arith
+
+count-absent : (i : ℕ) (ns : List Node) → count i ns ≡ 0 → member i (ids ns) ≡ false
+count-absent i [] e = refl
+count-absent i (n ∷ ns) e = pickOne (eqb (n .id) i) (count-absent i ns) e
+  where
+    pickOne : (b : Bool) → (count i ns ≡ 0 → member i (ids ns) ≡ false) → cond b 1 0 + count i ns ≡ 0 → cond b true (member i (ids ns)) ≡ false
+    pickOne true ih h = absurd (omega arith)
+    pickOne false ih h = ih (omega arith)
+
+single-count : (ns : List Node) → Single ns → (i : ℕ) → count i ns ≤ 1
+single-count [] s i = omega arith
+single-count (n ∷ ns) (a, s) i = pickOne (eqb (n .id) i) refl (single-count ns s i)
+  where
+    pickOne : (b : Bool) → eqb (n .id) i ≡ b → count i ns ≤ 1 → cond b 1 0 + count i ns ≤ 1
+    pickOne true e l = let z = absent-count i ns (subst (λ (j : ℕ). member j (ids ns) ≡ false) (eqb-true (n .id) i e) a) in omega arith
+    pickOne false e l = omega arith
+
+count-single : (ns : List Node) → ((i : ℕ) → count i ns ≤ 1) → Single ns
+count-single [] h = tt
+count-single (n ∷ ns) h = (count-absent (n .id) ns zeros, count-single ns (λ i. fewer i (cond (eqb (n .id) i) 1 0) (h i)))
+  where
+    zeros : count (n .id) ns ≡ 0
+    zeros =
+        let l : cond (eqb (n .id) (n .id)) 1 0 + count (n .id) ns ≤ 1 = h (n .id) in
+        let e : _≡_ {A = ℕ} (cond (eqb (n .id) (n .id)) 1 0) 1 = rw (eq-eqb (n .id) (n .id) refl) refl in
+        omega arith
+
+    fewer : (i x : ℕ) → x + count i ns ≤ 1 → count i ns ≤ 1
+    fewer i x l = omega arith
+
+-- the schedule of a function whose ids are single has single ids
+pub schedule-single : (early : List Function) (f : Function) → Sound early f → Single (f .nodes) → Single (schedule (f .nodes))
+schedule-single early f sound single =
+    count-single (schedule (f .nodes))
+    (λ i. subst (λ (x : ℕ). x ≤ 1) (sym (scheduled early f sound .total (λ n. cond (eqb (n .id) i) 1 0))) (single-count (f .nodes) single i))
+
+-- check 9: ids that none before has
+pub fresh-single : (before ns : List Node) (u : Unit {0}) → fresh before ns ≡ ok u → Single ns
+fresh-single before [] u e = tt
+fresh-single before (x ∷ ns) u e =
+    let (t, r) = passed (not (found (findNode (x .id) before))) 9 (x .place) (fresh (x ∷ before) ns) u e in
+    (apart x before ns (λ n h. fresh-own (x ∷ before) ns u r n h .0), fresh-single (x ∷ before) ns u r)
+  where
+    apart : (x : Node) (before ns : List Node) → ((n : Node) → Is n ns → findNode (n .id) (x ∷ before) ≡ none) → member (x .id) (ids ns) ≡ false
+    apart x before [] h = refl
+    apart x before (y ∷ ys) h = rw (ne-eqb (y .id) (x .id) (other (h y (inl refl)))) (apart x before ys (λ n i. h n (inr i)))
+      where
+        other : cond (eqb (x .id) (y .id)) (some x) (findNode (y .id) before) ≡ none → y .id ≡ x .id → ⊥
+        other e q =
+            let f : cond (eqb (x .id) (y .id)) (some x) (findNode (y .id) before) ≡ some x = rw (eq-eqb (x .id) (y .id) (sym q)) refl in
+            let g : some x ≡ none = sym f ∙ e in
+            let z : _≡_ {A = ℕ} 0 1 = cc in
+            absurd (omega arith)
+
+judged-single : (early : List Function) (f : Function) (u : Unit {0}) → judge early f ≡ ok u → Single (f .nodes)
+judged-single early f u e =
+    let (e0, e1) = passed (not (found (findFunction (f .id) early))) 9 (f .place) _ u e in
+    let (a1, f1, e2) = after (fresh [] (f .nodes)) _ u e1 in
+    fresh-single [] (f .nodes) a1 f1
+
+all-single : (early fs : List Function) (u : Unit {0}) → Each (λ f. Single (f .nodes)) early → judgeAll early fs ≡ ok u → Each (λ f. Single (f .nodes)) (reverseAux fs early)
+all-single early [] u h e = h
+all-single early (f ∷ fs) u h e =
+    let (b, p, q) = after (judge early f) (judgeAll (f ∷ early) fs) u e in
+    all-single (f ∷ early) fs u (judged-single early f b p, h) q
+
+-- every function of an accepted table has single ids
+pub accepted-single : (s : List ℕ) (fs : List Function) → table s ≡ ok fs → Each (λ f. Single (f .nodes)) fs
+unfolding table
+accepted-single s fs e =
+    let (gs, p, e1) = took (parse version1 s) (λ fs. judgeAll [] fs >> ok (reverse fs)) fs e in
+    let (u, j, e2) = after (judgeAll [] gs) (ok (reverse gs)) fs e1 in
+    let q : reverse gs ≡ fs = cc in
+    subst (λ (hs : List Function). Each (λ f. Single (f .nodes)) hs) q (all-single [] gs u tt j)
+
+-- ---- later is the same
+
+-- nodes in two parts: the second is spread behind the first
+pub spread-append : (call : Callee) (ms ns : List Node) (spotted : List Spotted) (d : ℕ)
+    → spread call (ms ++ ns) spotted d ≡ spread call ns (spread call ms spotted d .spotted) (spread call ms spotted d .words)
+spread-append call [] ns spotted d = refl
+spread-append call (m ∷ ms) ns spotted d =
+    let c = closedNode call spotted d m (m .payload) in
+    spread-append call ms ns (spotting m c spotted) (d + c .words)
+
+-- nodes with other ids leave the spots of an id
+pub spots-later : (call : Callee) (i : ℕ) (ns : List Node) (spotted : List Spotted) (d : ℕ) → member i (ids ns) ≡ false
+    → spotsOf i (spread call ns spotted d .spotted) ≡ spotsOf i spotted
+spots-later call i [] spotted d e = refl
+spots-later call i (n ∷ ns) spotted d e =
+    let c = closedNode call spotted d n (n .payload) in
+    let (a, b) = apart (eqb (n .id) i) e in
+    spots-later call i ns (spotting n c spotted) (d + c .words) b ∙ rw a refl
+  where
+    apart : (b : Bool) → cond b true (member i (ids ns)) ≡ false → (b ≡ false) × (member i (ids ns) ≡ false)
+    apart true h = let z : _≡_ {A = ℕ} 0 1 = cc in absurd (omega arith)
+    apart false h = (refl, h)
+
+-- the spot of a reference to an input, or to an id that none of the nodes has
+pub spot-later : (call : Callee) (r : Ref) (ns : List Node) (spotted : List Spotted) (d : ℕ) → (r .node ≡ 0) ⊎ (member (r .node) (ids ns) ≡ false)
+    → spotOf (spread call ns spotted d .spotted) r ≡ spotOf spotted r
+spot-later call r ns spotted d (inl e) = rw (eq-eqb (r .node) 0 e) refl
+spot-later call r ns spotted d (inr e) =
+    ap (λ (xs : List Spot). cond (eqb (r .node) 0) (input (r .port)) (getD xs (r .port) nowhere)) (spots-later call (r .node) ns spotted d e)
+
+-- what is done is none of the nodes to come
+abbrev pub Apart : List ℕ → List Node → Type 0
+Apart done ns = (i : ℕ) → member i done ≡ true → member i (ids ns) ≡ false
+
+-- a node more is done
+pub apart-step : (done : List ℕ) (n : Node) (ns : List Node) → Single (n ∷ ns) → Apart done (n ∷ ns) → Apart (n .id ∷ done) ns
+apart-step done n ns (s, ss) apart i e = pickOne (eqb (n .id) i) refl e (apart i)
+  where
+    pickOne : (b : Bool) → eqb (n .id) i ≡ b → cond b true (member i done) ≡ true → (member i done ≡ true → cond b true (member i (ids ns)) ≡ false)
+        → member i (ids ns) ≡ false
+    pickOne true q h k = subst (λ (j : ℕ). member j (ids ns) ≡ false) (eqb-true (n .id) i q) s
+    pickOne false q h k = k h
+
+-- what a node reads at its turn has the same spot in all later lists
+pub reads-later : (call : Callee) (done : List ℕ) (rs : List Ref) (ns : List Node) (spotted : List Spotted) (d : ℕ) → Apart done ns → ready done rs ≡ true
+    → Each (λ r. spotOf (spread call ns spotted d .spotted) r ≡ spotOf spotted r) rs
+reads-later call done [] ns spotted d apart e = tt
+reads-later call done (r ∷ rs) ns spotted d apart e =
+    let (a, b) = and-inv (eqb (r .node) 0 || member (r .node) done) (ready done rs) e in (
+      spot-later call r ns spotted d (⊎-elim (λ z. inl (eqb-true (r .node) 0 z)) (λ m. inr (apart (r .node) m)) (or-inv (eqb (r .node) 0) (member (r .node) done) a)),
+      reads-later call done rs ns spotted d apart b,
+    )
+
+-- the last list is a table for all nodes of an order with single ids
+pub last-agrees : (call : Callee) (done : List ℕ) (ns : List Node) (spotted : List Spotted) (d : ℕ) → Single ns → Apart done ns → Ordered done ns
+    → Agrees call (spotOf (spread call ns spotted d .spotted)) ns spotted d
+last-agrees call done [] spotted d single apart ordered = tt
+last-agrees call done (n ∷ ns) spotted d (s, single) apart (fit, ordered) =
+    let c = closedNode call spotted d n (n .payload) in (
+      reads-later call done (reads n) (n ∷ ns) spotted d apart fit,
+      last-agrees call (n .id ∷ done) ns (spotting n c spotted) (d + c .words) single (apart-step done n ns (s, single) apart) ordered,
+    )
+
+-- the last list of a function's schedule is a table for its nodes
+pub function-agrees : (call : Callee) (early : List Function) (f : Function) → Sound early f → Single (f .nodes)
+    → Agrees call (spotOf (spread call (schedule (f .nodes)) [] 0 .spotted)) (schedule (f .nodes)) [] 0
+function-agrees call early f sound single =
+    last-agrees call [] (schedule (f .nodes)) [] 0 (schedule-single early f sound single) nothing (scheduled early f sound .ordered)
+  where
+    nothing : Apart [] (schedule (f .nodes))
+    nothing i e = let z : _≡_ {A = ℕ} 0 1 = cc in absurd (omega arith)
+
+-- a table that has the same spots for what the nodes read
+pub agrees-by : (call : Callee) (table other : Ref → Spot) (ns : List Node) (spotted : List Spotted) (d : ℕ)
+    → ((n : Node) → Is n ns → Each (λ r. other r ≡ table r) (reads n)) → Agrees call table ns spotted d → Agrees call other ns spotted d
+agrees-by call table other [] spotted d h a = tt
+agrees-by call table other (n ∷ ns) spotted d h (a, b) =
+    let c = closedNode call spotted d n (n .payload) in
+    (both (reads n) (h n (inl refl)) a, agrees-by call table other ns (spotting n c spotted) (d + c .words) (λ m i. h m (inr i)) b)
+  where
+    both : (rs : List Ref) → Each (λ r. other r ≡ table r) rs → Each (λ r. table r ≡ spotOf spotted r) rs → Each (λ r. other r ≡ spotOf spotted r) rs
+    both [] p q = tt
+    both (r ∷ rs) (p, ps) (q, qs) = (p ∙ q, both rs ps qs)
+
+-- ---- the code by a table of spots
+
+-- the addresses of what a node reads are those of the table's spots
+pub addresses-table : (ins : List ℕ) (base : ℕ) (written : List Written) (spotted : List Spotted) → Matches ins base written spotted → (table : Ref → Spot) (rs : List Ref)
+    → Each (λ r. table r ≡ spotOf spotted r) rs → map (address ins written) rs ≡ map (λ r. spotAt ins base (table r)) rs
+addresses-table ins base written spotted m table [] h = refl
+addresses-table ins base written spotted m table (r ∷ rs) (e, h) =
+    let a : address ins written r ≡ spotAt ins base (table r) = address-spot ins base written spotted m r ∙ ap (spotAt ins base) (sym e) in
+    let b : map (address ins written) rs ≡ map (λ r. spotAt ins base (table r)) rs = addresses-table ins base written spotted m table rs h in
+    cc
+
+-- a node by the table's spots
+pub node-table : (go : Open) (ins : List ℕ) (base : ℕ) (written : List Written) (spotted : List Spotted) → Matches ins base written spotted
+    → (table : Ref → Spot) (next : ℕ) (n : Node) (p : Payload) → Each (λ r. table r ≡ spotOf spotted r) (readsOf p)
+    → openNode go (address ins written) next n p ≡ openNode go (λ r. spotAt ins base (table r)) next n p
+node-table go ins base written spotted m table next n (consts ws) h = refl
+node-table go ins base written spotted m table next n (refs rs) h =
+    ap (λ (xs : List ℕ). single n xs [] next) (addresses-table ins base written spotted m table rs h)
+node-table go ins base written spotted m table next n (calls c rs) h =
+    ap (λ (xs : List ℕ). go c xs next) (addresses-table ins base written spotted m table rs h)
+
+-- the code of nodes in their order by the table's spots
+pub nodes-table : (go : Open) (call : Callee) → Follows go call → (ins : List ℕ) (base : ℕ) (table : Ref → Spot) (ns : List Node) (written : List Written) (spotted : List Spotted)
+    → Matches ins base written spotted → (next d : ℕ) → next ≡ base + d → Agrees call table ns spotted d
+    → openNodes go ins ns written next .code ≡ emitNodes go table ins base ns next
+nodes-table go call follows ins base table [] written spotted m next d e agrees = refl
+nodes-table go call follows ins base table (n ∷ ns) written spotted m next d e (a, agrees) =
+    let o = openNode go (address ins written) next n (n .payload) in
+    let c = closedNode call spotted d n (n .payload) in
+    let same : o ≡ openNode go (λ r. spotAt ins base (table r)) next n (n .payload) = node-table go ins base written spotted m table next n (n .payload) a in
+    let rest =
+    nodes-table go call follows ins base table ns (also n o written) (spotting n c spotted) (matches-step go call follows ins base written spotted m next d e n)
+    (o .next) (d + c .words) (node-next go call follows ins base (address ins written) spotted next d e n (n .payload)) agrees in
+    ap (λ (xs : List Instruction). o .code ++ xs) rest ∙ ap (λ (x : Opened). x .code ++ emitNodes go table ins base ns (x .next)) same
+
+-- the code of a function by a table of spots
+pub function-table : (go : Open) (call : Callee) → Follows go call → (f : Function) (table : Ref → Spot) → Agrees call table (schedule (f .nodes)) [] 0 → (ins : List ℕ) (next : ℕ)
+    → openFunction go f ins next .code ≡ emitNodes go table ins next (schedule (f .nodes)) next
+function-table go call follows f table agrees ins next =
+    nodes-table go call follows ins next table (schedule (f .nodes)) [] [] (matches-start ins next) next 0 (omega arith) agrees
