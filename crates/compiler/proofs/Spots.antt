@@ -1,29 +1,32 @@
 -- The spots found before a function is opened are where its values stand once it is opened.
 use Prim.Native.Nat.{ℕ, _+_, _≤_}
 use mathlib.Core.Path.{_≡_, refl, ap, sym, _∙_, subst}
-use mathlib.Core.Bool.{Bool, true, false, _||_, not, cond}
+use mathlib.Core.Bool.{Bool, true, false, _||_, cond}
 use mathlib.Core.List.{List, [], _∷_, _++_, map, map-map, reverse, reverseAux}
-use mathlib.Core.Option.{none, some}
+use mathlib.Core.Option.{some}
 use mathlib.Core.Logic.{_⊎_, inl, inr, ⊎-elim}
 use native.Mathlib.Omega.{arith}
 use lib.Dec.{eqb}
 use lib.ListN.{getD, List·getD-map}
-use borrow.Author.Tests.{eqb-true, eq-eqb, ne-eqb}
+use borrow.Author.Tests.{eqb-true, eq-eqb}
 use Rattle.ports.specs.Kinds.{kindOf}
 use Rattle.ports.specs.Ports.{width, gives}
 use Rattle.graph.specs.Graph.{Ref, Payload, consts, refs, calls, Node, Function}
 use Rattle.value.specs.Typed.{Each}
-use Rattle.graph.specs.Look.{member, findNode, found, findFunction, readsOf, reads, outputRefs}
+use Rattle.graph.specs.Look.{member, readsOf, reads, outputRefs}
 use Rattle.graph.specs.Schedule.{ready, schedule}
 use Rattle.graph.specs.Outcome.{ok, _>>_}
 use Rattle.graph.specs.Read.{version1, parse}
-use Rattle.graph.specs.Judge.{fresh, judge, judgeAll, table}
+use Rattle.graph.specs.Judge.{judge, judgeAll, table}
+use Rattle.graph.specs.Bytes.{Bytes}
+use Rattle.graph.specs.Rules.{Distinct}
 use Rattle.graph.specs.Table.{Chosen, chosen}
 use Rattle.graph.specs.Sums.{sum}
-use Rattle.graph.specs.Sound.{Is, Sound}
+use Rattle.graph.specs.Sound.{Is, Sound, AllFormed}
 use Rattle.graph.proofs.Loops.{and-inv, or-inv}
-use Rattle.graph.proofs.Steps.{took, after, passed}
-use Rattle.graph.proofs.Accept.{fresh-own}
+use Rattle.graph.proofs.Steps.{took, after, ok-is}
+use Rattle.graph.proofs.Formed.{parse-formed}
+use Rattle.graph.proofs.Exactly.{rules-there}
 use Rattle.graph.proofs.Order.{ids, Ordered, scheduled, schedule-within}
 use Rattle.list.specs.Board.{Instruction}
 use Rattle.list.specs.Compile.{Written, portsAt, address, places, Opened, Open, single, openNode, also, openNodes, openFunction, opened}
@@ -214,8 +217,7 @@ opened-next early c ins next = opened-follows early .next c ins next
 
 -- no two nodes have one id
 abbrev pub Single : List Node → Type 0
-Single [] = Unit {0}
-Single (n ∷ ns) = (member (n .id) (ids ns) ≡ false) × Single ns
+Single ns = Distinct (ids ns)
 
 -- how many nodes have an id
 abbrev count : ℕ → List Node → ℕ
@@ -264,44 +266,21 @@ schedule-single early f sound single =
     count-single (schedule (f .nodes))
     (λ i. subst (λ (x : ℕ). x ≤ 1) (sym (scheduled early f sound .total (λ n. cond (eqb (n .id) i) 1 0))) (single-count (f .nodes) single i))
 
--- check 9: ids that none before has
-pub fresh-single : (before ns : List Node) (u : Unit {0}) → fresh before ns ≡ ok u → Single ns
-fresh-single before [] u e = tt
-fresh-single before (x ∷ ns) u e =
-    let (t, r) = passed (not (found (findNode (x .id) before))) 9 (x .place) (fresh (x ∷ before) ns) u e in
-    (apart x before ns (λ n h. fresh-own (x ∷ before) ns u r n h .0), fresh-single (x ∷ before) ns u r)
-  where
-    apart : (x : Node) (before ns : List Node) → ((n : Node) → Is n ns → findNode (n .id) (x ∷ before) ≡ none) → member (x .id) (ids ns) ≡ false
-    apart x before [] h = refl
-    apart x before (y ∷ ys) h = rw (ne-eqb (y .id) (x .id) (other (h y (inl refl)))) (apart x before ys (λ n i. h n (inr i)))
-      where
-        other : cond (eqb (x .id) (y .id)) (some x) (findNode (y .id) before) ≡ none → y .id ≡ x .id → ⊥
-        other e q =
-            let f : cond (eqb (x .id) (y .id)) (some x) (findNode (y .id) before) ≡ some x = rw (eq-eqb (x .id) (y .id) (sym q)) refl in
-            let g : some x ≡ none = sym f ∙ e in
-            let z : _≡_ {A = ℕ} 0 1 = cc in
-            absurd (omega arith)
-
-judged-single : (early : List Function) (f : Function) (u : Unit {0}) → judge early f ≡ ok u → Single (f .nodes)
-judged-single early f u e =
-    let (e0, e1) = passed (not (found (findFunction (f .id) early))) 9 (f .place) _ u e in
-    let (a1, f1, e2) = after (fresh [] (f .nodes)) _ u e1 in
-    fresh-single [] (f .nodes) a1 f1
-
-all-single : (early fs : List Function) (u : Unit {0}) → Each (λ f. Single (f .nodes)) early → judgeAll early fs ≡ ok u → Each (λ f. Single (f .nodes)) (reverseAux fs early)
-all-single early [] u h e = h
-all-single early (f ∷ fs) u h e =
+all-single : (early fs : List Function) (u : Unit {0}) → AllFormed fs → Each (λ f. Single (f .nodes)) early → judgeAll early fs ≡ ok u
+    → Each (λ f. Single (f .nodes)) (reverseAux fs early)
+all-single early [] u formed h e = h
+all-single early (f ∷ fs) u (a, formed) h e =
     let (b, p, q) = after (judge early f) (judgeAll (f ∷ early) fs) u e in
-    all-single (f ∷ early) fs u (judged-single early f b p, h) q
+    all-single (f ∷ early) fs u formed (rules-there early f a p .own-nodes, h) q
 
 -- every function of an accepted table has single ids
-pub accepted-single : (s : List ℕ) (fs : List Function) → table s ≡ ok fs → Each (λ f. Single (f .nodes)) fs
+pub accepted-single : (s : List ℕ) → Bytes s → (fs : List Function) → table s ≡ ok fs → Each (λ f. Single (f .nodes)) fs
 unfolding table
-accepted-single s fs e =
+accepted-single s small fs e =
     let (gs, p, e1) = took (parse version1 s) (λ fs. judgeAll [] fs >> ok (reverse fs)) fs e in
     let (u, j, e2) = after (judgeAll [] gs) (ok (reverse gs)) fs e1 in
-    let q : reverse gs ≡ fs = cc in
-    subst (λ (hs : List Function). Each (λ f. Single (f .nodes)) hs) q (all-single [] gs u tt j)
+    let q : reverse gs ≡ fs = ok-is e2 in
+    subst (λ (hs : List Function). Each (λ f. Single (f .nodes)) hs) q (all-single [] gs u (parse-formed s small version1 gs p .0) tt j)
 
 -- what holds of every function of a table holds of the one of an id, and of those before it
 pub chosen-each : (P : Function → Type 0) (c : ℕ) (fs : List Function) (x : Chosen) → chosen c fs ≡ some x → Each P fs → Each P (x .function ∷ x .early)
