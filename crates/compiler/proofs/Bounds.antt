@@ -222,7 +222,8 @@ module _ (early : List Function) (f : Function) where
         here : (x : Node) → x ≡ n → member (x .id) (n .id ∷ spottedIds ws) ≡ true
         here x e = rw (eq-eqb (n .id) (x .id) (ap (λ (y : Node). y .id) (sym e))) refl
 
-    abbrev whole : Spread
+    -- the schedule's nodes, all spread
+    abbrev pub whole : Spread
     whole = spread call (schedule (f .nodes)) [] 0
 
     -- behind all nodes of the schedule
