@@ -268,6 +268,17 @@ pub fn fixed(report: &mut Report, random: &mut Random) {
         code.output(code.words - 1);
         lists.push(code.to_bytes());
     }
+    // Argument and output words around their limits.
+    for arguments in [0, 1, 127, 128, 129, 255] {
+        for outputs in [0, 1, 127, 128, 129, 255] {
+            let mut code = Code::new(arguments);
+            code.push(kinds::CONSTANT, 0, &[], &[0]);
+            for _ in 0..outputs {
+                code.output(0);
+            }
+            lists.push(code.to_bytes());
+        }
+    }
     for code in lists {
         for _ in 0..4 {
             damaged(report, random, &code);
@@ -275,7 +286,7 @@ pub fn fixed(report: &mut Report, random: &mut Random) {
         let arguments = vec![0; argument_words(&code)];
         let room = Room {
             work: 9000,
-            out: 130,
+            out: 300,
         };
         compare(report, &code, &arguments, room, None);
     }
