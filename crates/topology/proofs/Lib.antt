@@ -1,0 +1,1 @@
+-- The laws of the order and of the paths by indices.
