@@ -1,1 +1,3 @@
 -- The laws of the order and of the paths by indices.
+pub mod Range
+pub mod Marks

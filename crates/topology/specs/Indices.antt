@@ -31,26 +31,30 @@ abbrev pub slot : List ℕ → ℕ → ℕ → ℕ
 slot ts i j = getD ts (16 * i + j) 0
 
 -- no node, or one that is done
-abbrev pub settled : ℕ → List ℕ → ℕ → Bool
-settled n done v = leb n v || member v done
+abbrev pub settled : ℕ → (ℕ → Bool) → ℕ → Bool
+settled n done v = leb n v || done v
 
 -- all that node i reads is done
-abbrev pub ready : List ℕ → ℕ → List ℕ → ℕ → Bool
+abbrev pub ready : List ℕ → ℕ → (ℕ → Bool) → ℕ → Bool
 ready ts n done i = allOf (λ j. settled n done (slot ts i j)) 0 16
 
 -- not done, and ready
-abbrev pub eligible : List ℕ → ℕ → List ℕ → ℕ → Bool
-eligible ts n done i = not (member i done) && ready ts n done i
+abbrev pub eligible : List ℕ → ℕ → (ℕ → Bool) → ℕ → Bool
+eligible ts n done i = not (done i) && ready ts n done i
 
 -- the first such node, or n
-abbrev pub next : List ℕ → ℕ → List ℕ → ℕ
+abbrev pub next : List ℕ → ℕ → (ℕ → Bool) → ℕ
 next ts n done = firstOf (eligible ts n done) 0 n
 
 -- at most k nodes more, where those of `done` are done
 unfoldable pub orderFrom : List ℕ → ℕ → ℕ → List ℕ → List ℕ
 orderFrom ts n zero done = []
-orderFrom ts n (suc k) done = let i = next ts n done in cond (ltb i n) (i ∷ orderFrom ts n k (i ∷ done)) []
+orderFrom ts n (suc k) done = let i = next ts n (λ v. member v done) in cond (ltb i n) (i ∷ orderFrom ts n k (i ∷ done)) []
 
 -- always the first node not yet done whose slots are all done; it ends where there is none
 unfoldable pub indexOrder : List ℕ → ℕ → List ℕ
 indexOrder ts n = orderFrom ts n n []
+
+-- the nodes that are marked
+abbrev pub marked : List Bool → ℕ → Bool
+marked ms v = getD ms v false
