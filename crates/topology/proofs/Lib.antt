@@ -3,3 +3,5 @@ pub mod Range
 pub mod Marks
 pub mod Nodes
 pub mod Scheduled
+pub mod Closure
+pub mod Reached
