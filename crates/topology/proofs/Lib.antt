@@ -5,3 +5,6 @@ pub mod Nodes
 pub mod Scheduled
 pub mod Closure
 pub mod Reached
+pub mod Edges
+pub mod Complete
+pub mod LoopFree
