@@ -291,6 +291,10 @@ module _ (ts : List ℕ) (n : ℕ) (few : n ≤ 256) (i : ℕ) where
           let b : q < w .tail = omega (arith, k .bound) in
           s .keeps v (k .closed q (omega arith) v (subst (λ (m : ℕ). readsIndex ts n m v ≡ true) (s .kept q b) r))
 
+  -- the walk came back to i
+  pub walking-back : (head : ℕ) (w : Walk) → Walking ts n i head w → marked (w .seen) i ≡ true → onLoop ts n i ≡ true
+  walking-back head w k e = on-loop-iff ts n i .1 (k .reached i e)
+
   -- where nothing is left of the queue, what was seen leads only to what was seen
   leads-seen : (head : ℕ) (w : Walk) → Walking ts n i head w → w .tail ≤ head → {x y : ℕ} → Path ts n x y
       → ((v : ℕ) → readsIndex ts n x v ≡ true → marked (w .seen) v ≡ true) → marked (w .seen) y ≡ true
@@ -303,6 +307,6 @@ module _ (ts : List ℕ) (n : ℕ) (few : n ≤ 256) (i : ℕ) where
   walking-done head w k h = pickOne (marked (w .seen) i) (onLoop ts n i) refl refl
     where
       pickOne : (a b : Bool) → marked (w .seen) i ≡ a → onLoop ts n i ≡ b → a ≡ b
-      pickOne true b qa qb = sym (on-loop-iff ts n i .1 (k .reached i qa)) ∙ qb
+      pickOne true b qa qb = sym (walking-back head w k qa) ∙ qb
       pickOne false true qa qb = sym qa ∙ leads-seen head w k h (on-loop-iff ts n i .0 qb) (k .first)
       pickOne false false qa qb = refl

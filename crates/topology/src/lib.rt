@@ -151,11 +151,11 @@ fn visit_all(
     requires { ⌜ (n ≤ 256) × (i < 256) × Room (walk (now seen) (now queue) tail) ⌝ }
     ensures { λ r. ⌜ walk (now (seen .exit)) (now (queue .exit)) r ≡ visitFrom (now (targets .entry)) n i 0 16 (walk (now (seen .entry)) (now (queue .entry)) tail) ⌝ }
 {
-    let mut j = 0;
+    let mut s = 0;
     let mut end = tail;
-    while j < 16 {
-        end = visit(n, targets[16 * i + j], seen, queue, end);
-        j += 1;
+    while s < 16 {
+        end = visit(n, targets[16 * i + s], seen, queue, end);
+        s += 1;
     }
     end
 }
@@ -171,6 +171,9 @@ fn on_loop(targets: &[u16; 4096], n: usize, i: usize) -> bool
     let mut head = 0;
     while head < tail {
         let v = wide(queue[head]);
+        if seen[i] {
+            return true;
+        }
         tail = visit_all(targets, n, v, &mut seen, &mut queue, tail);
         head += 1;
     }
