@@ -1,20 +1,20 @@
 -- Nodes by index and by id, and what the slots of a node hold.
-use Prim.Native.Nat.{ℕ, zero, suc, _+_, _≤_, _<_}
+use Prim.Native.Nat.{ℕ, zero, suc, _≤_, _<_}
 use mathlib.Core.Path.{_≡_, refl, ap, sym, _∙_, subst}
 use mathlib.Core.Bool.{Bool, true, false, cond}
 use mathlib.Core.List.{List, [], _∷_, map}
-use mathlib.Core.Option.{Option, none, some}
-use mathlib.Core.Logic.{_⊎_, inl, inr, ⊎-elim}
+use mathlib.Core.Option.{some}
+use mathlib.Core.Logic.{_⊎_, inl, inr}
 use native.Mathlib.Omega.{arith}
 use lib.Dec.{eqb}
 use lib.ListN.{length, getElem?}
 use borrow.Author.Tests.{eqb-true, eqb-false, eq-eqb, ne-eqb}
 use Rattle.graph.specs.Graph.{Ref, Node}
-use Rattle.graph.specs.Look.{findNode, member, reads}
+use Rattle.graph.specs.Look.{findNode, member}
 use Rattle.graph.specs.Sound.{Is}
 use Rattle.graph.proofs.Loops.{In}
 use Rattle.graph.proofs.Order.{ids}
-use Rattle.topology.specs.Resolve.{indexOf, target}
+use Rattle.topology.specs.Resolve.{indexOf}
 
 -- ---- what stands at an index
 
