@@ -4,3 +4,4 @@ pub mod Words
 pub mod Payloads
 pub mod Functions
 pub mod Standing
+pub mod Passed

@@ -11,6 +11,8 @@ ghost use Rattle.ports.specs.declared.Form as Forms;
 ghost use Rattle.value.specs.Values.{constantWord, every, valueOf};
 ghost use Rattle.graph.specs.Bytes.{u16, u64};
 ghost use Rattle.graph.specs.Read.{version1, constants, inputs, outputs, inRange, payload, node, nodes, function, functions, parse};
+ghost use Rattle.reader.specs.Layout.{kindAt, nodeEnd, nodesAt, nodePlace, earlier};
+ghost use Rattle.reader.specs.Find.{ReadsNode, ReadsNodes, Started, nodeFound, functionFound};
 ghost use Rattle.reader.specs.Records.{recordAt, rowAt, matrixAt, vectorAt, payloadRead, nodeRead, seen, next, behind};
 use ports::Form;
 use ports::Ports;
@@ -452,4 +454,97 @@ pub fn read_table(s: &[u8]) -> Seen
         }
         Next::Fault(number, place) => Seen::Fault(number, place),
     }
+}
+
+// ---- lookups, in a table whose reading passed
+
+fn size(x: u8) -> usize
+    ensures { λ r. ⌜ (r ≡ x) × (r < 256) ⌝ }
+{
+    x as usize
+}
+
+// Where the node at `at` ends, by its kind's row.
+fn end_by(s: &[u8], at: usize, row: Ports) -> usize
+    requires { ⌜ ReadsNode (now s) at × (row ≡ portsOf (kindAt (now s) at)) ⌝ }
+    ensures { λ r. ⌜ r ≡ nodeEnd (now (s .entry)) at ⌝ }
+{
+    let form = row.form;
+    match form {
+        Form::Absent => at + 4,
+        Form::Constant => at + 4 + 8 * size(row.words),
+        Form::References => at + 4 + 3 * size(row.operands),
+        Form::Call => at + 4 + 3 + 3 * size(s[at + 4 + 2]),
+    }
+}
+
+// Where the node at `at` ends.
+pub fn node_end(s: &[u8], at: usize) -> usize
+    requires { ⌜ ReadsNode (now s) at ⌝ }
+    ensures { λ r. ⌜ r ≡ nodeEnd (now (s .entry)) at ⌝ }
+{
+    end_by(s, at, ports::ports_of(s[at + 2]))
+}
+
+// Where a node is found: its index among those looked through, and its place.
+pub enum Found {
+    At(usize, usize),
+    Nothing,
+}
+
+// The port list's rows. Held in a local, they are not built anew at each use.
+fn port_rows() -> [Ports; 25]
+    ensures { λ r. ⌜ r ≡ PortList.rows ⌝ }
+{
+    ports::PORTS
+}
+
+// The first with the id among the `count` nodes from the place `first` on. It walks the table's bytes.
+pub fn find_node(s: &[u8], first: usize, count: usize, id: u16) -> Found
+    requires { ⌜ ReadsNodes count (now s) first ⌝ }
+    ensures { λ r. ⌜ r ≡ nodeFound 0 id (nodesAt count (now (s .entry)) first) ⌝ }
+{
+    let rows = port_rows();
+    let mut at = first;
+    let mut i = 0;
+    while i < count {
+        if u16_at(s, at) == id {
+            return Found::At(i, at);
+        }
+        let k = size(s[at + 2]);
+        let row = rows[k];
+        at = end_by(s, at, row);
+        i += 1;
+    }
+    Found::Nothing
+}
+
+// The place of the node of an index, the first standing at `first`.
+pub fn node_place(s: &[u8], first: usize, count: usize, index: usize) -> usize
+    requires { ⌜ ReadsNodes count (now s) first × (index ≤ count) ⌝ }
+    ensures { λ r. ⌜ r ≡ nodePlace (now (s .entry)) first index ⌝ }
+{
+    let mut at = first;
+    let mut i = 0;
+    while i < index {
+        at = node_end(s, at);
+        i += 1;
+    }
+    at
+}
+
+// The function of the id among the first k, whose places `starts` has.
+pub fn find_function(s: &[u8], starts: &[usize; 16], k: usize, id: u16) -> Found
+    requires { ⌜ Started (now s) (now starts) k × (k ≤ 16) ⌝ }
+    ensures { λ r. ⌜ r ≡ functionFound id (earlier (version1 .header) (now (s .entry)) k) ⌝ }
+{
+    let mut i = k;
+    while 0 < i {
+        i -= 1;
+        let at = starts[i];
+        if u16_at(s, at) == id {
+            return Found::At(i, at);
+        }
+    }
+    Found::Nothing
 }
