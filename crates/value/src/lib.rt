@@ -1,8 +1,4 @@
 // The values of a graph: their words, and the arithmetic of each kind.
-ghost use mathlib.Core.Path.{_≡_};
-ghost use lib.Ieee as Ieee;
-ghost use lib.Ieee.{binary64};
-
 pub struct Vec3 {
     pub x: f64,
     pub y: f64,
@@ -41,15 +37,4 @@ pub enum Operator {
     Remainder,
     Select,
     Clamp,
-}
-
-// The float of a word, whatever the word.
-pub fn float_of(w: u64) -> f64
-    ensures { λ r. ⌜ r ≡ Ieee.ofBits binary64 w ⌝ }
-{
-    if 0x7FF0_0000_0000_0000 < w % 0x8000_0000_0000_0000 {
-        0.0 / 0.0
-    } else {
-        f64::from_bits(w)
-    }
 }
