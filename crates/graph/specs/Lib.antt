@@ -7,6 +7,7 @@ pub mod Loops
 pub mod Judge
 pub mod Sums
 pub mod Schedule
-pub mod Meaning
 pub mod Table
+pub mod Meaning
 pub mod Sound
+pub mod Rules

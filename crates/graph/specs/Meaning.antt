@@ -6,9 +6,11 @@ use mathlib.Core.Option.{Option, none, some}
 use lib.Dec.{eqb}
 use lib.ListN.{length, getElem?}
 use Rattle.value.specs.declared.Value.{Value}
+use Rattle.value.specs.Values.{allWords, valuesOf}
 use Rattle.ports.specs.Kinds.{kindOf}
 use Rattle.value.specs.Results.{results}
 use Rattle.graph.specs.Graph.{Ref, Payload, consts, refs, calls, Node, Output, Function}
+use Rattle.graph.specs.Table.{Chosen, chosen}
 use Rattle.graph.specs.Look.{findNode, reads, outputRefs}
 
 module _ {A B : Type 0} where
@@ -56,3 +58,13 @@ functionMeans call f args = all (refMeans args (nodeMeans call (f .nodes) args (
 unfoldable pub meaningOf : List Function → Call
 meaningOf [] c vs = none
 meaningOf (f ∷ early) c vs = let r = meaningOf early c vs in cond (eqb (f .id) c) (functionMeans (meaningOf early) f vs) r
+
+-- ---- as words
+
+abbrev pub words : Option (List Value) → Option (List ℕ)
+words none = none
+words (some vs) = some (allWords vs)
+
+-- what a function of a table means on the words of its arguments: the meanings of its outputs, as words, in their order
+abbrev pub graphMeans : List Function → ℕ → List ℕ → Option (List ℕ)
+graphMeans fs c arguments = bind (chosen c fs) (λ x. words (meaningOf fs c (valuesOf (x .function .inputs) arguments)))

@@ -1,0 +1,1 @@
+// The compiler: from a table and a function to the board list.
