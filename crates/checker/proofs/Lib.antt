@@ -1,0 +1,5 @@
+pub mod Fresh
+pub mod Calls
+pub mod AtPorts
+pub mod Wiring
+pub mod Slotting

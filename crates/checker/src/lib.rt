@@ -196,7 +196,7 @@ pub enum Resolved {
     Nothing,
 }
 
-fn resolved(found: PortType, index: u16) -> Resolved
+fn with_index(found: PortType, index: u16) -> Resolved
     ensures { λ r. ⌜ r ≡ resolvedAs found index ⌝ }
 {
     match found {
@@ -213,11 +213,11 @@ fn resolve(s: &[u8], starts: &[usize; 16], k: usize, f: Head, at: usize) -> Reso
     let id = reader::u16_at(s, at);
     let port = s[at + 2];
     if id == 0 {
-        return resolved(input_port(s, f.place, port), 256);
+        return with_index(input_port(s, f.place, port), 256);
     }
     let found = reader::find_node(s, f.first, f.count, id);
     match found {
-        Found::At(i, p) => resolved(node_port(s, p, starts, k, port), i as u16),
+        Found::At(i, p) => with_index(node_port(s, p, starts, k, port), i as u16),
         Found::Nothing => Resolved::Nothing,
     }
 }
