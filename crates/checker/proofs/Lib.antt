@@ -3,3 +3,4 @@ pub mod Calls
 pub mod AtPorts
 pub mod Wiring
 pub mod Slotting
+pub mod Whole

@@ -153,11 +153,7 @@ module _ (s : List ℕ) (k f : ℕ) (ws : List ℕ) where
       ap (λ (vs : List ℕ). referencesChecked s k f vs (references (suc n) s at)) (drop-cons ws j 0 h)
       ∙ (goes _ _ tt e
       ∙ (ap (λ (i : ℕ). referencesChecked s k f (drop (suc j) ws) (references i s (at + 3))) (sym m)
-      ∙ ap (λ (i : ℕ). referencesChecked s k f (drop i ws) (references (n + 1 - 1) s (at + 3))) (sym (add-one j))
-      ∙ ap (λ (i : ℕ). referencesChecked s k f (drop (j + 1) ws) (references i s (at + 3))) (twice n)))
-    where
-      twice : (n : ℕ) → n + 1 - 1 ≡ suc n - 1
-      twice n = omega arith
+      ∙ ap (λ (i : ℕ). referencesChecked s k f (drop i ws) (references (suc n - 1) s (at + 3))) (sym (add-one j))))
 
   pub references-none : (n at j : ℕ) → length ws ≤ j → referencesChecked s k f (drop j ws) (references n s at) ≡ ok tt
   references-none n at j h = ap (λ (vs : List ℕ). referencesChecked s k f vs (references n s at)) (past ws j h)
@@ -190,7 +186,7 @@ module _ (s : List ℕ) (k f at : ℕ) where
   reads-form h e = ap (λ (x : Form). readsOf (payloadAt x (kindAt s at) s (at + 4))) e
 
   pub absent-node : formOf (kindAt s at) ≡ Absent → (nodeChecked s k f (nodeAt s at) ≡ ok tt) × (reads (nodeAt s at) ≡ [])
-  absent-node e = (by-form Absent e ∙ no-references s k f _, reads-form Absent e)
+  absent-node e = (by-form Absent e ∙ no-references s k f (wantsOf (earlier (version1 .header) s k) (nodeAt s at) (payloadAt Absent (kindAt s at) s (at + 4))), reads-form Absent e)
 
   pub constant-node : formOf (kindAt s at) ≡ Constant → (nodeChecked s k f (nodeAt s at) ≡ ok tt) × (reads (nodeAt s at) ≡ [])
   constant-node e = (by-form Constant e, reads-form Constant e)

@@ -270,7 +270,7 @@ fn outputs_good(s: &[u8], starts: &[usize; 16], k: usize, f: Head, begin: usize,
 
 // The slots of node i hold nothing.
 fn clear_row(targets: &mut [u16; 4096], i: usize)
-    requires { ⌜ i < 256 ⌝ }
+    requires { ⌜ (i < 256) × (length (now targets) ≡ 4096) ⌝ }
     ensures { λ _. ⌜ Cleared i (now (targets .entry)) (now (targets .exit)) ⌝ }
 {
     let mut j = 0;
@@ -282,7 +282,7 @@ fn clear_row(targets: &mut [u16; 4096], i: usize)
 
 // The n references at `begin`, which go to the slots of node i.
 fn references_good(s: &[u8], starts: &[usize; 16], k: usize, f: Head, want: Want, begin: usize, n: usize, i: usize, targets: &mut [u16; 4096]) -> Seen
-    requires { ⌜ Scene (now s) (now starts) k f × WantFits (now s) n want × (begin + 3 * n ≤ length (now s)) × (n ≤ 16) × (i < 256) ⌝ }
+    requires { ⌜ Scene (now s) (now starts) k f × WantFits (now s) n want × (begin + 3 * n ≤ length (now s)) × (n ≤ 16) × (i < 256) × (length (now targets) ≡ 4096) ⌝ }
     ensures { λ r. ⌜ r ≡ seen (referencesChecked (now (s .entry)) k (f .place) (wantsList (now (s .entry)) n want) (references n (now (s .entry)) begin)) ⌝ }
     ensures { λ r. ⌜ (r ≡ Seen.Good → Filled (now (s .entry)) (f .place) begin n i (now (targets .entry)) (now (targets .exit))) ⌝ }
 {
@@ -305,7 +305,7 @@ fn references_good(s: &[u8], starts: &[usize; 16], k: usize, f: Head, want: Want
 
 // The references of the node at `at`, whose index is i.
 fn node_good(s: &[u8], starts: &[usize; 16], k: usize, f: Head, at: usize, i: usize, targets: &mut [u16; 4096]) -> Seen
-    requires { ⌜ Scene (now s) (now starts) k f × ReadsNode (now s) at × (i < 256) × (callOk (earlier (version1 .header) (now s) k) at (nodeAt (now s) at .payload) ≡ ok tt) ⌝ }
+    requires { ⌜ Scene (now s) (now starts) k f × ReadsNode (now s) at × (i < 256) × (callOk (earlier (version1 .header) (now s) k) at (nodeAt (now s) at .payload) ≡ ok tt) × (length (now targets) ≡ 4096) ⌝ }
     ensures { λ r. ⌜ r ≡ seen (nodeChecked (now (s .entry)) k (f .place) (nodeAt (now (s .entry)) at)) ⌝ }
     ensures { λ r. ⌜ (r ≡ Seen.Good → RowIs (functionAt (now (s .entry)) (f .place) .nodes) (nodeAt (now (s .entry)) at) i (now (targets .entry)) (now (targets .exit))) ⌝ }
 {
@@ -332,7 +332,7 @@ fn node_good(s: &[u8], starts: &[usize; 16], k: usize, f: Head, at: usize, i: us
 
 // The references of each node.
 fn nodes_good(s: &[u8], starts: &[usize; 16], k: usize, f: Head, targets: &mut [u16; 4096]) -> Seen
-    requires { ⌜ Scene (now s) (now starts) k f × (callsChecked (now s) k (functionAt (now s) (f .place)) ≡ ok tt) ⌝ }
+    requires { ⌜ Scene (now s) (now starts) k f × (callsChecked (now s) k (functionAt (now s) (f .place)) ≡ ok tt) × (length (now targets) ≡ 4096) ⌝ }
     ensures { λ r. ⌜ r ≡ seen (each (nodeChecked (now (s .entry)) k (f .place)) (functionAt (now (s .entry)) (f .place) .nodes)) ⌝ }
     ensures { λ r. ⌜ (r ≡ Seen.Good → RowsAre (now (s .entry)) (f .place) (f .count) (now (targets .exit))) ⌝ }
 {
@@ -377,8 +377,9 @@ fn loop_free(s: &[u8], f: Head, targets: &[u16; 4096]) -> Seen
 
 // The function at `at`, the k-th from 0; `targets` is room to work in.
 fn judge_function(s: &[u8], starts: &[usize; 16], k: usize, at: usize, targets: &mut [u16; 4096]) -> Seen
-    requires { ⌜ Started (now s) (now starts) k × (k ≤ 16) × ReadsFunction (now s) at ⌝ }
+    requires { ⌜ Started (now s) (now starts) k × (k ≤ 16) × ReadsFunction (now s) at × (length (now targets) ≡ 4096) ⌝ }
     ensures { λ r. ⌜ r ≡ seen (judge (earlier (version1 .header) (now (s .entry)) k) (functionAt (now (s .entry)) at)) ⌝ }
+    ensures { λ r. ⌜ (r ≡ Seen.Good → length (now (targets .exit)) ≡ 4096) ⌝ }
 {
     let same = reader::find_function(s, starts, k, reader::u16_at(s, at));
     match same {

@@ -1,121 +1,98 @@
 use borrow.Author.Needs.{needs}
+use Prim.Native.Nat.{ℕ, _+_, _≤_, _<_}
+use mathlib.Core.Path.{_≡_, ap, sym, _∙_, subst}
+use mathlib.Core.Option.{Option, some}
+use mathlib.Core.Bool.{Bool}
+use native.Mathlib.Omega.{arith}
+use lib.ListN.{length}
+use Rattle.ports.specs.declared.Form.{Form}
+use Rattle.ports.specs.Ports.{formOf}
+use Rattle.graph.specs.Bytes.{byte, u16}
+use Rattle.graph.specs.Look.{findFunction}
+use Rattle.graph.specs.Read.{version1}
+use Rattle.reader.specs.Layout.{kindAt, functionAt, functionPlace, earlier}
+use Rattle.reader.specs.Find.{ReadsFunction, functionFound}
+use Rattle.reader.proofs.Passed.{head-fits, callee-fits, function-fits, found-function, no-function, form-is}
+use Rattle.checker.proofs.Calls.{call-absent, call-constant, call-references, call-none, call-some}
 use Rattle.checker.proofs.call_good.Statement.{statement}
 use Rattle.checker.proofs.call_good.Tie as tie
-use Rattle.checker.proofs.call_good.Reads as reads
-use Rattle.checker.proofs.call_good.Lts as lts
-use Rattle.ports.proofs.ports_of.Reads as ports-of-reads
-use Rattle.reader.proofs.find_function.Reads as find-function-reads
-use Rattle.reader.proofs.u16_at.Reads as u16-at-reads
 
--- src/lib.rt:80:33
-add-ports-of : tie.Need-add-ports-of
-add-ports-of c = ?
+head : (b : tie.Start) → b .args .at + 4 ≤ length (b .args .s .now)
+head b = head-fits (b .args .s .now) (b .args .at) (b .pre .0)
 
--- src/lib.rt:80:31
-shared-slice-read-ports-of : tie.Need-shared-slice-read-ports-of
-shared-slice-read-ports-of c = ?
+-- the kind's form is the row's
+form : (d : tie.After-ports-of) (h : Form) → d .ports-of .result .form ≡ h → let a = d .before .before .before .args in formOf (kindAt (a .s .now) (a .at)) ≡ h
+form d h e = let a = d .before .before .before .args in form-is (a .s .now) (a .at) (d .ports-of .result) (d .ports-of .ensures) h e
 
--- src/lib.rt:80:9
-ports-of-requires : tie.Need-ports-of-requires
-ports-of-requires c κs = search needs
-
--- src/lib.rt:83:25
-enum-told : tie.Need-enum-told
-enum-told c = search needs
-
--- src/lib.rt:84:27
-enum-told-2 : tie.Need-enum-told-2
-enum-told-2 c = search needs
-
--- src/lib.rt:85:29
-enum-told-3 : tie.Need-enum-told-3
-enum-told-3 c = search needs
-
--- src/lib.rt:87:79
-enum-told-4 : tie.Need-enum-told-4
-enum-told-4 c = search needs
-
--- src/lib.rt:87:79
-add-u16-at : tie.Need-add-u16-at
-add-u16-at c = ?
-
--- src/lib.rt:87:61
-u16-at-requires : tie.Need-u16-at-requires
-u16-at-requires c κs = ?
-
--- src/lib.rt:87:17
-find-function-requires : tie.Need-find-function-requires
-find-function-requires c κs = search needs
-
--- src/lib.rt:89:30
-enum-known-found : tie.Need-enum-known-found
-enum-known-found c = search needs
-
--- src/lib.rt:89:38
-add-result : tie.Need-add-result
-add-result c = ?
-
--- src/lib.rt:89:38
-add-result-2 : tie.Need-add-result-2
-add-result-2 c = ?
-
--- src/lib.rt:89:36
-shared-slice-read-result : tie.Need-shared-slice-read-result
-shared-slice-read-result c = ?
-
--- src/lib.rt:89:55
-add-result-3 : tie.Need-add-result-3
-add-result-3 c = ?
-
--- src/lib.rt:89:53
-shared-slice-read-result-2 : tie.Need-shared-slice-read-result-2
-shared-slice-read-result-2 c = ?
-
--- src/lib.rt:90:35
-enum-told-5 : tie.Need-enum-told-5
-enum-told-5 c = search needs
-
--- src/lib.rt:76:1
 returns : tie.Need-returns
-returns c = ?
+returns c = let d = c .before .before in let a = d .before .before .before .args in call-absent (a .s .now) (a .at) _ (form d _ (c .enum-told .given .1))
 
--- src/lib.rt:76:1
 returns-2 : tie.Need-returns-2
-returns-2 c = ?
+returns-2 c = let d = c .before .before in let a = d .before .before .before .args in call-constant (a .s .now) (a .at) _ (form d _ (c .enum-told2 .given .1))
 
--- src/lib.rt:76:1
 returns-3 : tie.Need-returns-3
-returns-3 c = ?
+returns-3 c = let d = c .before .before in let a = d .before .before .before .args in call-references (a .s .now) (a .at) _ (form d _ (c .enum-told3 .given .1))
 
--- src/lib.rt:76:1
+calls : (c : tie.After-enum-told4) → let a = c .before .before .before .before .before .args in formOf (kindAt (a .s .now) (a .at)) ≡ Form.Call
+calls c = form (c .before .before) _ (c .enum-told4 .given .1)
+
+fits : (c : tie.After-enum-told4) → let a = c .before .before .before .before .before .args in a .at + 4 + 3 ≤ length (a .s .now)
+fits c = let b = c .before .before .before .before .before in callee-fits (b .args .s .now) (b .args .at) (b .pre .0) (calls c) .0
+
+-- the function that was found
+callee : (d : tie.After-known-told) → let a = d .before .before .before .before .before .before .before .before .before .before .args in
+    let g = d .before .found .given .0 in
+    (g .0 < a .k) × (g .1 .0 ≡ functionPlace (version1 .header) (a .s .now) (g .0))
+    × (findFunction (u16 (a .s .now) (a .at + 4)) (earlier (version1 .header) (a .s .now) (a .k)) ≡ some (functionAt (a .s .now) (g .1 .0)))
+callee d =
+    let f = d .before .before .before in
+    let a = f .before .before .before .before .before .before .before .args in
+    found-function (version1 .header) (a .s .now) (u16 (a .s .now) (a .at + 4)) (a .k) _ _
+    (ap (λ (i : ℕ). functionFound i (earlier (version1 .header) (a .s .now) (a .k))) (sym (f .before .u16-at .ensures)) ∙ (sym (f .find-function .ensures) ∙ d .before .found .given .1))
+
+callee-head : (d : tie.After-known-told) → let a = d .before .before .before .before .before .before .before .before .before .before .args in
+    d .before .found .given .0 .1 .0 + 6 ≤ length (a .s .now)
+callee-head d =
+    let b = d .before .before .before .before .before .before .before .before .before .before in
+    function-fits (b .args .s .now) _ (subst (ReadsFunction (b .args .s .now)) (sym (callee d .1)) (b .pre .1 .reads _ (callee d .0)))
+
 returns-4 : tie.Need-returns-4
-returns-4 c = ?
+returns-4 c =
+    let d = c .before .before in
+    let e = d .before .before .before .before .before in
+    let a = e .before .before .before .before .before .args in
+    call-some (a .s .now) (a .at) _ (calls e) _ (callee d .2)
 
--- src/lib.rt:76:1
 returns-5 : tie.Need-returns-5
-returns-5 c = ?
+returns-5 c =
+    let f = c .before .before in
+    let e = f .before .before in
+    let a = e .before .before .before .before .before .args in
+    call-none (a .s .now) (a .at) _ (calls e)
+    (no-function (version1 .header) (a .s .now) (u16 (a .s .now) (a .at + 4)) (a .k)
+    (ap (λ (i : ℕ). functionFound i (earlier (version1 .header) (a .s .now) (a .k))) (sym (f .before .u16-at .ensures)) ∙ (sym (f .find-function .ensures) ∙ c .enum-told5 .given .1)))
 
 pub call-good-spec : {M : Type 1} → statement M
 call-good-spec =
     tie.close
     (tie.spec
-    add-ports-of
-    shared-slice-read-ports-of
-    ports-of-requires
-    enum-told
-    enum-told-2
-    enum-told-3
-    enum-told-4
-    add-u16-at
-    u16-at-requires
-    find-function-requires
-    enum-known-found
-    add-result
-    add-result-2
-    shared-slice-read-result
-    add-result-3
-    shared-slice-read-result-2
-    enum-told-5
+    (λ c. omega (arith, head (c .before)))
+    (λ c. omega (arith, head (c .before .before)))
+    (λ c κs. search needs)
+    (λ c. search needs)
+    (λ c. search needs)
+    (λ c. search needs)
+    (λ c. search needs)
+    (λ c. omega (arith, fits c))
+    (λ c κs. omega (arith, fits c))
+    (λ c κs. (c .before .before .before .before .before .before .pre .1, c .before .before .before .before .before .before .pre .2))
+    (λ c. search needs)
+    (λ c. omega (arith, fits (c .before .before .before .before .before)))
+    (λ c. omega (arith, fits (c .before .before .before .before .before)))
+    (λ c. omega (arith, fits (c .before .before .before .before .before .before)))
+    (λ c. omega (arith, callee-head (c .before)))
+    (λ c. omega (arith, callee-head (c .before .before)))
+    (λ c. search needs)
     returns
     returns-2
     returns-3

@@ -1,49 +1,25 @@
+use borrow.Author.Needs.{needs}
+use Prim.Native.Nat.{_-_, _≤_, _<_}
+use mathlib.Core.Path.{_≡_}
+use native.Mathlib.Omega.{arith}
+use lib.ListN.{length}
+use Rattle.checker.proofs.Slotting.{Clearing, clear-start, clear-step, clear-done}
 use Rattle.checker.proofs.clear_row.Statement.{statement}
 use Rattle.checker.proofs.clear_row.Tie as tie
-use Rattle.checker.proofs.clear_row.Reads as reads
-use Rattle.checker.proofs.clear_row.Lts as lts
 
 abbrev Inv-loop : tie.InvT-loop
-Inv-loop targets₀ i j₀ targets j = ?
+Inv-loop targets₀ i j₀ targets j = (j ≤ 16) × Clearing i j targets₀ targets
 
 abbrev μ-loop : tie.MeasureT-loop
-μ-loop targets₀ i j₀ targets j = ?
+μ-loop targets₀ i j₀ targets j = 16 - j
 
--- src/lib.rt:277:5
-loop-holds : tie.Need-loop-holds Inv-loop μ-loop
-loop-holds c = ?
-
--- src/lib.rt:278:17
-mul-targets : tie.Need-mul-targets Inv-loop μ-loop
-mul-targets c = ?
-
--- src/lib.rt:278:17
-add-targets : tie.Need-add-targets Inv-loop μ-loop
-add-targets c = ?
-
--- src/lib.rt:278:9
-mul-targets-2 : tie.Need-mul-targets-2 Inv-loop μ-loop
-mul-targets-2 c = ?
-
--- src/lib.rt:278:9
-element-write-targets : tie.Need-element-write-targets Inv-loop μ-loop
-element-write-targets c = ?
-
--- src/lib.rt:279:9
-add-j : tie.Need-add-j Inv-loop μ-loop
-add-j c = ?
-
--- src/lib.rt:277:5
-loop-less : tie.Need-loop-less Inv-loop μ-loop
-loop-less c = ?
-
--- src/lib.rt:277:5
 loop-again : tie.Need-loop-again Inv-loop μ-loop
-loop-again c = ?
-
--- src/lib.rt:272:1
-returns : tie.Need-returns Inv-loop μ-loop
-returns c = ?
+loop-again c =
+    let l = c .before .loop in
+    let a = c .before .before .args in
+    let z = c .before .before .pre .1 in
+    let y = l .inv .1 .size in
+    (omega arith, clear-step (a .i) (l .j) _ _ (l .inv .1) (omega arith))
 
 pub clear-row-spec : {M : Type 1} → statement M
 clear-row-spec =
@@ -51,12 +27,12 @@ clear-row-spec =
     (tie.spec
     Inv-loop
     μ-loop
-    loop-holds
-    mul-targets
-    add-targets
-    mul-targets-2
-    element-write-targets
-    add-j
-    loop-less
+    (λ c. (omega arith, clear-start (c .args .i) _))
+    (λ c. omega arith)
+    (λ c. omega arith)
+    (λ c. omega arith)
+    (λ c. omega arith)
+    (λ c. omega arith)
+    (λ c. omega arith)
     loop-again
-    returns)
+    (λ c. let l = c .before .loop in clear-done (c .before .before .args .i) (l .j) _ _ (l .inv .1) (omega arith)))

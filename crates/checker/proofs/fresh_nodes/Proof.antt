@@ -1,60 +1,77 @@
+use borrow.Author.Needs.{needs}
+use Prim.Native.Nat.{ℕ, _+_, _-_, _≤_, _<_}
+use mathlib.Core.Path.{_≡_, refl, ap, sym, _∙_, subst}
+use mathlib.Core.List.{List, []}
+use native.Mathlib.Omega.{arith}
+use lib.ListN.{length, set, length-set, replicate}
+use Rattle.graph.specs.Judge.{fresh}
+use Rattle.checker.specs.Answers.{hit}
+use Rattle.reader.specs.Layout.{nodesAt, nodeEnd}
+use Rattle.reader.specs.Find.{ReadsNode}
+use Rattle.reader.specs.Records.{seen}
+use Rattle.reader.proofs.Passed.{head-fits, first-reads}
+use Rattle.checker.proofs.Fresh.{Passing, fresh-start, fresh-fault, fresh-on, fresh-done}
 use Rattle.checker.proofs.fresh_nodes.Statement.{statement}
 use Rattle.checker.proofs.fresh_nodes.Tie as tie
-use Rattle.checker.proofs.fresh_nodes.Reads as reads
-use Rattle.checker.proofs.fresh_nodes.Lts as lts
-use Rattle.checker.proofs.id_before.Reads as id-before-reads
-use Rattle.reader.proofs.node_end.Reads as node-end-reads
-use Rattle.reader.proofs.u16_at.Reads as u16-at-reads
 
 abbrev Inv-loop : tie.InvT-loop
-Inv-loop s first count ids₀ at₀ j₀ ids at j = ?
+Inv-loop s first count ids₀ at₀ j₀ ids at j = (j ≤ count) × (length ids ≡ 256) × Passing s ids (fresh [] (nodesAt count s first)) j (count - j) at
 
 abbrev μ-loop : tie.MeasureT-loop
-μ-loop s first count ids₀ at₀ j₀ ids at j = ?
+μ-loop s first count ids₀ at₀ j₀ ids at j = count - j
 
--- src/lib.rt:61:5
+left : (d : tie.In-loop Inv-loop μ-loop) → 0 < d .before .before .before .args .count - d .before .loop .j
+left d = omega arith
+
+here : (d : tie.In-loop Inv-loop μ-loop) → ReadsNode (d .before .before .before .args .s .now) (d .before .loop .at)
+here d = let l = d .before .loop in let a = d .before .before .before .args in first-reads (a .s .now) (a .count - l .j) (l .at) (left d) (l .inv .2 .reads)
+
 loop-holds : tie.Need-loop-holds Inv-loop μ-loop
-loop-holds c = ?
+loop-holds c =
+    let a = c .before .args in
+    let z : a .count - 0 ≡ a .count = omega arith in (
+      omega arith,
+      refl,
+      subst (λ (n : ℕ). Passing (a .s .now) (replicate 256 0) (fresh [] (nodesAt (a .count) (a .s .now) (a .first))) 0 n (a .first)) (sym z)
+      (fresh-start (a .s .now) (replicate 256 0) (a .count) (a .first) (c .before .pre .0)),
+    )
 
--- src/lib.rt:62:13
-u16-at-requires : tie.Need-u16-at-requires Inv-loop μ-loop
-u16-at-requires c κs = ?
-
--- src/lib.rt:63:12
-id-before-requires : tie.Need-id-before-requires Inv-loop μ-loop
-id-before-requires c κs = ?
-
--- src/lib.rt:64:13
 returns : tie.Need-returns Inv-loop μ-loop
-returns c = ?
+returns c =
+    let u = c .before .before .before in
+    let d = u .before in
+    let l = d .before .loop in
+    let a = d .before .before .before .args in
+    ap seen
+    (sym
+    (fresh-fault (a .s .now) (l .ids) _ (l .j) (a .count - l .j) (l .at) (l .inv .2) (left d)
+    (ap (hit (l .ids) (l .j)) (sym (u .u16-at .ensures)) ∙ (sym (c .before .id-before .ensures) ∙ c .if1 .taken))))
 
--- src/lib.rt:66:9
-mul-ids : tie.Need-mul-ids Inv-loop μ-loop
-mul-ids c = ?
-
--- src/lib.rt:66:9
-array-write-ids : tie.Need-array-write-ids Inv-loop μ-loop
-array-write-ids c = ?
-
--- src/lib.rt:67:9
-node-end-requires : tie.Need-node-end-requires Inv-loop μ-loop
-node-end-requires c κs = ?
-
--- src/lib.rt:68:9
-add-j : tie.Need-add-j Inv-loop μ-loop
-add-j c = ?
-
--- src/lib.rt:61:5
-loop-less : tie.Need-loop-less Inv-loop μ-loop
-loop-less c = ?
-
--- src/lib.rt:61:5
 loop-again : tie.Need-loop-again Inv-loop μ-loop
-loop-again c = ?
+loop-again c =
+    let e = c .before in
+    let u = e .before .before .before in
+    let d = u .before in
+    let l = d .before .loop in
+    let a = d .before .before .before .args in
+    let s = a .s .now in
+    let m : a .count - l .j - 1 ≡ a .count - (l .j + 1) = omega arith in
+    let z = l .inv .1 in
+    let b : l .j < length (l .ids) = omega arith in
+    let q = fresh-on s (l .ids) _ (l .j) (a .count - l .j) (l .at) (l .inv .2) (left d)
+    (ap (hit (l .ids) (l .j)) (sym (u .u16-at .ensures)) ∙ (sym (e .before .id-before .ensures) ∙ e .if1 .left)) b in (
+      omega arith,
+      length-set (l .ids) (l .j) _ ∙ l .inv .1,
+      subst (λ (p : ℕ). Passing s (set (l .ids) (l .j) (u .u16-at .result)) (fresh [] (nodesAt (a .count) s (a .first))) (l .j + 1) (a .count - (l .j + 1)) p) (sym (c .node-end .ensures))
+      (subst (λ (n : ℕ). Passing s (set (l .ids) (l .j) (u .u16-at .result)) (fresh [] (nodesAt (a .count) s (a .first))) (l .j + 1) n (nodeEnd s (l .at))) m
+      (subst (λ (v : ℕ). Passing s (set (l .ids) (l .j) v) (fresh [] (nodesAt (a .count) s (a .first))) (l .j + 1) (a .count - l .j - 1) (nodeEnd s (l .at))) (sym (u .u16-at .ensures)) q)),
+    )
 
--- src/lib.rt:54:1
 returns-2 : tie.Need-returns-2 Inv-loop μ-loop
-returns-2 c = ?
+returns-2 c =
+    let l = c .before .loop in
+    let a = c .before .before .before .args in
+    ap seen (sym (fresh-done (a .s .now) (l .ids) _ (l .j) (a .count - l .j) (l .at) (l .inv .2) (omega arith)))
 
 pub fresh-nodes-spec : {M : Type 1} → statement M
 fresh-nodes-spec =
@@ -63,13 +80,13 @@ fresh-nodes-spec =
     Inv-loop
     μ-loop
     loop-holds
-    u16-at-requires
-    id-before-requires
+    (λ c κs. omega (arith, head-fits (c .before .before .before .args .s .now) (c .before .loop .at) (here c)))
+    (λ c κs. omega arith)
     returns
-    mul-ids
-    array-write-ids
-    node-end-requires
-    add-j
-    loop-less
+    (λ c. omega arith)
+    (λ c. omega arith)
+    (λ c κs. here (c .before .before .before .before))
+    (λ c. omega arith)
+    (λ c. omega arith)
     loop-again
     returns-2)

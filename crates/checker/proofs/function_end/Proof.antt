@@ -1,89 +1,62 @@
 use borrow.Author.Needs.{needs}
+use Prim.Native.Nat.{ℕ, _+_, _*_, _≤_}
+use mathlib.Core.Path.{_≡_, ap, sym, _∙_, subst}
+use native.Mathlib.Omega.{arith}
+use lib.ListN.{length}
+use Rattle.graph.specs.Bytes.{byte}
+use Rattle.reader.specs.Layout.{nodePlace, nodesPlace, nodeCount, functionEnd}
+use Rattle.reader.specs.Find.{ReadsNodes}
+use Rattle.reader.proofs.Passed.{Holds, function-holds}
 use Rattle.checker.proofs.function_end.Statement.{statement}
 use Rattle.checker.proofs.function_end.Tie as tie
-use Rattle.checker.proofs.function_end.Reads as reads
-use Rattle.checker.proofs.function_end.Lts as lts
-use Rattle.checker.proofs.size.Reads as size-reads
-use Rattle.checker.proofs.wide.Reads as wide-reads
-use Rattle.reader.proofs.node_place.Reads as node-place-reads
-use Rattle.reader.proofs.u16_at.Reads as u16-at-reads
 
--- src/lib.rt:425:17
-add-first : tie.Need-add-first
-add-first c = ?
+holds : (b : tie.Start) → Holds (b .args .s .now) (b .args .at)
+holds b = function-holds (b .args .s .now) (b .args .at) (b .pre)
 
--- src/lib.rt:425:33
-add-size : tie.Need-add-size
-add-size c = ?
+-- where the nodes begin
+first : (d : tie.After-size2) → let a = d .before .before .before .before .before .args in
+    a .at + 6 + d .before .before .size .result + 4 * d .size2 .result ≡ nodesPlace (a .s .now) (a .at)
+first d =
+    let a = d .before .before .before .before .before .args in
+    ap (λ (n : ℕ). a .at + 6 + n + 4 * d .size2 .result) (d .before .before .size .ensures .0)
+    ∙ ap (λ (n : ℕ). a .at + 6 + byte (a .s .now) (a .at + 2) + 4 * n) (d .size2 .ensures .0)
 
--- src/lib.rt:425:31
-shared-slice-read-size : tie.Need-shared-slice-read-size
-shared-slice-read-size c = ?
+count : (c : tie.After-wide) → let a = c .before .before .before .before .before .before .before .args in c .wide .result ≡ nodeCount (a .s .now) (a .at)
+count c = c .wide .ensures ∙ c .before .u16-at .ensures
 
--- src/lib.rt:425:26
-size-requires : tie.Need-size-requires
-size-requires c κs = search needs
+nodes : tie.Need-node-place-requires
+nodes c κs =
+    let d = c .before .before in
+    let b = d .before .before .before .before .before in
+    let s = b .args .s .now in
+    (subst (λ (n : ℕ). ReadsNodes n s _) (sym (count c)) (subst (ReadsNodes (nodeCount s (b .args .at)) s) (sym (first d)) (holds b .nodes)), omega arith)
 
--- src/lib.rt:425:17
-add-first-2 : tie.Need-add-first-2
-add-first-2 c = ?
-
--- src/lib.rt:425:55
-add-size-2 : tie.Need-add-size-2
-add-size-2 c = ?
-
--- src/lib.rt:425:53
-shared-slice-read-size-2 : tie.Need-shared-slice-read-size-2
-shared-slice-read-size-2 c = ?
-
--- src/lib.rt:425:48
-size-requires-2 : tie.Need-size-requires-2
-size-requires-2 c κs = search needs
-
--- src/lib.rt:425:44
-mul-first : tie.Need-mul-first
-mul-first c = search needs
-
--- src/lib.rt:425:17
-add-first-3 : tie.Need-add-first-3
-add-first-3 c = ?
-
--- src/lib.rt:426:40
-add-u16-at : tie.Need-add-u16-at
-add-u16-at c = ?
-
--- src/lib.rt:426:22
-u16-at-requires : tie.Need-u16-at-requires
-u16-at-requires c κs = ?
-
--- src/lib.rt:426:9
-wide-requires : tie.Need-wide-requires
-wide-requires c κs = search needs
-
--- src/lib.rt:427:5
-node-place-requires : tie.Need-node-place-requires
-node-place-requires c κs = ?
-
--- src/lib.rt:421:1
 returns : tie.Need-returns
-returns c = ?
+unfolding functionEnd
+returns c =
+    let w = c .before in
+    let d = w .before .before in
+    let a = d .before .before .before .before .before .args in
+    c .node-place .ensures
+    ∙ ap (λ (x : ℕ). nodePlace (a .s .now) x (w .wide .result)) (first d)
+    ∙ ap (nodePlace (a .s .now) (nodesPlace (a .s .now) (a .at))) (count w)
 
 pub function-end-spec : {M : Type 1} → statement M
 function-end-spec =
     tie.close
     (tie.spec
-    add-first
-    add-size
-    shared-slice-read-size
-    size-requires
-    add-first-2
-    add-size-2
-    shared-slice-read-size-2
-    size-requires-2
-    mul-first
-    add-first-3
-    add-u16-at
-    u16-at-requires
-    wide-requires
-    node-place-requires
+    (λ c. omega (arith, holds (c .before) .head))
+    (λ c. omega (arith, holds (c .before) .head))
+    (λ c. omega (arith, holds (c .before .before) .head))
+    (λ c κs. search needs)
+    (λ c. omega (arith, holds (c .before .before .before) .inputs, c .size .ensures .0))
+    (λ c. omega (arith, holds (c .before .before .before) .head))
+    (λ c. omega (arith, holds (c .before .before .before .before) .head))
+    (λ c κs. search needs)
+    (λ c. search needs)
+    (λ c. omega (arith, holds (c .before .before .before .before .before) .outputs, first c))
+    (λ c. omega (arith, holds (c .before .before .before .before .before) .head))
+    (λ c κs. omega (arith, holds (c .before .before .before .before .before) .head))
+    (λ c κs. search needs)
+    nodes
     returns)

@@ -16,7 +16,14 @@ abbrev μ-loop : tie.MeasureT-loop
 μ-loop ids j id met₀ i₀ met i = j - i
 
 loop-again : tie.Need-loop-again Inv-loop μ-loop
-loop-again c = (omega arith, ?)
+loop-again c =
+    let d = c .before in
+    let l = d .before .before .loop in
+    let a = d .before .before .before .args in (
+      omega arith,
+      ⊎-elim (λ w. w .1 ∙ hit-one (a .ids .now) (l .i) (a .id) (w .0 .taken)) (λ w. w .1 ∙ l .inv .1 ∙ sym (hit-on (a .ids .now) (l .i) (a .id) (w .0 .left)))
+      (c .if1 .came),
+    )
 
 returns : tie.Need-returns Inv-loop μ-loop
 returns c =

@@ -1,74 +1,67 @@
+use borrow.Author.Needs.{needs}
+use Prim.Native.Nat.{ℕ, _+_, _-_, _*_, _≤_, _<_}
+use mathlib.Core.Path.{_≡_, refl, ap, sym, _∙_, subst}
+use native.Mathlib.Omega.{arith}
+use lib.ListN.{length}
+use Rattle.graph.specs.Bytes.{byte}
+use Rattle.reader.specs.Layout.{outputsAt}
+use Rattle.reader.specs.Records.{seen}
+use Rattle.checker.specs.Answers.{outputsChecked}
+use Rattle.checker.proofs.Wiring.{lost, mistyped, welltyped, outputs-fault, outputs-on}
 use Rattle.checker.proofs.outputs_good.Statement.{statement}
 use Rattle.checker.proofs.outputs_good.Tie as tie
-use Rattle.checker.proofs.outputs_good.Reads as reads
-use Rattle.checker.proofs.outputs_good.Lts as lts
-use Rattle.checker.proofs.resolve.Reads as resolve-reads
 
+-- what is left says what the whole says
 abbrev Inv-loop : tie.InvT-loop
-Inv-loop s starts k f begin n at₀ left₀ at left = ?
+Inv-loop s starts k f begin n at₀ left₀ at left =
+    (at + 4 * left ≤ length s) × (outputsChecked s k (f .place) (outputsAt n s begin) ≡ outputsChecked s k (f .place) (outputsAt left s at))
 
 abbrev μ-loop : tie.MeasureT-loop
-μ-loop s starts k f begin n at₀ left₀ at left = ?
+μ-loop s starts k f begin n at₀ left₀ at left = left
 
--- src/lib.rt:257:5
-loop-holds : tie.Need-loop-holds Inv-loop μ-loop
-loop-holds c = ?
-
--- src/lib.rt:258:46
-add-resolve : tie.Need-add-resolve Inv-loop μ-loop
-add-resolve c = ?
-
--- src/lib.rt:258:13
-resolve-requires : tie.Need-resolve-requires Inv-loop μ-loop
-resolve-requires c κs = ?
-
--- src/lib.rt:259:26
-enum-known-found : tie.Need-enum-known-found Inv-loop μ-loop
-enum-known-found c = ?
-
--- src/lib.rt:260:36
-enum-told : tie.Need-enum-told Inv-loop μ-loop
-enum-told c = ?
-
--- src/lib.rt:260:36
-add-t13 : tie.Need-add-t13 Inv-loop μ-loop
-add-t13 c = ?
-
--- src/lib.rt:260:13
 returns : tie.Need-returns Inv-loop μ-loop
-returns c = ?
+returns c =
+    let r = c .before .before in
+    let i = r .before in
+    let l = i .before .loop in
+    let a = i .before .before .before .args in
+    ap seen
+    (sym
+    (l .inv .1
+    ∙ outputs-fault (a .s .now) (a .k) (a .f .place) (l .left) (l .at) 11 (l .at + 1) (i .loop-test .taken)
+    (lost (a .s .now) (a .k) (a .f .place) (l .at + 1) (byte (a .s .now) (l .at)) (sym (r .resolve .ensures) ∙ c .enum-told .given .1))))
 
--- src/lib.rt:262:18
-shared-slice-read-if1 : tie.Need-shared-slice-read-if1 Inv-loop μ-loop
-shared-slice-read-if1 c = ?
-
--- src/lib.rt:263:36
-add-t16 : tie.Need-add-t16 Inv-loop μ-loop
-add-t16 c = ?
-
--- src/lib.rt:263:13
 returns-2 : tie.Need-returns-2 Inv-loop μ-loop
-returns-2 c = ?
+returns-2 c =
+    let d = c .before .before in
+    let r = d .before .before .before in
+    let i = r .before in
+    let l = i .before .loop in
+    let a = i .before .before .before .args in
+    ap seen
+    (sym
+    (l .inv .1
+    ∙ outputs-fault (a .s .now) (a .k) (a .f .place) (l .left) (l .at) 12 (l .at + 1) (i .loop-test .taken)
+    (mistyped (a .s .now) (a .k) (a .f .place) (l .at + 1) _ _ (sym (r .resolve .ensures) ∙ d .before .found .given .1) (byte (a .s .now) (l .at)) (c .if1 .taken))))
 
--- src/lib.rt:265:9
-add-at : tie.Need-add-at Inv-loop μ-loop
-add-at c = ?
-
--- src/lib.rt:266:9
-sub-left : tie.Need-sub-left Inv-loop μ-loop
-sub-left c = ?
-
--- src/lib.rt:257:5
-loop-less : tie.Need-loop-less Inv-loop μ-loop
-loop-less c = ?
-
--- src/lib.rt:257:5
 loop-again : tie.Need-loop-again Inv-loop μ-loop
-loop-again c = ?
+loop-again c =
+    let d = c .before .before in
+    let r = d .before .before .before in
+    let i = r .before in
+    let l = i .before .loop in
+    let a = i .before .before .before .args in (
+      omega (arith, l .inv .0, i .loop-test .taken),
+      l .inv .1
+      ∙ outputs-on (a .s .now) (a .k) (a .f .place) (l .left) (l .at) (i .loop-test .taken)
+      (welltyped (a .s .now) (a .k) (a .f .place) (l .at + 1) _ _ (sym (r .resolve .ensures) ∙ d .before .found .given .1) (byte (a .s .now) (l .at)) (c .if1 .left)),
+    )
 
--- src/lib.rt:251:1
 returns-3 : tie.Need-returns-3 Inv-loop μ-loop
-returns-3 c = ?
+returns-3 c =
+    let l = c .before .loop in
+    let z : l .left ≡ 0 = omega arith in
+    ap seen (sym (rw z at (l .inv .1)))
 
 pub outputs-good-spec : {M : Type 1} → statement M
 outputs-good-spec =
@@ -76,18 +69,18 @@ outputs-good-spec =
     (tie.spec
     Inv-loop
     μ-loop
-    loop-holds
-    add-resolve
-    resolve-requires
-    enum-known-found
-    enum-told
-    add-t13
+    (λ c. (c .before .pre .1, refl))
+    (λ c. omega arith)
+    (λ c κs. (c .before .before .before .pre .0, omega (arith, c .before .loop .inv .0, c .loop-test .taken)))
+    (λ c. search needs)
+    (λ c. search needs)
+    (λ c. omega (arith, c .before .before .before .before .loop .inv .0, c .before .before .before .loop-test .taken))
     returns
-    shared-slice-read-if1
-    add-t16
+    (λ c. omega (arith, c .before .before .before .before .before .before .loop .inv .0, c .before .before .before .before .before .loop-test .taken))
+    (λ c. omega (arith, c .before .before .before .before .before .before .before .loop .inv .0, c .before .before .before .before .before .before .loop-test .taken))
     returns-2
-    add-at
-    sub-left
-    loop-less
+    (λ c. omega (arith, c .before .before .before .before .before .before .before .loop .inv .0, c .before .before .before .before .before .before .loop-test .taken))
+    (λ c. omega (arith, c .before .before .before .before .before .before .loop-test .taken))
+    (λ c. omega (arith, c .before .before .before .before .before .before .loop-test .taken))
     loop-again
     returns-3)
