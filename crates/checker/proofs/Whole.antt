@@ -208,6 +208,9 @@ module _ (s : List ℕ) where
       let m : suc n - 1 ≡ n = omega arith in
       goes _ _ tt e ∙ ap (λ (i : ℕ). judgeAll (functionAt s at ∷ early) (functionsAt i s (functionEnd s at))) (sym m)
 
+  pub start-none : (starts : List ℕ) → Started s starts 0
+  start-none starts = record { places = λ j h. absurd (not-suc-le-zero h); reads = λ j h. absurd (not-suc-le-zero h) }
+
   -- one function more
   pub start-more :
       (starts : List ℕ) (k at : ℕ) → Started s starts k → k < length starts → at ≡ functionPlace (version1 .header) s k → ReadsFunction s at

@@ -43,7 +43,7 @@ left d = omega (arith, d .loop-test .taken)
 here : (d : tie.In-loop Inv-loop μ-loop) → ReadsNode (d .before .before .before .args .s .now) (d .before .loop .at)
 here d = let l = d .before .loop in let a = d .before .before .before .args in first-reads (a .s .now) (a .f .count - l .i) (l .at) (left d) (l .inv .2 .reads)
 
-small : (b : tie.Start) → b .args .f .count ≤ 256
+small : (b : tie.Start Inv-loop μ-loop) → b .args .f .count ≤ 256
 small b =
     let p = b .pre .0 in
     let h = function-holds (b .args .s .now) (b .args .f .place) (p .reads) .few in
