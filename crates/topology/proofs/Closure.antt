@@ -1,14 +1,13 @@
 -- `via` tells what `Path` says.
 use Prim.Native.Nat.{ℕ, zero, suc, _+_, _≤_, _<_}
-use mathlib.Core.Path.{_≡_, refl, ap, sym, _∙_, subst}
-use mathlib.Core.Bool.{Bool, true, false, _&&_, _||_, cond}
+use mathlib.Core.Path.{_≡_, refl, ap}
+use mathlib.Core.Bool.{Bool, true, false, _&&_, cond}
 use mathlib.Core.List.{List}
 use mathlib.Core.Logic.{_⊎_, inl, inr, ⊎-elim}
 use native.Mathlib.Omega.{arith}
 use lib.Dec.{eqb, ltb}
 use borrow.Author.Tests.{eqb-true, eqb-false, eq-eqb, ltb-true, lt-ltb, le-ltb}
 use Rattle.graph.proofs.Loops.{or-inv, or-left, or-right, and-inv, and-both}
-use Rattle.topology.specs.declared.OnLoop.{OnLoop}
 use Rattle.topology.specs.declared.OnLoop.the-variants.{At, Nothing}
 use Rattle.topology.specs.Indices.{firstOf, anyOf, slot}
 use Rattle.topology.specs.Paths.{readsIndex, Path, one, more, via, onLoop, firstOnLoop}

@@ -8,3 +8,5 @@ pub mod Reached
 pub mod Edges
 pub mod Complete
 pub mod LoopFree
+pub mod Slots
+pub mod Stored

@@ -1,10 +1,9 @@
 -- The order and the loops by indices give the check of the loops, 13.
-use Prim.Native.Nat.{ℕ, zero, suc, _+_, _≤_, _<_}
+use Prim.Native.Nat.{ℕ, zero, suc, _≤_, _<_}
 use mathlib.Core.Path.{_≡_, refl, ap, sym, _∙_, subst}
 use mathlib.Core.Bool.{Bool, true, false, not, cond}
-use mathlib.Core.List.{List, [], _∷_, map}
-use mathlib.Core.Option.{Option, none, some}
-use mathlib.Core.Logic.{_⊎_, inl, inr}
+use mathlib.Core.List.{List, [], _∷_}
+use mathlib.Core.Option.{none, some}
 use native.Mathlib.Omega.{arith}
 use lib.Dec.{ltb}
 use lib.ListN.{length, getElem?, length-map}
@@ -18,9 +17,8 @@ use Rattle.graph.specs.Sound.{Is}
 use Rattle.graph.specs.Schedule.{schedule}
 use Rattle.graph.proofs.Loops.{loops-iff}
 use Rattle.graph.proofs.Steps.{takes, stops, needs}
-use Rattle.graph.proofs.Order.{Closed, schedule-right}
+use Rattle.graph.proofs.Order.{schedule-right}
 use Rattle.graph.proofs.Accept.{loop-free-iff}
-use Rattle.topology.specs.declared.OnLoop.{OnLoop}
 use Rattle.topology.specs.declared.OnLoop.the-variants.{At, Nothing}
 use Rattle.topology.specs.Indices.{firstOf, indexOrder}
 use Rattle.topology.specs.Paths.{Path, onLoop, firstOnLoop}

@@ -2,7 +2,7 @@ use borrow.Author.Needs.{needs}
 use Rattle.topology.proofs.first_on_loop.Statement.{statement}
 use Rattle.topology.proofs.first_on_loop.Tie as tie
 use mathlib.Core.Path.{_≡_, sym, ap, _∙_}
-use Prim.Native.Nat.{ℕ, _-_, _≤_}
+use Prim.Native.Nat.{_-_, _≤_}
 use native.Mathlib.Omega.{arith}
 use Rattle.topology.specs.Indices.{firstOf}
 use Rattle.topology.specs.Paths.{onLoop}

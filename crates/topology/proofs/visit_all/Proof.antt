@@ -2,7 +2,7 @@ use borrow.Author.Needs.{needs}
 use Rattle.topology.proofs.visit_all.Statement.{statement}
 use Rattle.topology.proofs.visit_all.Tie as tie
 use mathlib.Core.Path.{_≡_, refl, sym, _∙_}
-use Prim.Native.Nat.{ℕ, _-_, _≤_, _<_}
+use Prim.Native.Nat.{_-_, _≤_, _<_}
 use native.Mathlib.Omega.{arith}
 use Rattle.topology.specs.Walk.{walk, visitFrom, Room}
 use Rattle.topology.proofs.Reached.{visiting-step, from-end}
