@@ -407,31 +407,31 @@ fn loop_free(s: &[u8], f: Head, targets: &[u16; 4096]) -> Seen
 
 // ---- a function, and the table
 
-// The function at `at`, the k-th from 0; `targets` is room to work in.
+// The function at `place`, the k-th from 0; `targets` is room to work in.
 fn judge_function(
     s: &[u8],
     starts: &[usize; 16],
     k: usize,
-    at: usize,
+    place: usize,
     targets: &mut [u16; 4096],
 ) -> Seen
-    requires { ⌜ Started (now s) (now starts) k × (k ≤ 16) × ReadsFunction (now s) at × (length (now targets) ≡ 4096) ⌝ }
-    ensures { λ r. ⌜ r ≡ seen (judge (earlier (version1 .header) (now (s .entry)) k) (functionAt (now (s .entry)) at)) ⌝ }
+    requires { ⌜ Started (now s) (now starts) k × (k ≤ 16) × ReadsFunction (now s) place × (length (now targets) ≡ 4096) ⌝ }
+    ensures { λ r. ⌜ r ≡ seen (judge (earlier (version1 .header) (now (s .entry)) k) (functionAt (now (s .entry)) place)) ⌝ }
     ensures { λ r. ⌜ (r ≡ Seen.Good → length (now (targets .exit)) ≡ 4096) ⌝ }
 {
-    let same = reader::find_function(s, starts, k, reader::u16_at(s, at));
+    let same = reader::find_function(s, starts, k, reader::u16_at(s, place));
     match same {
         Found::At(_, _) => {
-            return Seen::Fault(9, at);
+            return Seen::Fault(9, place);
         }
         Found::Nothing => {}
     }
-    let nout = size(s[at + 3]);
-    let outputs = at + 6 + size(s[at + 2]);
+    let nout = size(s[place + 3]);
+    let outputs = place + 6 + size(s[place + 2]);
     let first = outputs + 4 * nout;
-    let count = wide(reader::u16_at(s, at + 4));
+    let count = wide(reader::u16_at(s, place + 4));
     let f = Head {
-        place: at,
+        place,
         first,
         count,
     };
