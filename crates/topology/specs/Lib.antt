@@ -1,0 +1,3 @@
+pub mod Indices
+pub mod Paths
+pub mod Resolve
