@@ -6,3 +6,6 @@ pub mod Nodes
 pub mod Positions
 pub mod Sizes
 pub mod Loops
+pub mod Single
+pub mod Opening
+pub mod Emission

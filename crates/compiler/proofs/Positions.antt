@@ -41,7 +41,7 @@ position-range s (suc m) c = pickOne (eqb (u16 s (placeOf s m)) c) (position-ran
 -- ---- of the function of an id, and of the function at its position
 
 module _ {A : Type 0} (s : List ℕ) (of : List Function → ℕ → A) (own : ℕ → A) (nil : A) (none : (c : ℕ) → of [] c ≡ nil)
-  (one : (m c : ℕ) → of (before s (suc m)) c ≡ cond (eqb (u16 s (placeOf s m)) c) (own m) (of (before s m) c)) where
+    (one : (m c : ℕ) → of (before s (suc m)) c ≡ cond (eqb (u16 s (placeOf s m)) c) (own m) (of (before s m) c)) where
   pub at-position : (k c : ℕ) → k ≤ 16 → positionOf s k c < k → of (before s k) c ≡ own (positionOf s k c)
   unfolding positionOf
   at-position zero c b h = absurd (omega arith)

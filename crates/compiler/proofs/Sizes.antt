@@ -96,27 +96,24 @@ module _ (s : List ℕ) (k p kind : ℕ) (row : Ports) (ek : kind ≡ byte s (p 
 
     by-form : (f : Form) → formOf (kindAt s p) ≡ f → calling f ≡ false → Adds f
     unfolding nodeAt
-    by-form Absent e q =
-        (
-          here (nodeOperations (operationsOf (before s k))) Absent e,
-          here (nodeWords (resultWordsOf (before s k)) (nodeAt s p)) Absent e,
-          here (nodeInstructions (instructionsOf (before s k))) Absent e,
-          here (nodeBytes (bytesOfFunction (before s k)) (nodeAt s p)) Absent e,
-        )
-    by-form Constant e q =
-        (
-          here (nodeOperations (operationsOf (before s k))) Constant e,
-          here (nodeWords (resultWordsOf (before s k)) (nodeAt s p)) Constant e,
-          here (nodeInstructions (instructionsOf (before s k))) Constant e,
-          here (nodeBytes (bytesOfFunction (before s k)) (nodeAt s p)) Constant e,
-        )
-    by-form References e q =
-        (
-          here (nodeOperations (operationsOf (before s k))) References e,
-          here (nodeWords (resultWordsOf (before s k)) (nodeAt s p)) References e,
-          here (nodeInstructions (instructionsOf (before s k))) References e,
-          here (nodeBytes (bytesOfFunction (before s k)) (nodeAt s p)) References e,
-        )
+    by-form Absent e q = (
+      here (nodeOperations (operationsOf (before s k))) Absent e,
+      here (nodeWords (resultWordsOf (before s k)) (nodeAt s p)) Absent e,
+      here (nodeInstructions (instructionsOf (before s k))) Absent e,
+      here (nodeBytes (bytesOfFunction (before s k)) (nodeAt s p)) Absent e,
+    )
+    by-form Constant e q = (
+      here (nodeOperations (operationsOf (before s k))) Constant e,
+      here (nodeWords (resultWordsOf (before s k)) (nodeAt s p)) Constant e,
+      here (nodeInstructions (instructionsOf (before s k))) Constant e,
+      here (nodeBytes (bytesOfFunction (before s k)) (nodeAt s p)) Constant e,
+    )
+    by-form References e q = (
+      here (nodeOperations (operationsOf (before s k))) References e,
+      here (nodeWords (resultWordsOf (before s k)) (nodeAt s p)) References e,
+      here (nodeInstructions (instructionsOf (before s k))) References e,
+      here (nodeBytes (bytesOfFunction (before s k)) (nodeAt s p)) References e,
+    )
     by-form Call e q = let z : _≡_ {A = ℕ} 0 1 = cc in absurd (omega arith)
 
     pub plain-sums : (ty w n v : ℕ) → ty ≡ byte s (p + 3) → w ≡ PortList.resultWords row ty → w < 256 → n ≡ row .operands → v ≡ constantIn (row .form) (row .words) → v < 256
@@ -126,7 +123,7 @@ module _ (s : List ℕ) (k p kind : ℕ) (row : Ports) (ek : kind ≡ byte s (p 
         let f : calling (formOf (kindAt s p)) ≡ false = ap calling (sym (form-is s p kind row ek er)) ∙ c in
         let (ao, aw, am, ab) = by-form (formOf (kindAt s p)) refl f in
         let fw : w ≡ widths (gives (kindAt s p) (byte s (p + 3))) =
-            ew ∙ ap (λ (y : Ports). PortList.resultWords y ty) r ∙ ap (λ (t : ℕ). PortList.resultWords (portsOf (kindAt s p)) t) et ∙ words-given (kindAt s p) (byte s (p + 3)) in
+        ew ∙ ap (λ (y : Ports). PortList.resultWords y ty) r ∙ ap (λ (t : ℕ). PortList.resultWords (portsOf (kindAt s p)) t) et ∙ words-given (kindAt s p) (byte s (p + 3)) in
         let fn : n ≡ arity (kindAt s p) = en ∙ ap (λ (y : Ports). y .operands) r in
         let fv : v ≡ constantWords (kindAt s p) = ev ∙ ap (λ (y : Ports). constantIn (y .form) (y .words)) r in
         let few = row-narrow s p kind row ek er .operands in

@@ -1,16 +1,18 @@
 // The compiler: from a table and a function to the board list.
 ghost use mathlib.Core.Path.{_≡_};
+ghost use mathlib.Core.Bool.{true, false};
 ghost use Prim.Native.Nat.{ℕ, suc, _+_, _*_, _<_, _≤_, _^_, min};
 ghost use lib.ListN.{length, getD, set};
 ghost use lib.Seq.{sets};
 ghost use Rattle.ports.specs.Kinds.{kindOf};
-ghost use Rattle.ports.specs.Ports.{portsOf, constantIn};
+ghost use Rattle.ports.specs.Ports.{portsOf, formOf, constantIn};
 ghost use Rattle.graph.specs.Bytes.{byte, u16};
-ghost use Rattle.list.specs.Code.{bytesOf};
-ghost use Rattle.reader.specs.Layout.{nodeAt, nodeEnd, nodePlace, nodesPlace, nodeCount};
+ghost use Rattle.graph.specs.Look.{reads};
+ghost use Rattle.list.specs.Code.{bytesOf, allBytes};
+ghost use Rattle.reader.specs.Layout.{kindAt, nodeAt, nodeEnd, nodePlace, nodesPlace, nodeCount};
 ghost use Rattle.compiler.specs.Position.{placeOf, positionOf, Starts, calling, ReadsOf, NodeFit, NodesFit, Fit, AllFit};
 ghost use Rattle.compiler.specs.Capped.{operationsAt, wordsAt, instructionsAt, bytesAt, operationCap, wordCap, byteCap, Caps, AllSummed};
-ghost use Rattle.compiler.specs.Emit.{copied};
+ghost use Rattle.compiler.specs.Emit.{copied, spotRoom, Small, addressOf, addressesIn, nodeOpened, functionOpened, Room, Emits, AllLaid};
 use ports::Form;
 use ports::Ports;
 
@@ -289,4 +291,206 @@ fn function_sums(
     words[k] = w as u32;
     counts[k] = m as u32;
     sizes[k] = b as u32;
+}
+
+// ---- instructions
+
+// The address of a spot.
+fn address(ins: &[u16; 8], first: usize, e: usize) -> u16
+    requires { ⌜ (first ≤ 8192) × (e ≤ 16384) ⌝ }
+    ensures { λ r. ⌜ r ≡ addressOf (now (ins .entry)) first e ⌝ }
+{
+    if e < 8 {
+        ins[e]
+    } else {
+        (first + (e - 8)) as u16
+    }
+}
+
+// The bytes of the addresses of n operands.
+fn operands(
+    spots: &[u16; 20166],
+    spot: usize,
+    n: usize,
+    ins: &[u16; 8],
+    first: usize,
+    code: &mut [u8],
+    at: usize,
+)
+    requires { ⌜ (first ≤ 8192) × Small (now spots) × (spot + n ≤ spotRoom) × (at + 2 * n ≤ length (now code)) ⌝ }
+    ensures { λ _. ⌜ now (code .exit) ≡ sets (now (code .entry)) at (allBytes 2 (addressesIn (now (spots .entry)) (now (ins .entry)) first spot n)) ⌝ }
+{
+    let mut j = 0;
+    while j < n {
+        let a = address(ins, first, wide16(spots[spot + j]));
+        put16(code, at + 2 * j, a);
+        j += 1;
+    }
+}
+
+// The addresses of n arguments.
+fn arguments(
+    spots: &[u16; 20166],
+    spot: usize,
+    n: usize,
+    ins: &[u16; 8],
+    first: usize,
+    args: &mut [u16; 8],
+)
+    requires { ⌜ (first ≤ 8192) × Small (now spots) × (spot + n ≤ spotRoom) × (n ≤ 8) ⌝ }
+    ensures { λ _. ⌜ now (args .exit) ≡ sets (now (args .entry)) 0 (addressesIn (now (spots .entry)) (now (ins .entry)) first spot n) ⌝ }
+{
+    let mut j = 0;
+    while j < n {
+        args[j] = address(ins, first, wide16(spots[spot + j]));
+        j += 1;
+    }
+}
+
+// The byte behind what was written, the next free word, and the spot behind those that were read.
+pub struct Reached {
+    pub at: usize,
+    pub next: usize,
+    pub spot: usize,
+}
+
+// The node at p, which is no call.
+fn emit_single(
+    t: &[u8],
+    spots: &[u16; 20166],
+    k: usize,
+    p: usize,
+    spot: usize,
+    ins: &[u16; 8],
+    first: usize,
+    code: &mut [u8],
+    at: usize,
+    next: usize,
+) -> Reached
+    requires { ⌜ (p < 65536) × (calling (formOf (kindAt (now t) p)) ≡ false) ⌝ }
+    requires { ⌜ (first ≤ 8192) × Small (now spots) × (spot + length (reads (nodeAt (now t) p)) ≤ spotRoom) ⌝ }
+    requires { ⌜ Room (now code) at (nodeOpened (now t) (now spots) k p spot (now ins) first next) ⌝ }
+    ensures { λ r. ⌜ Emits (now (code .entry)) (now (code .exit)) at
+        (nodeOpened (now (t .entry)) (now (spots .entry)) k p spot (now (ins .entry)) first next) r ⌝ }
+    ensures { λ r. ⌜ r .spot ≡ spot + length (reads (nodeAt (now (t .entry)) p)) ⌝ }
+{
+    let kind = byte_at(t, p + 2);
+    let ty = byte_at(t, p + 3);
+    let row = ports::ports_of(kind);
+    let form = row.form;
+    let n = wide(row.operands);
+    let m = 8 * constant_words(form, row.words);
+    let w = ports::result_words(row, ty);
+    code[at] = kind;
+    code[at + 1] = ty;
+    operands(spots, spot, n, ins, first, code, at + 2);
+    copy(t, p + 4, m, code, at + 2 + 2 * n);
+    Reached {
+        at: at + 2 + 2 * n + m,
+        next: next + w,
+        spot: spot + n,
+    }
+}
+
+// The node at p of the function at position k, whose results begin at `first`.
+fn emit_node(
+    t: &[u8],
+    starts: &[u16; 16],
+    begins: &[u16; 16],
+    order: &[u16; 4096],
+    spots: &[u16; 20166],
+    k: usize,
+    p: usize,
+    spot: usize,
+    ins: &[u16; 8],
+    first: usize,
+    code: &mut [u8],
+    at: usize,
+    next: usize,
+) -> Reached
+    requires { ⌜ (k < 16) × Starts (now t) (now starts) k × NodeFit (now t) p ⌝ }
+    requires { ⌜ (first ≤ 8192) × Small (now spots) × (spot + length (reads (nodeAt (now t) p)) ≤ spotRoom) ⌝ }
+    requires { ⌜ AllLaid (now t) (now begins) (now order) (now spots) k ⌝ }
+    requires { ⌜ Room (now code) at (nodeOpened (now t) (now spots) k p spot (now ins) first next) ⌝ }
+    ensures { λ r. ⌜ Emits (now (code .entry)) (now (code .exit)) at
+        (nodeOpened (now (t .entry)) (now (spots .entry)) k p spot (now (ins .entry)) first next) r ⌝ }
+    ensures { λ r. ⌜ r .spot ≡ spot + length (reads (nodeAt (now (t .entry)) p)) ⌝ }
+{
+    let row = ports::ports_of(byte_at(t, p + 2));
+    let form = row.form;
+    if is_call(form) {
+        let n = wide(byte_at(t, p + 4 + 2));
+        let c = u16_at(t, p + 4);
+        let mut args = [0u16; 8];
+        arguments(spots, spot, n, ins, first, &mut args);
+        let g = position_of(t, starts, k, c);
+        if g < k {
+            let r = emit(t, starts, begins, order, spots, g, &args, code, at, next);
+            Reached {
+                at: r.at,
+                next: r.next,
+                spot: spot + n,
+            }
+        } else {
+            Reached {
+                at,
+                next,
+                spot: spot + n,
+            }
+        }
+    } else {
+        emit_single(t, spots, k, p, spot, ins, first, code, at, next)
+    }
+}
+
+// The function at position k, with the addresses of its arguments.
+fn emit(
+    t: &[u8],
+    starts: &[u16; 16],
+    begins: &[u16; 16],
+    order: &[u16; 4096],
+    spots: &[u16; 20166],
+    k: usize,
+    ins: &[u16; 8],
+    code: &mut [u8],
+    at: usize,
+    next: usize,
+) -> Reached
+    requires { ⌜ (k < 16) × Starts (now t) (now starts) (suc k) × Small (now spots) ⌝ }
+    requires { ⌜ AllLaid (now t) (now begins) (now order) (now spots) (suc k) ⌝ }
+    requires { ⌜ Room (now code) at (functionOpened (now t) k (now ins) next) ⌝ }
+    ensures { λ r. ⌜ Emits (now (code .entry)) (now (code .exit)) at (functionOpened (now (t .entry)) k (now (ins .entry)) next) r ⌝ }
+{
+    let n = u16_at(t, wide16(starts[k]) + 4);
+    let mut spot = wide16(begins[k]);
+    let mut here = at;
+    let mut word = next;
+    let mut i = 0;
+    while i < n {
+        let p = wide16(order[256 * k + i]);
+        let r = emit_node(
+            t,
+            starts,
+            begins,
+            order,
+            spots,
+            k,
+            p,
+            spot,
+            ins,
+            next,
+            code,
+            here,
+            word,
+        );
+        here = r.at;
+        word = r.next;
+        spot = r.spot;
+        i += 1;
+    }
+    Reached {
+        at: here,
+        next: word,
+        spot,
+    }
 }

@@ -165,7 +165,7 @@ module _ (ts : List ℕ) (ns : List Node) (r : Resolves ts ns) where
       inl (
         omega arith,
         ap (λ (d : Bool). cond d (some (taking x (leftFrom is (suc i) xs))) (before x (pick done (leftFrom is (suc i) xs)))) eb
-        ∙ ap (λ (o : Option Picked). before x o) q,
+            ∙ ap (λ (o : Option Picked). before x o) q,
       )
   pick-step is done x xs i f st l false false ea eb (inr c) =
       let rest = leftFrom (f ∷ is) (suc i) xs in
@@ -193,8 +193,8 @@ module _ (ts : List ℕ) (ns : List Node) (r : Resolves ts ns) where
         let stands : getElem? ns i ≡ some x = ap (λ (m : ℕ). getElem? ns m) e ∙ h 0 in
         subst
         (λ (b : Bool).
-            Picks is done i (x ∷ xs) (cond (member i is) (leftFrom is (suc i) xs) (x ∷ leftFrom is (suc i) xs))
-            (cond (not (member i is) && b) i (firstOf can (suc i) (length xs))))
+        Picks is done i (x ∷ xs) (cond (member i is) (leftFrom is (suc i) xs) (x ∷ leftFrom is (suc i) xs))
+        (cond (not (member i is) && b) i (firstOf can (suc i) (length xs))))
         (sym (ready-is is done agree i x stands))
         (pick-step is done x xs i (firstOf can (suc i) (length xs)) stands (first-is can (length xs) (suc i) .low) (member i is)
         (Graph.ready done (reads x)) refl refl (pick-is xs (suc i) (λ w. ap (λ (m : ℕ). getElem? ns m) (after w) ∙ h (suc w))))

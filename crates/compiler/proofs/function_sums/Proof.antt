@@ -84,8 +84,7 @@ returns c =
     let (x1, x2, x3, x4) = sum-done s (a .k) (c .before .before .before .u16-at .result) (c .before .before .nodes-place .result) (l .o) (l .w) (l .m) (l .b) (l .i) (l .q) (l .inv) (c .loop-test .left) in
     let (y1, y2, y3, y4) = sums-are s (a .k) in
     let e = count (c .before .before .before) in
-    let f = begin (c .before .before) in
-    (
+    let f = begin (c .before .before) in (
       ap (λ (v : ℕ). set (a .ops .now) (a .k) v) (x1 ∙ rw (e, f) (ap (min operationCap) (sym y1))),
       ap (λ (v : ℕ). set (a .words .now) (a .k) v) (x2 ∙ rw (e, f) (ap (min wordCap) (sym y2))),
       ap (λ (v : ℕ). set (a .counts .now) (a .k) v) (x3 ∙ rw (e, f) (ap (min operationCap) (sym y3))),

@@ -31,8 +31,7 @@ loop-again c =
     let b = c .before .before .before .before .before .before .before in
     let a = b .args in
     let l = c .before .before .before .before .before .loop in
-    let w = c .before .before .wide16 .ensures .0 ∙ b .pre .1 (l .m - 1) (search needs) in
-    (
+    let w = c .before .before .wide16 .ensures .0 ∙ b .pre .1 (l .m - 1) (search needs) in (
       omega arith,
       l .inv .1 ∙ position-miss (a .t .now) (l .m) (a .c) (search needs) (λ e. c .if1 .left (c .before .u16-at .ensures .0 ∙ ap (λ (q : ℕ). u16 (a .t .now) q) w ∙ e)),
     )
