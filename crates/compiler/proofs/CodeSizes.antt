@@ -3,22 +3,22 @@ use Prim.Native.Nat.{ℕ, zero, suc, _+_, _*_, _≤_, _<_}
 use mathlib.Core.Path.{_≡_, refl, ap, sym, _∙_, subst}
 use mathlib.Core.Bool.{Bool, true, false, cond}
 use mathlib.Core.List.{List, [], _∷_, _++_, map, append-assoc}
-use mathlib.Core.Logic.{_⊎_, inl, inr}
+use mathlib.Core.Logic.{inl, inr}
 use native.Mathlib.Omega.{arith}
 use lib.Dec.{eqb}
 use lib.ListN.{length, length-append, length-map}
-use Rattle.ports.specs.Kinds.{Kind, kindOf}
-use Rattle.ports.specs.Ports.{widths, takes, arity, formOf, constantIn, constantWords}
+use Rattle.ports.specs.Kinds.{kindOf}
+use Rattle.ports.specs.Ports.{widths, takes, arity, constantWords}
 use Rattle.ports.proofs.Laws.{length-takes}
-use Rattle.graph.specs.Graph.{Ref, Payload, consts, refs, calls, Node, Output, Function}
+use Rattle.graph.specs.Graph.{Ref, Payload, consts, refs, calls, Node, Function}
 use Rattle.graph.specs.Judge.{outputTypes}
 use Rattle.graph.specs.Schedule.{schedule}
-use Rattle.graph.specs.Sums.{sum, nodeOperations, functionOperations, operationsOf, resultWords, resultWordsOf, functionWords}
+use Rattle.graph.specs.Sums.{sum, nodeOperations, functionOperations, operationsOf, nodeWords, resultWords, resultWordsOf, functionWords}
 use Rattle.graph.specs.Sound.{Is, FormedPayload, FormedNode, Shaped, Sound, AllSound}
 use Rattle.graph.proofs.Steps.{is-each}
 use Rattle.graph.proofs.Order.{scheduled, schedule-within}
-use Rattle.list.specs.Board.{Instruction, BoardList}
-use Rattle.list.specs.Compile.{Written, address, places, Opened, Open, single, openNode, also, openNodes, openFunction, opened, boardListOf}
+use Rattle.list.specs.Board.{Instruction}
+use Rattle.list.specs.Compile.{Written, address, places, Open, single, openNode, also, openNodes, openFunction, opened, boardListOf}
 use Rattle.list.specs.Code.{bytesOf, allBytes, instructionCode, instructionsCode, headerCode, encode}
 use Rattle.list.proofs.Limits.{opened-size, words-of, output-words}
 use Rattle.compiler.specs.Static.{Spot, spotAt, closedFunction, closed, nodeInstructions, nodeBytes, functionInstructions, functionBytes, instructionsOf, bytesOfFunction, emitNodes}
@@ -40,6 +40,41 @@ function-words early f sound =
     let a : boardListOf early f .words ≡ w + closedFunction (closed early) f .words = function-next (opened early) (closed early) (opened-follows early) f (places 0 (f .inputs)) w in
     let b : boardListOf early f .words ≡ w + resultWords (resultWordsOf early) f = words-of early f sound in
     omega arith
+
+-- within the limit of words
+pub words-limit : (early : List Function) (f : Function) → AllSound (f ∷ early) → (limit : ℕ) → functionWords early f ≤ limit
+    → closedFunction (closed early) f .words ≤ limit
+words-limit early f sound limit l = let e : closedFunction (closed early) f .words ≡ resultWords (resultWordsOf early) f = function-words early f sound in omega arith
+
+-- ---- a callee's share
+
+-- a node's share is at most the sum
+pub part-sum : (g : Node → ℕ) (ns : List Node) (n : Node) → Is n ns → g n ≤ sum g ns
+part-sum g [] n h = absurd h
+part-sum g (x ∷ xs) n (inl e) = let q : g n ≡ g x = ap g e in omega arith
+part-sum g (x ∷ xs) n (inr h) = let l : g n ≤ sum g xs = part-sum g xs n h in omega arith
+
+module _ (callee : ℕ → ℕ) (f : Function) (n : Node) (i : Is n (f .nodes)) (c : ℕ) (rs : List Ref) (e : n .payload ≡ calls c rs) where
+  -- the callee's words are at most its caller's
+  pub callee-words : callee c ≤ resultWords callee f
+  callee-words =
+      subst (λ (p : Payload). nodeWords callee n p ≤ resultWords callee f) e (part-sum (λ n. nodeWords callee n (n .payload)) (f .nodes) n i)
+
+  -- the callee's operations are fewer than its caller's
+  pub callee-operations : callee c < functionOperations callee f
+  callee-operations =
+      let l : nodeOperations callee (calls c rs) ≤ functionOperations callee f = subst (λ (p : Payload). nodeOperations callee p ≤ functionOperations callee f) e (part-sum (λ n. nodeOperations callee (n .payload)) (f .nodes) n i) in
+      omega arith
+
+  -- the callee's instructions are at most its caller's
+  pub callee-instructions : callee c ≤ functionInstructions callee f
+  callee-instructions =
+      subst (λ (p : Payload). nodeInstructions callee p ≤ functionInstructions callee f) e (part-sum (λ n. nodeInstructions callee (n .payload)) (f .nodes) n i)
+
+  -- the callee's bytes are at most its caller's
+  pub callee-bytes : callee c ≤ functionBytes callee f
+  callee-bytes =
+      subst (λ (p : Payload). nodeBytes callee n p ≤ functionBytes callee f) e (part-sum (λ n. nodeBytes callee n (n .payload)) (f .nodes) n i)
 
 -- ---- a measure of code
 
@@ -148,6 +183,11 @@ instructions-operations (f ∷ early) c = pickOne (eqb (f .id) c) (instructions-
 -- the same of a function over those before it
 pub function-operations : (early : List Function) (f : Function) → functionInstructions (instructionsOf early) f ≤ functionOperations (operationsOf early) f
 function-operations early f = nodes-operations (instructionsOf early) (operationsOf early) (instructions-operations early) (f .nodes)
+
+-- within the limit of operations
+pub instructions-limit : (early : List Function) (f : Function) (limit : ℕ) → functionOperations (operationsOf early) f ≤ limit
+    → functionInstructions (instructionsOf early) f ≤ limit
+instructions-limit early f limit l = let h = function-operations early f in omega arith
 
 -- ---- bytes
 

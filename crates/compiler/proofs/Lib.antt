@@ -1,5 +1,6 @@
 pub mod Spots
 pub mod CodeSizes
+pub mod Bounds
 pub mod Writing
 pub mod Rows
 pub mod Nodes

@@ -1,32 +1,36 @@
 -- The spots found before a function is opened are where its values stand once it is opened.
-use Prim.Native.Nat.{ℕ, zero, suc, _+_, _≤_, _<_}
+use Prim.Native.Nat.{ℕ, _+_, _≤_}
 use mathlib.Core.Path.{_≡_, refl, ap, sym, _∙_, subst}
-use mathlib.Core.Bool.{Bool, true, false, _&&_, _||_, not, cond}
+use mathlib.Core.Bool.{Bool, true, false, _||_, cond}
 use mathlib.Core.List.{List, [], _∷_, _++_, map, map-map, reverse, reverseAux}
-use mathlib.Core.Option.{Option, none, some}
+use mathlib.Core.Option.{some}
 use mathlib.Core.Logic.{_⊎_, inl, inr, ⊎-elim}
 use native.Mathlib.Omega.{arith}
 use lib.Dec.{eqb}
-use lib.ListN.{length, getD, List·getD-map}
-use borrow.Author.Tests.{eqb-true, eqb-false, eq-eqb, ne-eqb}
+use lib.ListN.{getD, List·getD-map}
+use borrow.Author.Tests.{eqb-true, eq-eqb}
 use Rattle.ports.specs.Kinds.{kindOf}
-use Rattle.ports.specs.Ports.{width, widths, gives}
-use Rattle.graph.specs.Graph.{Ref, Payload, consts, refs, calls, Node, Output, Function}
+use Rattle.ports.specs.Ports.{width, gives}
+use Rattle.graph.specs.Graph.{Ref, Payload, consts, refs, calls, Node, Function}
 use Rattle.value.specs.Typed.{Each}
-use Rattle.graph.specs.Look.{member, findNode, found, findFunction, readsOf, reads, outputRefs}
+use Rattle.graph.specs.Look.{member, readsOf, reads, outputRefs}
 use Rattle.graph.specs.Schedule.{ready, schedule}
-use Rattle.graph.specs.Outcome.{Outcome, ok, _>>=_, _>>_, need}
+use Rattle.graph.specs.Outcome.{ok, _>>_}
 use Rattle.graph.specs.Read.{version1, parse}
-use Rattle.graph.specs.Judge.{fresh, judge, judgeAll, table}
+use Rattle.graph.specs.Judge.{judge, judgeAll, table}
+use Rattle.graph.specs.Bytes.{Bytes}
+use Rattle.graph.specs.Rules.{Distinct}
+use Rattle.graph.specs.Table.{Chosen, chosen}
 use Rattle.graph.specs.Sums.{sum}
-use Rattle.graph.specs.Sound.{Is, Sound}
+use Rattle.graph.specs.Sound.{Is, Sound, AllFormed}
 use Rattle.graph.proofs.Loops.{and-inv, or-inv}
-use Rattle.graph.proofs.Steps.{took, after, passed}
-use Rattle.graph.proofs.Accept.{fresh-own}
-use Rattle.graph.proofs.Order.{ids, Ordered, scheduled}
+use Rattle.graph.proofs.Steps.{took, after, ok-is}
+use Rattle.graph.proofs.Formed.{parse-formed}
+use Rattle.graph.proofs.Exactly.{rules-there}
+use Rattle.graph.proofs.Order.{ids, Ordered, scheduled, schedule-within}
 use Rattle.list.specs.Board.{Instruction}
-use Rattle.list.specs.Compile.{Written, portsAt, address, places, Opened, Open, single, openNode, Body, also, openNodes, openFunction, opened}
-use Rattle.compiler.specs.Static.{Spot, nowhere, input, offset, spotAt, through, Spotted, spotsOf, spotOf, Closed, Callee, closedNode, Spread, spread, closedFunction, closed, emitNodes, Agrees}
+use Rattle.list.specs.Compile.{Written, portsAt, address, places, Opened, Open, single, openNode, also, openNodes, openFunction, opened}
+use Rattle.compiler.specs.Static.{Spot, nowhere, input, offset, spotAt, through, Spotted, spotsOf, spotOf, Closed, Callee, closedNode, spread, closedFunction, closed, emitNodes, Agrees}
 
 -- ---- lists
 
@@ -125,6 +129,12 @@ module _ (go : Open) (call : Callee) (follows : Follows go call) (ins : List ℕ
       ∙ ap (λ (xs : List ℕ). map (spotAt xs (base + d)) (call c .outputs)) (addresses-spots ins base written spotted m rs)
       ∙ spots-through ins base d (map (spotOf spotted) rs) (call c .outputs)
 
+  -- a call opens its callee at its own first word, with its arguments' spots
+  pub call-opened : (written : List Written) (spotted : List Spotted) → Matches ins base written spotted → (next d : ℕ) → next ≡ base + d → (n : Node) (c : ℕ) (rs : List Ref)
+      → openNode go (address ins written) next n (calls c rs) ≡ go c (map (spotAt ins base) (map (spotOf spotted) rs)) (base + d)
+  call-opened written spotted m next d e n c rs =
+      ap (λ (xs : List ℕ). go c xs next) (addresses-spots ins base written spotted m rs) ∙ ap (λ (q : ℕ). go c (map (spotAt ins base) (map (spotOf spotted) rs)) q) e
+
   -- the first word behind a node
   pub node-next : (from : Ref → ℕ) (spotted : List Spotted) (next d : ℕ) → next ≡ base + d → (n : Node) (p : Payload)
       → openNode go from next n p .next ≡ base + (d + closedNode call spotted d n p .words)
@@ -207,8 +217,7 @@ opened-next early c ins next = opened-follows early .next c ins next
 
 -- no two nodes have one id
 abbrev pub Single : List Node → Type 0
-Single [] = Unit {0}
-Single (n ∷ ns) = (member (n .id) (ids ns) ≡ false) × Single ns
+Single ns = Distinct (ids ns)
 
 -- how many nodes have an id
 abbrev count : ℕ → List Node → ℕ
@@ -257,44 +266,34 @@ schedule-single early f sound single =
     count-single (schedule (f .nodes))
     (λ i. subst (λ (x : ℕ). x ≤ 1) (sym (scheduled early f sound .total (λ n. cond (eqb (n .id) i) 1 0))) (single-count (f .nodes) single i))
 
--- check 9: ids that none before has
-pub fresh-single : (before ns : List Node) (u : Unit {0}) → fresh before ns ≡ ok u → Single ns
-fresh-single before [] u e = tt
-fresh-single before (x ∷ ns) u e =
-    let (t, r) = passed (not (found (findNode (x .id) before))) 9 (x .place) (fresh (x ∷ before) ns) u e in
-    (apart x before ns (λ n h. fresh-own (x ∷ before) ns u r n h .0), fresh-single (x ∷ before) ns u r)
-  where
-    apart : (x : Node) (before ns : List Node) → ((n : Node) → Is n ns → findNode (n .id) (x ∷ before) ≡ none) → member (x .id) (ids ns) ≡ false
-    apart x before [] h = refl
-    apart x before (y ∷ ys) h = rw (ne-eqb (y .id) (x .id) (other (h y (inl refl)))) (apart x before ys (λ n i. h n (inr i)))
-      where
-        other : cond (eqb (x .id) (y .id)) (some x) (findNode (y .id) before) ≡ none → y .id ≡ x .id → ⊥
-        other e q =
-            let f : cond (eqb (x .id) (y .id)) (some x) (findNode (y .id) before) ≡ some x = rw (eq-eqb (x .id) (y .id) (sym q)) refl in
-            let g : some x ≡ none = sym f ∙ e in
-            let z : _≡_ {A = ℕ} 0 1 = cc in
-            absurd (omega arith)
-
-judged-single : (early : List Function) (f : Function) (u : Unit {0}) → judge early f ≡ ok u → Single (f .nodes)
-judged-single early f u e =
-    let (e0, e1) = passed (not (found (findFunction (f .id) early))) 9 (f .place) _ u e in
-    let (a1, f1, e2) = after (fresh [] (f .nodes)) _ u e1 in
-    fresh-single [] (f .nodes) a1 f1
-
-all-single : (early fs : List Function) (u : Unit {0}) → Each (λ f. Single (f .nodes)) early → judgeAll early fs ≡ ok u → Each (λ f. Single (f .nodes)) (reverseAux fs early)
-all-single early [] u h e = h
-all-single early (f ∷ fs) u h e =
+all-single : (early fs : List Function) (u : Unit {0}) → AllFormed fs → Each (λ f. Single (f .nodes)) early → judgeAll early fs ≡ ok u
+    → Each (λ f. Single (f .nodes)) (reverseAux fs early)
+all-single early [] u formed h e = h
+all-single early (f ∷ fs) u (a, formed) h e =
     let (b, p, q) = after (judge early f) (judgeAll (f ∷ early) fs) u e in
-    all-single (f ∷ early) fs u (judged-single early f b p, h) q
+    all-single (f ∷ early) fs u formed (rules-there early f a p .own-nodes, h) q
 
 -- every function of an accepted table has single ids
-pub accepted-single : (s : List ℕ) (fs : List Function) → table s ≡ ok fs → Each (λ f. Single (f .nodes)) fs
+pub accepted-single : (s : List ℕ) → Bytes s → (fs : List Function) → table s ≡ ok fs → Each (λ f. Single (f .nodes)) fs
 unfolding table
-accepted-single s fs e =
+accepted-single s small fs e =
     let (gs, p, e1) = took (parse version1 s) (λ fs. judgeAll [] fs >> ok (reverse fs)) fs e in
     let (u, j, e2) = after (judgeAll [] gs) (ok (reverse gs)) fs e1 in
-    let q : reverse gs ≡ fs = cc in
-    subst (λ (hs : List Function). Each (λ f. Single (f .nodes)) hs) q (all-single [] gs u tt j)
+    let q : reverse gs ≡ fs = ok-is e2 in
+    subst (λ (hs : List Function). Each (λ f. Single (f .nodes)) hs) q (all-single [] gs u (parse-formed s small version1 gs p .0) tt j)
+
+-- what holds of every function of a table holds of the one of an id, and of those before it
+pub chosen-each : (P : Function → Type 0) (c : ℕ) (fs : List Function) (x : Chosen) → chosen c fs ≡ some x → Each P fs → Each P (x .function ∷ x .early)
+chosen-each P c [] x e h = let z : _≡_ {A = ℕ} 0 1 = cc in absurd (omega arith)
+chosen-each P c (f ∷ early) x e (p, h) = pickOne (eqb (f .id) c) (λ q. chosen-each P c early x q h) e
+  where
+    pickOne : (b : Bool) → (chosen c early ≡ some x → Each P (x .function ∷ x .early))
+        → cond b (some (record { function = f; early = early })) (chosen c early) ≡ some x → Each P (x .function ∷ x .early)
+    pickOne true ih q =
+        let y : Chosen = record { function = f; early = early } in
+        let r : y ≡ x = cc in
+        subst (λ (z : Chosen). Each P (z .function ∷ z .early)) r (p, h)
+    pickOne false ih q = ih q
 
 -- ---- later is the same
 
@@ -420,3 +419,13 @@ pub function-table : (go : Open) (call : Callee) → Follows go call → (f : Fu
     → openFunction go f ins next .code ≡ emitNodes go table ins next (schedule (f .nodes)) next
 function-table go call follows f table agrees ins next =
     nodes-table go call follows ins next table (schedule (f .nodes)) [] [] (matches-start ins next) next 0 (omega arith) agrees
+
+-- the code of a function over those before it, by a table that has the last list's spots for what its nodes read
+pub function-emitted : (early : List Function) (f : Function) → Sound early f → Single (f .nodes) → (table : Ref → Spot)
+    → ((n : Node) → Is n (f .nodes) → Each (λ r. table r ≡ spotOf (spread (closed early) (schedule (f .nodes)) [] 0 .spotted) r) (reads n)) → (ins : List ℕ) (next : ℕ)
+    → openFunction (opened early) f ins next .code ≡ emitNodes (opened early) table ins next (schedule (f .nodes)) next
+function-emitted early f sound single table h ins next =
+    let last = spotOf (spread (closed early) (schedule (f .nodes)) [] 0 .spotted) in
+    let agrees =
+    agrees-by (closed early) last table (schedule (f .nodes)) [] 0 (λ n i. h n (schedule-within (f .nodes) n i)) (function-agrees (closed early) early f sound single) in
+    function-table (opened early) (closed early) (opened-follows early) f table agrees ins next

@@ -24,11 +24,11 @@ use Rattle.graph.proofs.Loops.{and-inv, Among, leads-node, loops-iff}
 use Rattle.graph.proofs.Steps.{took, after, passed, needed, each-is, is-each, takes, needs}
 
 module _ {A : Type 0} where
-  not-found : (o : Option A) → not (found o) ≡ true → o ≡ none
+  pub not-found : (o : Option A) → not (found o) ≡ true → o ≡ none
   not-found none e = refl
   not-found (some a) e = let z : _≡_ {A = ℕ} 0 1 = cc in absurd (omega arith)
 
-  is-found : (o : Option A) → found o ≡ true → (a : A) × (o ≡ some a)
+  pub is-found : (o : Option A) → found o ≡ true → (a : A) × (o ≡ some a)
   is-found none e = let z : _≡_ {A = ℕ} 0 1 = cc in absurd (omega arith)
   is-found (some a) e = (a, refl)
 

@@ -15,7 +15,7 @@ use Rattle.ports.specs.Ports.{arity, constantWords, formOf, legal}
 use Rattle.value.specs.Typed.{TypeCode, Word, Each}
 use Rattle.graph.specs.Outcome.{Outcome, ok, fault, _>>=_, _>>_, need, each}
 use Rattle.graph.specs.Graph.{Ref, Payload, consts, refs, calls, Node, Output, Function}
-use Rattle.graph.specs.Bytes.{byte, u16, u64}
+use Rattle.graph.specs.Bytes.{byte, u16, u64, Bytes}
 use Rattle.graph.specs.Read.{Format, version1, fits, inputs, reference, references, outputs, constants, Part, payload, node, nodes, function, functions, parse}
 use Rattle.graph.specs.Judge.{outputTypes, judgeAll, table}
 use Rattle.graph.specs.Sound.{AllWithin, Is, FormedPayload, FormedNode, Formed, AllFormed, AllSound}
@@ -23,10 +23,7 @@ use Rattle.graph.proofs.Loops.{and-inv}
 use Rattle.graph.proofs.Steps.{took, after, passed, ok-is}
 use Rattle.graph.proofs.Accept.{all-judged}
 
-abbrev pub Bytes : List ℕ → Type 0
-Bytes s = (i : ℕ) → byte s i < 256
-
-pub refs-length : (n : ℕ) (s : List ℕ) (at : ℕ) → length (references n s at) ≡ n
+refs-length : (n : ℕ) (s : List ℕ) (at : ℕ) → length (references n s at) ≡ n
 refs-length zero s at = refl
 refs-length (suc n) s at = ap suc (refs-length n s (at + 3))
 

@@ -1,5 +1,5 @@
 -- Numbers in bytes, the lowest byte first. Behind the end a byte is 0.
-use Prim.Native.Nat.{ℕ, _+_, _*_, _^_}
+use Prim.Native.Nat.{ℕ, _+_, _*_, _^_, _<_}
 use mathlib.Core.List.{List}
 use lib.ListN.{getD}
 
@@ -13,3 +13,7 @@ abbrev pub u64 : List ℕ → ℕ → ℕ
 u64 s at =
     byte s at + byte s (at + 1) * 256 + byte s (at + 2) * 256 ^ 2 + byte s (at + 3) * 256 ^ 3 + byte s (at + 4) * 256 ^ 4
     + byte s (at + 5) * 256 ^ 5 + byte s (at + 6) * 256 ^ 6 + byte s (at + 7) * 256 ^ 7
+
+-- a list of bytes
+abbrev pub Bytes : List ℕ → Type 0
+Bytes s = (i : ℕ) → byte s i < 256

@@ -10,3 +10,4 @@ pub mod Schedule
 pub mod Table
 pub mod Meaning
 pub mod Sound
+pub mod Rules

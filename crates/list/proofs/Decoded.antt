@@ -16,7 +16,8 @@ use Rattle.value.specs.Typed.{Word, Each, Finite}
 use Rattle.graph.specs.Bytes.{byte, u16}
 use Rattle.graph.specs.Read.{constants, Part}
 use Rattle.graph.proofs.Loops.{and-inv}
-use Rattle.graph.proofs.Formed.{Bytes, constants-length, constants-words}
+use Rattle.graph.specs.Bytes.{Bytes}
+use Rattle.graph.proofs.Formed.{constants-length, constants-words}
 use Rattle.list.specs.Board.{Instruction, BoardList}
 use Rattle.list.specs.Code.{guard, then, addresses, allBelow, allLess, readOperands, readKind, readInstruction, nextWord, Listed, readInstructions, readOutputs, withinLimits, readCounts, marked, decode}
 use Rattle.list.specs.Fit.{Below, Fit, AllFit, FitList}

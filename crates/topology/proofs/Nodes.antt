@@ -1,20 +1,20 @@
 -- Nodes by index and by id, and what the slots of a node hold.
-use Prim.Native.Nat.{ℕ, zero, suc, _+_, _≤_, _<_}
+use Prim.Native.Nat.{ℕ, zero, suc, _≤_, _<_}
 use mathlib.Core.Path.{_≡_, refl, ap, sym, _∙_, subst}
 use mathlib.Core.Bool.{Bool, true, false, cond}
 use mathlib.Core.List.{List, [], _∷_, map}
-use mathlib.Core.Option.{Option, none, some}
-use mathlib.Core.Logic.{_⊎_, inl, inr, ⊎-elim}
+use mathlib.Core.Option.{some}
+use mathlib.Core.Logic.{_⊎_, inl, inr}
 use native.Mathlib.Omega.{arith}
 use lib.Dec.{eqb}
 use lib.ListN.{length, getElem?}
-use borrow.Author.Tests.{eqb-true, eqb-false, eq-eqb}
+use borrow.Author.Tests.{eqb-true, eqb-false, eq-eqb, ne-eqb}
 use Rattle.graph.specs.Graph.{Ref, Node}
-use Rattle.graph.specs.Look.{findNode, member, reads}
+use Rattle.graph.specs.Look.{findNode, member}
 use Rattle.graph.specs.Sound.{Is}
 use Rattle.graph.proofs.Loops.{In}
 use Rattle.graph.proofs.Order.{ids}
-use Rattle.topology.specs.Resolve.{indexOf, target}
+use Rattle.topology.specs.Resolve.{indexOf}
 
 -- ---- what stands at an index
 
@@ -74,6 +74,21 @@ index-first (n ∷ ns) (suc v) x e = pickOne (eqb (n .id) (x .id)) (index-first 
     pickOne : (b : Bool) → indexOf (x .id) ns ≤ v → cond b 0 (suc (indexOf (x .id) ns)) ≤ suc v
     pickOne true h = omega arith
     pickOne false h = omega arith
+
+-- the first node that has the id stands at i
+pub index-here : (ns : List Node) (j i : ℕ) (x : Node) → getElem? ns i ≡ some x → x .id ≡ j
+    → ((v : ℕ) (y : Node) → v < i → getElem? ns v ≡ some y → y .id ≡ j → ⊥) → indexOf j ns ≡ i
+index-here [] j i x e q h = let z : _≡_ {A = ℕ} 0 1 = cc in absurd (omega arith)
+index-here (n ∷ ns) j zero x e q h = ap (λ (b : Bool). cond b 0 (suc (indexOf j ns))) (eq-eqb (n .id) j (ap (λ (m : Node). m .id) (some-is e) ∙ q))
+index-here (n ∷ ns) j (suc i) x e q h =
+    ap (λ (b : Bool). cond b 0 (suc (indexOf j ns))) (ne-eqb (n .id) j (h 0 n (omega arith) refl))
+    ∙ ap suc (index-here ns j i x e q (λ v y l s. h (suc v) y (omega arith) s))
+
+-- no node has it
+pub index-none : (ns : List Node) (j : ℕ) → ((v : ℕ) (y : Node) → getElem? ns v ≡ some y → y .id ≡ j → ⊥) → indexOf j ns ≡ length ns
+index-none [] j h = refl
+index-none (n ∷ ns) j h =
+    ap (λ (b : Bool). cond b 0 (suc (indexOf j ns))) (ne-eqb (n .id) j (h 0 n refl)) ∙ ap suc (index-none ns j (λ v y s. h (suc v) y s))
 
 -- ---- references by index
 

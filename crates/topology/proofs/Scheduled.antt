@@ -6,8 +6,7 @@ use mathlib.Core.List.{List, [], _∷_, map}
 use mathlib.Core.Option.{Option, none, some}
 use mathlib.Core.Logic.{_⊎_, inl, inr, ⊎-elim}
 use native.Mathlib.Omega.{arith}
-use native.Mathlib.Numerals.{add-one}
-use lib.Dec.{eqb, leb, ltb}
+use lib.Dec.{eqb, ltb}
 use lib.ListN.{length, getElem?}
 use borrow.Author.Tests.{eqb-true, eqb-false, eq-eqb, ne-eqb, le-leb, lt-leb, lt-ltb, le-ltb}
 use Rattle.graph.specs.Graph.{Ref, Node}
@@ -20,7 +19,7 @@ use Rattle.graph.proofs.Order.{ids}
 use Rattle.topology.specs.Indices.{firstOf, allOf, slot, settled, ready, eligible, next, orderFrom, indexOrder}
 use Rattle.topology.specs.Resolve.{indexOf, target, Resolves}
 use Rattle.topology.proofs.Range.{First, first-is, all-same}
-use Rattle.topology.proofs.Nodes.{at-is, at-below, below-at, some-is, index-of, in-index, index-first, ref-member}
+use Rattle.topology.proofs.Nodes.{at-is, some-is, index-of, in-index, index-first, ref-member}
 
 -- ---- the references one by one
 

@@ -6,6 +6,9 @@ ghost use lib.ListN.{length};
 ghost use lib.Seq.{sets};
 ghost use Rattle.topology.specs.Indices as Definition;
 ghost use Rattle.topology.specs.Indices.{firstOf, indexOrder, marked};
+ghost use Rattle.topology.specs.Paths.{onLoop, firstOnLoop};
+ghost use Rattle.topology.specs.Walk as Steps;
+ghost use Rattle.topology.specs.Walk.{walk, visitFrom, Room};
 
 // The first node on a loop, if there is one.
 pub enum OnLoop {
@@ -109,4 +112,86 @@ pub fn schedule(targets: &[u16; 4096], n: usize, order: &mut [u16; 256]) -> usiz
         }
     }
     count
+}
+
+// Marks the node that a slot holds and puts it at the queue's end, unless it is marked; the answer is the new end.
+fn visit(
+    n: usize,
+    target: u16,
+    seen: &mut [bool; 256],
+    queue: &mut [u16; 256],
+    tail: usize,
+) -> usize
+    requires { ⌜ (n ≤ 256) × Room (walk (now seen) (now queue) tail) ⌝ }
+    ensures { λ r. ⌜ walk (now (seen .exit)) (now (queue .exit)) r ≡ Steps.visit n target (walk (now (seen .entry)) (now (queue .entry)) tail) ⌝ }
+{
+    let v = wide(target);
+    if v < n {
+        if seen[v] {
+            tail
+        } else {
+            seen[v] = true;
+            queue[tail] = target;
+            tail + 1
+        }
+    } else {
+        tail
+    }
+}
+
+// The same for each slot of node i.
+fn visit_all(
+    targets: &[u16; 4096],
+    n: usize,
+    i: usize,
+    seen: &mut [bool; 256],
+    queue: &mut [u16; 256],
+    tail: usize,
+) -> usize
+    requires { ⌜ (n ≤ 256) × (i < 256) × Room (walk (now seen) (now queue) tail) ⌝ }
+    ensures { λ r. ⌜ walk (now (seen .exit)) (now (queue .exit)) r ≡ visitFrom (now (targets .entry)) n i 0 16 (walk (now (seen .entry)) (now (queue .entry)) tail) ⌝ }
+{
+    let mut s = 0;
+    let mut end = tail;
+    while s < 16 {
+        end = visit(n, targets[16 * i + s], seen, queue, end);
+        s += 1;
+    }
+    end
+}
+
+// Following slots from node i returns to it.
+fn on_loop(targets: &[u16; 4096], n: usize, i: usize) -> bool
+    requires { ⌜ (n ≤ 256) × (i < n) ⌝ }
+    ensures { λ r. ⌜ r ≡ onLoop (now (targets .entry)) n i ⌝ }
+{
+    let mut seen = [false; 256];
+    let mut queue = [0; 256];
+    let mut tail = visit_all(targets, n, i, &mut seen, &mut queue, 0);
+    let mut head = 0;
+    while head < tail {
+        let v = wide(queue[head]);
+        if seen[i] {
+            return true;
+        }
+        tail = visit_all(targets, n, v, &mut seen, &mut queue, tail);
+        head += 1;
+    }
+    seen[i]
+}
+
+// The first node from which following slots returns to it.
+pub fn first_on_loop(targets: &[u16; 4096], n: usize) -> OnLoop
+    requires { ⌜ n ≤ 256 ⌝ }
+    ensures { λ r. ⌜ r ≡ firstOnLoop (now (targets .entry)) n ⌝ }
+{
+    let mut i = 0;
+    while i < n {
+        if on_loop(targets, n, i) {
+            return OnLoop::At(i);
+        } else {
+            i += 1;
+        }
+    }
+    OnLoop::Nothing
 }

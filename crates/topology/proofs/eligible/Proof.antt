@@ -1,7 +1,7 @@
 use borrow.Author.Needs.{needs}
 use Rattle.topology.proofs.eligible.Statement.{statement}
 use Rattle.topology.proofs.eligible.Tie as tie
-use mathlib.Core.Path.{_≡_, sym, ap, _∙_}
+use mathlib.Core.Path.{sym, ap, _∙_}
 use mathlib.Core.Bool.{Bool, not, _&&_}
 use Rattle.topology.specs.Indices.{ready, marked}
 

@@ -2,7 +2,7 @@ use borrow.Author.Needs.{needs}
 use Rattle.topology.proofs.next_from.Statement.{statement}
 use Rattle.topology.proofs.next_from.Tie as tie
 use mathlib.Core.Path.{_≡_, refl, sym, _∙_}
-use Prim.Native.Nat.{ℕ, _≤_, _-_}
+use Prim.Native.Nat.{_≤_, _-_}
 use native.Mathlib.Omega.{arith}
 use Rattle.topology.specs.Indices.{firstOf, eligible, marked}
 use Rattle.topology.proofs.Range.{first-hit, first-miss, first-end}

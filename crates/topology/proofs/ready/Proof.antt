@@ -4,7 +4,7 @@ use Rattle.topology.proofs.ready.Tie as tie
 use mathlib.Core.Path.{_≡_, refl, sym, ap, _∙_}
 use mathlib.Core.Bool.{Bool}
 use mathlib.Core.List.{List}
-use Prim.Native.Nat.{ℕ, _≤_, _-_}
+use Prim.Native.Nat.{ℕ, _≤_, _<_, _-_}
 use native.Mathlib.Omega.{arith}
 use Rattle.topology.specs.Indices.{allOf, slot, settled, marked}
 use Rattle.topology.proofs.Range.{all-hit, all-miss, all-end}
@@ -32,12 +32,14 @@ answered c =
 loop-again : tie.Need-loop-again Inv-loop μ-loop
 loop-again c =
     let l = c .before .before .before .before .before .loop in
-    (search needs, l .inv .1 ∙ all-hit _ 16 (l .j) (c .before .before .before .before .loop-test .taken) (answered (c .before) ∙ c .if1 .taken))
+    let h : l .j < 16 = omega arith in
+    (search needs, l .inv .1 ∙ all-hit _ 16 (l .j) h (answered (c .before) ∙ c .if1 .taken))
 
 returns : tie.Need-returns Inv-loop μ-loop
 returns c =
     let l = c .before .before .before .before .before .loop in
-    sym (l .inv .1 ∙ all-miss _ 16 (l .j) (c .before .before .before .before .loop-test .taken) (answered (c .before) ∙ c .if1 .left))
+    let h : l .j < 16 = omega arith in
+    sym (l .inv .1 ∙ all-miss _ 16 (l .j) h (answered (c .before) ∙ c .if1 .left))
 
 returns-2 : tie.Need-returns-2 Inv-loop μ-loop
 returns-2 c = let l = c .before .loop in sym (l .inv .1 ∙ all-end _ 16 (l .j) (c .loop-test .left))

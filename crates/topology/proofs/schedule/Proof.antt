@@ -1,8 +1,7 @@
 use borrow.Author.Needs.{needs}
 use Rattle.topology.proofs.schedule.Statement.{statement}
 use Rattle.topology.proofs.schedule.Tie as tie
-use Prim.Native.Nat.{ℕ, _≤_, _-_}
-use native.Mathlib.Omega.{arith}
+use Prim.Native.Nat.{_-_}
 use Rattle.topology.proofs.Marks.{Scheduling, scheduling-none, scheduling-stuck, scheduling-step, scheduling-full}
 
 abbrev Inv-loop : tie.InvT-loop
