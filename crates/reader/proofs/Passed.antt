@@ -1,0 +1,306 @@
+-- Nodes and functions whose reading passed.
+use Prim.Native.Nat.{ℕ, zero, suc, _+_, _-_, _*_, _≤_, _<_}
+use mathlib.Core.Path.{_≡_, refl, ap, sym, _∙_, subst}
+use mathlib.Core.Bool.{Bool, true, false, _&&_, cond}
+use mathlib.Core.Option.{Option, none, some}
+use mathlib.Core.List.{List, [], _∷_}
+use native.Mathlib.Omega.{arith}
+use native.Mathlib.Nat.{not-suc-le-zero}
+use native.Mathlib.Numerals.{add-one}
+use lib.Dec.{leb, eqb}
+use lib.ListN.{length, getD}
+use borrow.Author.Tests.{leb-true, leb-false, eq-eqb, ne-eqb}
+use Rattle.ports.specs.declared.Form.{Form}
+use Rattle.ports.specs.declared.Form.the-variants.{Absent, Constant, References, Call}
+use Rattle.ports.specs.declared.Ports.{Ports}
+use Rattle.ports.specs.Kinds.{Kind, kindOf}
+use Rattle.ports.specs.Ports.{absent, portsOf, arity, constantIn, constantWords, formOf, exists, typeFits, legal}
+use Rattle.ports.proofs.Laws.{no-kind}
+use Rattle.graph.specs.Outcome.{Outcome, ok, fault}
+use Rattle.graph.specs.Bytes.{byte, u16}
+use Rattle.graph.specs.Graph.{Payload, Node, Output, Function}
+use Rattle.graph.specs.Look.{findNode, findFunction}
+use Rattle.graph.specs.Read.{version1, inRange, inputs, outputs, Part, payload, node, nodes, function, functions, parse}
+use Rattle.graph.proofs.Loops.{and-inv}
+use Rattle.graph.proofs.Steps.{took, passed}
+use Rattle.reader.specs.Layout.{kindAt, payloadEnd, nodeAt, nodeEnd, nodesAt, nodePlace, inputCount, outputCount, nodeCount, outputsPlace, nodesPlace, functionAt, functionEnd, functionPlace, earlier}
+use Rattle.reader.specs.Find.{ReadsNode, ReadsNodes, ReadsFunction, nodeFound, functionFound}
+use Rattle.reader.specs.declared.Found.the-variants.{At, Nothing}
+use Rattle.reader.proofs.Standing.{node-read, nodes-read, function-read}
+
+-- ---- one node
+
+payload-fits : (h : Form) (k : Kind) (s : List ℕ) (at : ℕ) (p : Part Payload) → payload h k s at ≡ ok p → payloadEnd h k s at ≤ length s
+payload-fits Absent k s at p e = let z : _≡_ {A = ℕ} 0 1 = cc in absurd (omega arith)
+payload-fits Constant k s at p e = let (t, e1) = passed _ _ _ _ _ e in leb-true _ _ t
+payload-fits References k s at p e = let (t, e1) = passed _ _ _ _ _ e in leb-true _ _ t
+payload-fits Call k s at p e =
+    let (t, e1) = passed _ _ _ _ _ e in
+    let (f, e2) = passed _ _ _ _ _ e1 in
+    let (u, e3) = passed _ _ _ _ _ e2 in
+    leb-true _ _ u
+
+-- the head of a call fits too
+call-fits : (h : Form) (k : Kind) (s : List ℕ) (at : ℕ) (p : Part Payload) → payload h k s at ≡ ok p → h ≡ Call → (at + 3 ≤ length s) × (byte s (at + 2) ≤ 8)
+call-fits Absent k s at p e q = let z : _≡_ {A = ℕ} 0 1 = cc in absurd (omega arith)
+call-fits Constant k s at p e q = let z : _≡_ {A = ℕ} 0 1 = cc in absurd (omega arith)
+call-fits References k s at p e q = let z : _≡_ {A = ℕ} 0 1 = cc in absurd (omega arith)
+call-fits Call k s at p e q =
+    let (t, e1) = passed _ _ _ _ _ e in
+    let (f, e2) = passed _ _ _ _ _ e1 in
+    (leb-true _ _ t, leb-true _ _ f)
+
+module _ (s : List ℕ) (at : ℕ) where
+  pub head-fits : ReadsNode s at → at + 4 ≤ length s
+  head-fits (x, e) = let (t, e1) = passed _ _ _ _ _ e in leb-true _ _ t
+
+  pub end-fits : ReadsNode s at → nodeEnd s at ≤ length s
+  unfolding nodeEnd
+  end-fits (x, e) =
+      let (t, e1) = passed _ _ _ _ _ e in
+      let (u, e2) = passed _ _ _ _ _ e1 in
+      let (p, ep, e3) = took _ _ _ e2 in
+      payload-fits (formOf (kindAt s at)) (kindAt s at) s (at + 4) p ep
+
+  pub callee-fits : ReadsNode s at → formOf (kindAt s at) ≡ Call → (at + 4 + 3 ≤ length s) × (byte s (at + 4 + 2) ≤ 8)
+  callee-fits (x, e) q =
+      let (t, e1) = passed _ _ _ _ _ e in
+      let (u, e2) = passed _ _ _ _ _ e1 in
+      let (p, ep, e3) = took _ _ _ e2 in
+      call-fits (formOf (kindAt s at)) (kindAt s at) s (at + 4) p ep q
+
+  -- its kind is one of the port list, and its id is not 0
+  pub node-legal : ReadsNode s at → (1 ≤ u16 s at) × (legal (kindAt s at) (byte s (at + 3)) ≡ true)
+  node-legal (x, e) =
+      let (t, e1) = passed _ _ _ _ _ e in
+      let (u, e2) = passed _ _ _ _ _ e1 in
+      let (i, l) = and-inv (leb 1 (u16 s at)) (legal (kindAt s at) (byte s (at + 3))) u in
+      (leb-true _ _ i, l)
+
+illegal : (k t : ℕ) → legal (kindOf k) t ≡ true → 25 ≤ k → ⊥
+illegal k t l h =
+    let e : portsOf (kindOf k) ≡ absent = no-kind k h in
+    let (a, b) = and-inv (exists (formOf (kindOf k))) (typeFits (portsOf (kindOf k)) t) l in
+    let q : false ≡ true = sym (ap (λ (r : Ports). exists (r .form)) e) ∙ a in
+    let z : _≡_ {A = ℕ} 0 1 = cc in
+    omega arith
+
+pub kind-below : (s : List ℕ) (at : ℕ) → ReadsNode s at → byte s (at + 2) < 25
+kind-below s at r = let f : 25 ≤ byte s (at + 2) → ⊥ = illegal (byte s (at + 2)) (byte s (at + 3)) (node-legal s at r .1) in pickOne (leb 25 (byte s (at + 2))) refl f
+  where
+    pickOne : (b : Bool) → leb 25 (byte s (at + 2)) ≡ b → (25 ≤ byte s (at + 2) → ⊥) → byte s (at + 2) < 25
+    pickOne true q f = absurd (f (leb-true _ _ q))
+    pickOne false q f = leb-false _ _ q
+
+-- where it ends, by its kind's row
+module _ (s : List ℕ) (at : ℕ) (row : Ports) (e : row ≡ portsOf (kindAt s at)) where
+  pub form-is : (h : Form) → row .form ≡ h → formOf (kindAt s at) ≡ h
+  form-is h q = ap (λ (r : Ports). r .form) (sym e) ∙ q
+
+  end-form : (h : Form) → row .form ≡ h → payloadEnd h (kindAt s at) s (at + 4) ≡ nodeEnd s at
+  unfolding nodeEnd
+  end-form h q = ap (λ (f : Form). payloadEnd f (kindAt s at) s (at + 4)) (sym (form-is h q))
+
+  pub end-absent : row .form ≡ Absent → at + 4 ≡ nodeEnd s at
+  end-absent q = end-form Absent q
+
+  words-is : row .form ≡ Constant → row .words ≡ constantWords (kindAt s at)
+  words-is q = ap (λ (r : Ports). r .words) e ∙ ap (λ (f : Form). constantIn f (portsOf (kindAt s at) .words)) (sym (form-is Constant q))
+
+  pub end-constant : row .form ≡ Constant → at + 4 + 8 * row .words ≡ nodeEnd s at
+  end-constant q = ap (λ (n : ℕ). at + 4 + 8 * n) (words-is q) ∙ end-form Constant q
+
+  pub end-references : row .form ≡ References → at + 4 + 3 * row .operands ≡ nodeEnd s at
+  end-references q = ap (λ (r : Ports). at + 4 + 3 * r .operands) e ∙ end-form References q
+
+  pub end-call : row .form ≡ Call → at + 4 + 3 + 3 * byte s (at + 4 + 2) ≡ nodeEnd s at
+  end-call q = end-form Call q
+
+-- ---- several nodes
+
+module _ (s : List ℕ) where
+  pub first-reads : (n at : ℕ) → 0 < n → ReadsNodes n s at → ReadsNode s at
+  first-reads zero at h r = absurd (not-suc-le-zero h)
+  first-reads (suc n) at h (p, e) = let (x, ex, e1) = took _ _ _ e in (x, ex)
+
+  pub rest-reads : (n at : ℕ) → 0 < n → ReadsNodes n s at → ReadsNodes (n - 1) s (nodeEnd s at)
+  rest-reads zero at h r = absurd (not-suc-le-zero h)
+  rest-reads (suc n) at h (p, e) =
+      let (x, ex, e1) = took _ _ _ e in
+      let (r, er, e2) = took _ _ _ e1 in
+      let m : suc n - 1 ≡ n = omega arith in
+      let w : x .next ≡ nodeEnd s at = ap (λ (y : Part Node). y .next) (node-read s at x ex) in
+      (r, ap (λ (k : ℕ). nodes k s (nodeEnd s at)) m ∙ (ap (nodes n s) (sym w) ∙ er))
+
+  pub place-next : (j at : ℕ) → nodePlace s at (j + 1) ≡ nodeEnd s (nodePlace s at j)
+  unfolding nodePlace
+  place-next zero at = refl
+  place-next (suc j) at = rw (add-one (suc j)) (rw add-one at (place-next j (nodeEnd s at)))
+
+  pub place-reads : (n j at : ℕ) → j < n → ReadsNodes n s at → ReadsNode s (nodePlace s at j)
+  unfolding nodePlace
+  place-reads n zero at h r = first-reads n at h r
+  place-reads n (suc j) at h r = place-reads (n - 1) j (nodeEnd s at) (omega arith) (rest-reads n at (omega arith) r)
+
+-- ---- a function
+
+inputs-fit : (n : ℕ) (s : List ℕ) (at : ℕ) (ts : List ℕ) → inputs n s at ≡ ok ts → at ≤ length s → at + n ≤ length s
+inputs-fit zero s at ts e h = omega arith
+inputs-fit (suc n) s at ts e h =
+    let (a, e1) = passed _ _ _ _ _ e in
+    let (b, e2) = passed _ _ _ _ _ e1 in
+    let (r, er, e3) = took _ _ _ e2 in
+    let l : at + 1 ≤ length s = leb-true _ _ a in
+    let m = inputs-fit n s (at + 1) r er l in
+    omega arith
+
+outputs-fit : (n : ℕ) (s : List ℕ) (at : ℕ) (os : List Output) → outputs n s at ≡ ok os → at ≤ length s → at + 4 * n ≤ length s
+outputs-fit zero s at os e h = omega arith
+outputs-fit (suc n) s at os e h =
+    let (a, e1) = passed _ _ _ _ _ e in
+    let (b, e2) = passed _ _ _ _ _ e1 in
+    let (r, er, e3) = took _ _ _ e2 in
+    let l : at + 4 ≤ length s = leb-true _ _ a in
+    let m = outputs-fit n s (at + 4) r er l in
+    omega arith
+
+-- what is known of a function that was read
+pub record Holds (s : List ℕ) (at : ℕ) : Type 0 where
+  pub head : at + 6 ≤ length s
+  pub inputs : at + 6 + inputCount s at ≤ length s
+  pub outputs : nodesPlace s at ≤ length s
+  pub few : nodeCount s at ≤ 256
+  pub nodes : ReadsNodes (nodeCount s at) s (nodesPlace s at)
+
+pub function-holds : (s : List ℕ) (at : ℕ) → ReadsFunction s at → Holds s at
+function-holds s at (x, e) =
+    let (t, e1) = passed _ _ _ _ _ e in
+    let (u, e2) = passed _ _ _ _ _ e1 in
+    let (ins, ei, e3) = took _ _ _ e2 in
+    let (outs, eo, e4) = took _ _ _ e3 in
+    let (ns, en, e5) = took _ _ _ e4 in
+    let nin = byte s (at + 2) in
+    let nout = byte s (at + 3) in
+    let (u1, u2) = and-inv (leb 1 (u16 s at) && leb nin 8 && (leb 1 nout && leb nout 8)) (leb (u16 s (at + 4)) 256) u in
+    let h : at + 6 ≤ length s = leb-true _ _ t in
+    let i : at + 6 + nin ≤ length s = inputs-fit nin s (at + 6) ins ei h in
+    record { head = h; inputs = i; outputs = outputs-fit nout s (at + 6 + nin) outs eo i; few = leb-true _ _ u2; nodes = (ns, en) }
+
+module _ (s : List ℕ) (at : ℕ) where
+  pub function-fits : ReadsFunction s at → at + 6 ≤ length s
+  function-fits r = function-holds s at r .head
+
+-- ---- looking up
+
+module _ (s : List ℕ) (id : ℕ) where
+  pub node-hit : (n at i : ℕ) → 0 < n → u16 s at ≡ id → nodeFound i id (nodesAt n s at) ≡ At i at
+  unfolding nodeAt nodesAt
+  node-hit zero at i h e = absurd (not-suc-le-zero h)
+  node-hit (suc n) at i h e = rw (eq-eqb (u16 s at) id e)
+
+  pub node-miss :
+      (n at i : ℕ) → 0 < n → (u16 s at ≡ id → ⊥) → nodeFound i id (nodesAt n s at) ≡ nodeFound (i + 1) id (nodesAt (n - 1) s (nodeEnd s at))
+  unfolding nodeAt nodesAt
+  node-miss zero at i h e = absurd (not-suc-le-zero h)
+  node-miss (suc n) at i h e =
+      let m : suc n - 1 ≡ n = omega arith in
+      rw (ne-eqb (u16 s at) id e, m)
+
+length-earlier : (begin : ℕ) (s : List ℕ) (k : ℕ) → length (earlier begin s k) ≡ k
+unfolding earlier
+length-earlier begin s zero = refl
+length-earlier begin s (suc k) = ap suc (length-earlier begin s k)
+
+module _ (begin : ℕ) (s : List ℕ) (id : ℕ) where
+  pub function-hit :
+      (k at : ℕ) → 0 < k → at ≡ functionPlace begin s (k - 1) → u16 s at ≡ id → functionFound id (earlier begin s k) ≡ At (k - 1) at
+  unfolding functionAt earlier
+  function-hit zero at h q e = absurd (not-suc-le-zero h)
+  function-hit (suc k) at h q e =
+      let m : suc k - 1 ≡ k = omega arith in
+      let p : at ≡ functionPlace begin s k = q ∙ ap (functionPlace begin s) m in
+      rw (eq-eqb (u16 s (functionPlace begin s k)) id (ap (u16 s) (sym p) ∙ e), length-earlier begin s k, m, p)
+
+  pub function-miss :
+      (k at : ℕ) → 0 < k → at ≡ functionPlace begin s (k - 1) → (u16 s at ≡ id → ⊥)
+      → functionFound id (earlier begin s k) ≡ functionFound id (earlier begin s (k - 1))
+  unfolding functionAt earlier
+  function-miss zero at h q e = absurd (not-suc-le-zero h)
+  function-miss (suc k) at h q e =
+      let m : suc k - 1 ≡ k = omega arith in
+      let p : at ≡ functionPlace begin s k = q ∙ ap (functionPlace begin s) m in
+      rw (ne-eqb (u16 s (functionPlace begin s k)) id (λ w. e (ap (u16 s) p ∙ w)), m)
+
+-- what a function that is found is
+pub found-function :
+    (begin : ℕ) (s : List ℕ) (id k j p : ℕ) → functionFound id (earlier begin s k) ≡ At j p
+    → (j < k) × (p ≡ functionPlace begin s j) × (findFunction id (earlier begin s k) ≡ some (functionAt s p))
+unfolding functionAt earlier
+found-function begin s id zero j p e = let z : _≡_ {A = ℕ} 0 1 = cc in absurd (omega arith)
+found-function begin s id (suc k) j p e = pickOne (eqb (u16 s (functionPlace begin s k)) id) (λ w. found-function begin s id k j p w) e
+  where
+    pickOne :
+        (b : Bool)
+        → (functionFound id (earlier begin s k) ≡ At j p → (j < k) × (p ≡ functionPlace begin s j) × (findFunction id (earlier begin s k) ≡ some (functionAt s p)))
+        → cond b (At (length (earlier begin s k)) (functionPlace begin s k)) (functionFound id (earlier begin s k)) ≡ At j p
+        → (j < suc k) × (p ≡ functionPlace begin s j) × (cond b (some (functionAt s (functionPlace begin s k))) (findFunction id (earlier begin s k)) ≡ some (functionAt s p))
+    pickOne true ih w =
+        let a : length (earlier begin s k) ≡ j = cc in
+        let q : functionPlace begin s k ≡ p = cc in
+        let m : j ≡ k = sym a ∙ length-earlier begin s k in
+        (omega arith, sym q ∙ ap (functionPlace begin s) (sym m), ap (λ (x : ℕ). some (functionAt s x)) q)
+    pickOne false ih w = let (a, q, f) = ih w in (omega arith, q, f)
+
+pub no-function : (begin : ℕ) (s : List ℕ) (id k : ℕ) → functionFound id (earlier begin s k) ≡ Nothing → findFunction id (earlier begin s k) ≡ none
+unfolding functionAt earlier
+no-function begin s id zero e = refl
+no-function begin s id (suc k) e = pickOne (eqb (u16 s (functionPlace begin s k)) id) (λ w. no-function begin s id k w) e
+  where
+    pickOne :
+        (b : Bool) → (functionFound id (earlier begin s k) ≡ Nothing → findFunction id (earlier begin s k) ≡ none)
+        → cond b (At (length (earlier begin s k)) (functionPlace begin s k)) (functionFound id (earlier begin s k)) ≡ Nothing
+        → cond b (some (functionAt s (functionPlace begin s k))) (findFunction id (earlier begin s k)) ≡ none
+    pickOne true ih w = let z : _≡_ {A = ℕ} 0 1 = cc in absurd (omega arith)
+    pickOne false ih w = ih w
+
+-- what a node that is found is
+pub record FoundNode (s : List ℕ) (id n first i j p : ℕ) : Type 0 where
+  pub reads : ReadsNode s p
+  pub find : findNode id (nodesAt n s first) ≡ some (nodeAt s p)
+  pub low : i ≤ j
+  pub below : j < i + n
+
+pub found-node : (s : List ℕ) (id n first i j p : ℕ) → ReadsNodes n s first → nodeFound i id (nodesAt n s first) ≡ At j p → FoundNode s id n first i j p
+unfolding nodeAt nodesAt
+found-node s id zero first i j p r e = let z : _≡_ {A = ℕ} 0 1 = cc in absurd (omega arith)
+found-node s id (suc n) first i j p r e =
+    let m : suc n - 1 ≡ n = omega arith in
+    let q = subst (λ (k : ℕ). ReadsNodes k s (nodeEnd s first)) m (rest-reads s (suc n) first (omega arith) r) in
+    let (a, b, c, d) = pickOne (eqb (u16 s first) id) (λ w. found-node s id n (nodeEnd s first) (i + 1) j p q w) e in
+    record { reads = a; find = b; low = c; below = d }
+  where
+    pickOne :
+        (b : Bool) → (nodeFound (i + 1) id (nodesAt n s (nodeEnd s first)) ≡ At j p → FoundNode s id n (nodeEnd s first) (i + 1) j p)
+        → cond b (At i first) (nodeFound (i + 1) id (nodesAt n s (nodeEnd s first))) ≡ At j p
+        → ReadsNode s p × (cond b (some (nodeAt s first)) (findNode id (nodesAt n s (nodeEnd s first))) ≡ some (nodeAt s p)) × (i ≤ j) × (j < i + suc n)
+    pickOne true ih w =
+        let a : i ≡ j = cc in
+        let q : first ≡ p = cc in
+        (subst (ReadsNode s) q (first-reads s (suc n) first (omega arith) r), ap (λ (x : ℕ). some (nodeAt s x)) q, omega arith, omega arith)
+    pickOne false ih w =
+        let g = ih w in
+        let a = g .low in
+        let b = g .below in
+        (g .reads, g .find, omega arith, omega arith)
+
+pub no-node : (s : List ℕ) (id n first i : ℕ) → nodeFound i id (nodesAt n s first) ≡ Nothing → findNode id (nodesAt n s first) ≡ none
+unfolding nodeAt nodesAt
+no-node s id zero first i e = refl
+no-node s id (suc n) first i e = pickOne (eqb (u16 s first) id) (λ w. no-node s id n (nodeEnd s first) (i + 1) w) e
+  where
+    pickOne :
+        (b : Bool) → (nodeFound (i + 1) id (nodesAt n s (nodeEnd s first)) ≡ Nothing → findNode id (nodesAt n s (nodeEnd s first)) ≡ none)
+        → cond b (At i first) (nodeFound (i + 1) id (nodesAt n s (nodeEnd s first))) ≡ Nothing
+        → cond b (some (nodeAt s first)) (findNode id (nodesAt n s (nodeEnd s first))) ≡ none
+    pickOne true ih w = let z : _≡_ {A = ℕ} 0 1 = cc in absurd (omega arith)
+    pickOne false ih w = ih w
