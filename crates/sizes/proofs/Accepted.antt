@@ -140,11 +140,11 @@ module _ (s : List ℕ) where
 sound-at : (s : List ℕ) (n k : ℕ) → k < n → AllSound (earlier 8 s n) → AllSound (earlier 8 s (suc k))
 unfolding earlier
 sound-at s zero k l h = absurd (omega arith)
-sound-at s (suc n) k l (a, h) = pickOne (eqb k n) refl
+sound-at s (suc n) k l (a, h) = pickOne (eqb k n) refl (λ m. sound-at s n k m h)
   where
-    pickOne : (b : Bool) → eqb k n ≡ b → AllSound (earlier 8 s (suc k))
-    pickOne true e = let q : n ≡ k = sym (eqb-true k n e) in subst (λ (j : ℕ). AllSound (earlier 8 s (suc j))) q (a, h)
-    pickOne false e = let q : k ≡ n → ⊥ = eqb-false k n e in sound-at s n k (omega arith) h
+    pickOne : (b : Bool) → eqb k n ≡ b → (k < n → AllSound (earlier 8 s (suc k))) → AllSound (earlier 8 s (suc k))
+    pickOne true e ih = let q : n ≡ k = sym (eqb-true k n e) in subst (λ (j : ℕ). AllSound (earlier 8 s (suc j))) q (a, h)
+    pickOne false e ih = let q : k ≡ n → ⊥ = eqb-false k n e in ih (omega arith)
 
 module _ (s : List ℕ) (n : ℕ) (e : verdict s ≡ ok n) (small : Bytes s) where
   pub all-fit : AllFit s n

@@ -78,6 +78,19 @@ leb-cap limit n = by-limit (leb n limit) refl
     by-limit true e = let h : n ≤ limit = leb-true n limit e in le-leb (min (suc limit) n) limit (omega arith) ∙ sym e
     by-limit false e = let h : limit < n = leb-false n limit e in lt-leb (min (suc limit) n) limit (omega arith) ∙ sym e
 
+module _ (o w b u : ℕ) where
+  pub code-within : o ≤ 4096 → w ≤ 8192 → 12 + b + 2 * u ≡ codeSize o w b u
+  unfolding codeSize
+  code-within l m = rw (le-leb o 4096 l, le-leb w 8192 m)
+
+  pub words-over : o ≤ 4096 → 8192 < w → 0 ≡ codeSize o w b u
+  unfolding codeSize
+  words-over l m = rw (le-leb o 4096 l, lt-leb w 8192 m)
+
+  pub operations-over : 4096 < o → 0 ≡ codeSize o w b u
+  unfolding codeSize
+  operations-over l = rw (lt-leb o 4096 l)
+
 module _ (early : List Function) (f : Function) (sound : AllSound (f ∷ early)) where
   code-is : (outputs : ℕ) → outputs ≡ widths (outputTypes (f .outputs)) → (a b : Bool) → leb (functionOperations (operationsOf early) f) 4096 ≡ a
       → cond (a && b) (12 + min byteCap (functionBytes (bytesOfFunction early) f) + 2 * outputs) 0 ≡ cond (a && b) (length (encode (boardListOf early f))) 0

@@ -9,7 +9,7 @@ use Rattle.ports.specs.Ports.{width, widths}
 use Rattle.graph.specs.Bytes.{byte}
 use Rattle.graph.specs.Graph.{Output, Function}
 use Rattle.graph.specs.Judge.{outputTypes}
-use Rattle.reader.specs.Layout.{inputsAt, outputsAt, inputCount, outputCount, outputsPlace, functionAt}
+use Rattle.reader.specs.Layout.{inputsAt, outputsAt, inputCount, outputCount, outputsPlace, functionAt, functionPlace, functionOf}
 use Rattle.sizes.specs.Answers.{typesAt}
 
 -- ---- the types at their places
@@ -31,6 +31,18 @@ module _ (s : List ℕ) (p : ℕ) where
   pub output-widths : widths (typesAt (outputCount s p) s (outputsPlace s p) 4) ≡ widths (outputTypes (functionAt s p .outputs))
   unfolding functionAt
   output-widths = ap widths (outputs-are (outputCount s p) s (outputsPlace s p))
+
+-- of the function at position k, whose place is p
+module _ (s : List ℕ) (k p : ℕ) (e : p ≡ functionPlace 8 s k) where
+  pub inputs-by : (i : ℕ) → i ≡ byte s (p + 2) → widths (typesAt i s (p + 6) 1) ≡ widths (functionOf 8 s k .inputs)
+  inputs-by i q = ap (λ (n : ℕ). widths (typesAt n s (p + 6) 1)) q ∙ input-widths s p ∙ ap (λ (x : ℕ). widths (functionAt s x .inputs)) e
+
+  pub outputs-by : (i n : ℕ) → i ≡ byte s (p + 2) → n ≡ byte s (p + 3) → widths (typesAt n s (p + 6 + i) 4) ≡ widths (outputTypes (functionOf 8 s k .outputs))
+  outputs-by i n q r =
+      ap (λ (m : ℕ). widths (typesAt m s (p + 6 + i) 4)) r
+      ∙ ap (λ (m : ℕ). widths (typesAt (outputCount s p) s (p + 6 + m) 4)) q
+      ∙ output-widths s p
+      ∙ ap (λ (x : ℕ). widths (outputTypes (functionAt s x .outputs))) e
 
 -- ---- one after another
 
