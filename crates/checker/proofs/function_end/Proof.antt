@@ -29,7 +29,7 @@ nodes c κs =
     let d = c .before .before in
     let b = d .before .before .before .before .before in
     let s = b .args .s .now in
-    (subst (λ (n : ℕ). ReadsNodes n s _) (sym (count c)) (subst (ReadsNodes (nodeCount s (b .args .at)) s) (sym (first d)) (holds b .nodes)), omega arith)
+    (subst (λ (n : ℕ). ReadsNodes n s (b .args .at + 6 + d .before .before .size .result + 4 * d .size2 .result)) (sym (count c)) (subst (ReadsNodes (nodeCount s (b .args .at)) s) (sym (first d)) (holds b .nodes)), omega arith)
 
 returns : tie.Need-returns
 unfolding functionEnd

@@ -1,175 +1,218 @@
 use borrow.Author.Needs.{needs}
+use Prim.Native.Nat.{ℕ, _+_, _*_, _≤_, _<_}
+use mathlib.Core.Path.{_≡_, ap, sym, _∙_, subst}
+use mathlib.Core.Option.{Option, none, some}
+use native.Mathlib.Omega.{arith}
+use lib.ListN.{length}
+use Rattle.ports.specs.declared.Form.{Form}
+use Rattle.ports.specs.declared.Ports.{Ports}
+use Rattle.ports.specs.Kinds.{kindOf}
+use Rattle.ports.specs.Ports.{formOf, own, types}
+use Rattle.graph.specs.Bytes.{byte, u16}
+use Rattle.graph.specs.Look.{findFunction}
+use Rattle.graph.specs.Read.{version1, references}
+use Rattle.reader.specs.Layout.{kindAt, nodeAt, nodeEnd, inputsAt, functionAt, functionPlace, earlier}
+use Rattle.reader.specs.Find.{ReadsFunction, functionFound}
+use Rattle.reader.specs.Records.{seen}
+use Rattle.reader.proofs.Rows.{operands-few}
+use Rattle.reader.proofs.Passed.{head-fits, end-fits, callee-fits, function-holds, found-function, no-function, form-is, end-references, end-call}
+use Rattle.checker.specs.Answers.{referencesChecked}
+use Rattle.checker.proofs.Wiring.{absent-node, constant-node, references-node, call-found, call-count, call-node}
+use Rattle.checker.proofs.Slotting.{row-empty, row-filled}
 use Rattle.checker.proofs.node_good.Statement.{statement}
 use Rattle.checker.proofs.node_good.Tie as tie
-use Rattle.checker.proofs.node_good.Reads as reads
-use Rattle.checker.proofs.node_good.Lts as lts
-use Rattle.checker.proofs.clear_row.Reads as clear-row-reads
-use Rattle.checker.proofs.references_good.Reads as references-good-reads
-use Rattle.checker.proofs.size.Reads as size-reads
-use Rattle.ports.proofs.own.Reads as own-reads
-use Rattle.ports.proofs.ports_of.Reads as ports-of-reads
-use Rattle.reader.proofs.find_function.Reads as find-function-reads
-use Rattle.reader.proofs.u16_at.Reads as u16-at-reads
 
--- src/lib.rt:312:5
-clear-row-requires : tie.Need-clear-row-requires
-clear-row-requires c κs = search needs
+head : (b : tie.Start) → b .args .at + 4 ≤ length (b .args .s .now)
+head b = head-fits (b .args .s .now) (b .args .at) (b .pre .1)
 
--- src/lib.rt:313:33
-add-ports-of : tie.Need-add-ports-of
-add-ports-of c = ?
+ends : (b : tie.Start) → nodeEnd (b .args .s .now) (b .args .at) ≤ length (b .args .s .now)
+ends b = end-fits (b .args .s .now) (b .args .at) (b .pre .1)
 
--- src/lib.rt:313:31
-shared-slice-read-ports-of : tie.Need-shared-slice-read-ports-of
-shared-slice-read-ports-of c = ?
+form : (d : tie.After-ports-of) (h : Form) → d .ports-of .result .form ≡ h → let a = d .before .before .before .before .before .args in
+    formOf (kindAt (a .s .now) (a .at)) ≡ h
+form d h e = let a = d .before .before .before .before .before .args in form-is (a .s .now) (a .at) (d .ports-of .result) (d .ports-of .ensures) h e
 
--- src/lib.rt:313:9
-ports-of-requires : tie.Need-ports-of-requires
-ports-of-requires c κs = search needs
+-- ---- no references
 
--- src/lib.rt:314:16
-add-ty : tie.Need-add-ty
-add-ty c = ?
-
--- src/lib.rt:314:14
-shared-slice-read-ty : tie.Need-shared-slice-read-ty
-shared-slice-read-ty c = ?
-
--- src/lib.rt:317:25
-enum-told : tie.Need-enum-told
-enum-told c = search needs
-
--- src/lib.rt:318:27
-enum-told-2 : tie.Need-enum-told-2
-enum-told-2 c = search needs
-
--- src/lib.rt:320:36
-enum-told-3 : tie.Need-enum-told-3
-enum-told-3 c = search needs
-
--- src/lib.rt:320:36
-own-requires : tie.Need-own-requires
-own-requires c κs = search needs
-
--- src/lib.rt:320:63
-own-requires-2 : tie.Need-own-requires-2
-own-requires-2 c κs = search needs
-
--- src/lib.rt:321:52
-add-references-good : tie.Need-add-references-good
-add-references-good c = ?
-
--- src/lib.rt:321:60
-size-requires : tie.Need-size-requires
-size-requires c κs = search needs
-
--- src/lib.rt:321:13
-references-good-requires : tie.Need-references-good-requires
-references-good-requires c κs = ?
-
--- src/lib.rt:324:79
-enum-told-4 : tie.Need-enum-told-4
-enum-told-4 c = search needs
-
--- src/lib.rt:324:79
-add-u16-at : tie.Need-add-u16-at
-add-u16-at c = ?
-
--- src/lib.rt:324:61
-u16-at-requires : tie.Need-u16-at-requires
-u16-at-requires c κs = ?
-
--- src/lib.rt:324:17
-find-function-requires : tie.Need-find-function-requires
-find-function-requires c κs = search needs
-
--- src/lib.rt:326:30
-enum-known-found : tie.Need-enum-known-found
-enum-known-found c = search needs
-
--- src/lib.rt:326:86
-add-references-good-2 : tie.Need-add-references-good-2
-add-references-good-2 c = ?
-
--- src/lib.rt:326:86
-add-references-good-3 : tie.Need-add-references-good-3
-add-references-good-3 c = ?
-
--- src/lib.rt:326:105
-add-size : tie.Need-add-size
-add-size c = ?
-
--- src/lib.rt:326:105
-add-size-2 : tie.Need-add-size-2
-add-size-2 c = ?
-
--- src/lib.rt:326:103
-shared-slice-read-size : tie.Need-shared-slice-read-size
-shared-slice-read-size c = ?
-
--- src/lib.rt:326:98
-size-requires-2 : tie.Need-size-requires-2
-size-requires-2 c κs = search needs
-
--- src/lib.rt:326:36
-references-good-requires-2 : tie.Need-references-good-requires-2
-references-good-requires-2 c κs = ?
-
--- src/lib.rt:327:35
-enum-told-5 : tie.Need-enum-told-5
-enum-told-5 c = search needs
-
--- src/lib.rt:307:1
 returns : tie.Need-returns
-returns c = ?
+returns c =
+    let d = c .before .before .before in
+    let k = d .before .before in
+    let a = k .before .before .before .args in
+    let n = absent-node (a .s .now) (a .k) (a .f .place) (a .at) (form d _ (c .enum-told .given .1)) in
+    (ap seen (sym (n .0)), λ e. row-empty _ (nodeAt (a .s .now) (a .at)) (a .i) _ _ (k .clear-row .ensures) (n .1))
 
--- src/lib.rt:307:1
 returns-2 : tie.Need-returns-2
-returns-2 c = ?
+returns-2 c =
+    let d = c .before .before .before in
+    let k = d .before .before in
+    let a = k .before .before .before .args in
+    let n = constant-node (a .s .now) (a .k) (a .f .place) (a .at) (form d _ (c .enum-told2 .given .1)) in
+    (ap seen (sym (n .0)), λ e. row-empty _ (nodeAt (a .s .now) (a .at)) (a .i) _ _ (k .clear-row .ensures) (n .1))
 
--- src/lib.rt:307:1
+-- ---- operands
+
+few : (d : tie.After-ports-of) → d .ports-of .result .operands ≤ 16
+few d =
+    let a = d .before .before .before .before .before .args in
+    subst (λ (r : Ports). r .operands ≤ 16) (sym (d .ports-of .ensures)) (operands-few (byte (a .s .now) (a .at + 2)))
+
+operands : (c : tie.After-enum-told3) → let d = c .before .before .before in let a = d .before .before .before .before .before .args in
+    a .at + 4 + 3 * d .ports-of .result .operands ≤ length (a .s .now)
+operands c =
+    let d = c .before .before .before in
+    let b = d .before .before .before .before .before in
+    let a = b .args in
+    let e = end-references (a .s .now) (a .at) (d .ports-of .result) (d .ports-of .ensures) (c .enum-told3 .given .1) in
+    omega (arith, e, ends b)
+
+fits : tie.Need-references-good-requires
+fits c κs =
+    let z = c .before in
+    let t = z .before .before .before in
+    let d = t .before .before .before in
+    let b = d .before .before .before .before .before in
+    let e = z .size .ensures .0 in
+    (b .pre .0, tt, omega (arith, operands t, e), omega (arith, few d, e), b .pre .2, (d .before .before .clear-row .ensures .size ∙ b .pre .4))
+
 returns-3 : tie.Need-returns-3
-returns-3 c = ?
+returns-3 c =
+    let g = c .before in
+    let z = g .before in
+    let o2 = z .before in
+    let o1 = o2 .before in
+    let t = o1 .before in
+    let d = t .before .before .before in
+    let k = d .before .before in
+    let a = k .before .before .before .args in
+    let s = a .s .now in
+    let row = d .ports-of .result in
+    let n = references-node s (a .k) (a .f .place) (a .at) row (d .ports-of .ensures) (form d _ (t .enum-told3 .given .1)) in
+    let e = z .size .ensures .0 in
+    let check : ℕ → ℕ → ℕ → _ = λ m x y. seen (referencesChecked s (a .k) (a .f .place) (types m x y) (references m s (a .at + 4))) in (
+      c .references-good .ensures .0
+          ∙ ap (λ (m : ℕ). check m (o1 .own .result) (o2 .own2 .result)) e
+          ∙ ap (λ (x : ℕ). check (row .operands) x (o2 .own2 .result)) (o1 .own .ensures)
+          ∙ ap (λ (y : ℕ). check (row .operands) (own (byte s (a .at + 3)) (row .first)) y) (o2 .own2 .ensures)
+          ∙ ap seen (sym (n .0)),
+      λ q.
+          row-filled s (a .f .place) (a .at + 4) (z .size .result) (a .i) (nodeAt s (a .at)) _ _ _ (k .clear-row .ensures) (c .references-good .ensures .1 q)
+          (n .1 ∙ ap (λ (m : ℕ). references m s (a .at + 4)) (sym e)) (omega (arith, few d, e)),
+    )
 
--- src/lib.rt:307:1
+-- ---- arguments
+
+calls : (c : tie.After-enum-told4) → let a = c .before .before .before .before .before .before .before .before .args in formOf (kindAt (a .s .now) (a .at)) ≡ Form.Call
+calls c = form (c .before .before .before) _ (c .enum-told4 .given .1)
+
+room : (c : tie.After-enum-told4) → let a = c .before .before .before .before .before .before .before .before .args in
+    (a .at + 4 + 3 ≤ length (a .s .now)) × (byte (a .s .now) (a .at + 4 + 2) ≤ 8)
+room c = let b = c .before .before .before .before .before .before .before .before in callee-fits (b .args .s .now) (b .args .at) (b .pre .1) (calls c)
+
+told : (f : tie.After-find-function) → let a = f .before .before .before .before .before .before .before .before .before .before .args in
+    f .find-function .result ≡ functionFound (u16 (a .s .now) (a .at + 4)) (earlier (version1 .header) (a .s .now) (a .k))
+told f =
+    let a = f .before .before .before .before .before .before .before .before .before .before .args in
+    f .find-function .ensures ∙ ap (λ (i : ℕ). functionFound i (earlier (version1 .header) (a .s .now) (a .k))) (f .before .u16-at .ensures)
+
+-- the function that was found
+callee : (d : tie.After-known-told) → let f = d .before .before .before in let a = f .before .before .before .before .before .before .before .before .before .before .args in
+    let g = d .before .found .given .0 in
+    (g .0 < a .k) × (g .1 .0 ≡ functionPlace (version1 .header) (a .s .now) (g .0))
+    × (findFunction (u16 (a .s .now) (a .at + 4)) (earlier (version1 .header) (a .s .now) (a .k)) ≡ some (functionAt (a .s .now) (g .1 .0)))
+callee d =
+    let f = d .before .before .before in
+    let a = f .before .before .before .before .before .before .before .before .before .before .args in
+    found-function (version1 .header) (a .s .now) (u16 (a .s .now) (a .at + 4)) (a .k) _ _ (sym (told f) ∙ d .before .found .given .1)
+
+-- its inputs fit, and are as many as the arguments
+inputs : (d : tie.After-known-told) → let f = d .before .before .before in let a = f .before .before .before .before .before .before .before .before .before .before .args in
+    d .before .found .given .0 .1 .0 + 6 + byte (a .s .now) (a .at + 4 + 2) ≤ length (a .s .now)
+inputs d =
+    let f = d .before .before .before in
+    let t = f .before .before in
+    let b = t .before .before .before .before .before .before .before .before in
+    let a = b .args in
+    let s = a .s .now in
+    let p = d .before .found .given .0 .1 .0 in
+    let h = function-holds s p (subst (ReadsFunction s) (sym (callee d .1)) (b .pre .0 .started .reads _ (callee d .0))) .inputs in
+    let e = call-count s (a .k) (a .f .place) (a .at) (calls t) (b .pre .3) p (callee d .2) in
+    omega (arith, h, e)
+
+fits-2 : tie.Need-references-good-requires-2
+fits-2 c κs =
+    let z = c .before in
+    let d = z .before .before in
+    let t = d .before .before .before .before .before in
+    let r = t .before .before .before in
+    let b = r .before .before .before .before .before in
+    let a = b .args in
+    let e = z .size2 .ensures .0 in
+    let q = end-call (a .s .now) (a .at) (r .ports-of .result) (r .ports-of .ensures) (t .enum-told4 .given .1) in
+    (b .pre .0, omega (arith, inputs d, e), omega (arith, q, ends b, e), omega (arith, room t .1, e), b .pre .2, (r .before .before .clear-row .ensures .size ∙ b .pre .4))
+
 returns-4 : tie.Need-returns-4
-returns-4 c = ?
+returns-4 c =
+    let z = c .before .before in
+    let d = z .before .before in
+    let t = d .before .before .before .before .before in
+    let r = t .before .before .before in
+    let k = r .before .before in
+    let b = k .before .before .before in
+    let a = b .args in
+    let s = a .s .now in
+    let p = d .before .found .given .0 .1 .0 in
+    let e = z .size2 .ensures .0 in
+    let n = call-node s (a .k) (a .f .place) (a .at) (calls t) (b .pre .3) p (callee d .2) in (
+      c .references-good2 .ensures .0
+          ∙ ap (λ (m : ℕ). seen (referencesChecked s (a .k) (a .f .place) (inputsAt m s (p + 6)) (references m s (a .at + 4 + 3)))) e
+          ∙ ap seen (sym (n .0)),
+      λ q.
+          row-filled s (a .f .place) (a .at + 4 + 3) (z .size2 .result) (a .i) (nodeAt s (a .at)) _ _ _ (k .clear-row .ensures) (c .references-good2 .ensures .1 q)
+          (n .1 ∙ ap (λ (m : ℕ). references m s (a .at + 4 + 3)) (sym e)) (omega (arith, room t .1, e)),
+    )
 
--- src/lib.rt:307:1
 returns-5 : tie.Need-returns-5
-returns-5 c = ?
+returns-5 c =
+    let f = c .before .before in
+    let t = f .before .before in
+    let b = t .before .before .before .before .before .before .before .before in
+    let a = b .args in
+    absurd
+    (call-found (a .s .now) (a .k) (a .f .place) (a .at) (calls t) (b .pre .3)
+    (no-function (version1 .header) (a .s .now) (u16 (a .s .now) (a .at + 4)) (a .k) (sym (told f) ∙ c .enum-told5 .given .1)))
 
 pub node-good-spec : {M : Type 1} → statement M
 node-good-spec =
     tie.close
     (tie.spec
-    clear-row-requires
-    add-ports-of
-    shared-slice-read-ports-of
-    ports-of-requires
-    add-ty
-    shared-slice-read-ty
-    enum-told
-    enum-told-2
-    enum-told-3
-    own-requires
-    own-requires-2
-    add-references-good
-    size-requires
-    references-good-requires
-    enum-told-4
-    add-u16-at
-    u16-at-requires
-    find-function-requires
-    enum-known-found
-    add-references-good-2
-    add-references-good-3
-    add-size
-    add-size-2
-    shared-slice-read-size
-    size-requires-2
-    references-good-requires-2
-    enum-told-5
+    (λ c κs. (c .before .before .pre .2, c .before .before .pre .4))
+    (λ c. omega (arith, head (c .before .before .before)))
+    (λ c. omega (arith, head (c .before .before .before .before)))
+    (λ c κs. search needs)
+    (λ c. omega (arith, head (c .before .before .before .before .before)))
+    (λ c. omega (arith, head (c .before .before .before .before .before .before)))
+    (λ c. search needs)
+    (λ c. search needs)
+    (λ c. search needs)
+    (λ c κs. search needs)
+    (λ c κs. search needs)
+    (λ c. omega (arith, head (c .before .before .before .before .before .before .before .before .before .before)))
+    (λ c κs. search needs)
+    fits
+    (λ c. search needs)
+    (λ c. omega (arith, room c .0))
+    (λ c κs. omega (arith, room c .0))
+    (λ c κs. let b = c .before .before .before .before .before .before .before .before .before in (b .pre .0 .started, b .pre .0 .few))
+    (λ c. search needs)
+    (λ c. omega (arith, room (c .before .before .before .before .before) .0))
+    (λ c. omega (arith, room (c .before .before .before .before .before) .0))
+    (λ c. omega (arith, room (c .before .before .before .before .before) .0))
+    (λ c. omega (arith, room (c .before .before .before .before .before) .0))
+    (λ c. omega (arith, room (c .before .before .before .before .before .before) .0))
+    (λ c κs. search needs)
+    fits-2
+    (λ c. search needs)
     returns
     returns-2
     returns-3
