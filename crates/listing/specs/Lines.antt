@@ -6,6 +6,7 @@ use mathlib.Core.List.{List, _++_}
 use lib.Dec.{leb}
 use lib.ListN.{length}
 use lib.Seq.{sets}
+use Rattle.graph.specs.Bytes.{byte, u16}
 use Rattle.list.specs.Code.{operationLimit, wordLimit}
 use Rattle.list.specs.Listing.{decimal, newline, functionText, inputsText, outputsText, nodesText, operationsText, wordsText, codeText, noneText, limited}
 
@@ -28,3 +29,7 @@ countsText operations words code =
     (operationsText ++ limited operationLimit operations) ++ (wordsText ++ limited wordLimit words)
     ++ (codeText ++ cond (within operations words) (decimal code) noneText)
     ++ newline
+
+-- the line of the function whose head stands at p
+unfoldable pub lineAt : List ℕ → ℕ → ℕ → ℕ → ℕ → List ℕ
+lineAt s p operations words code = headText (u16 s p) (byte s (p + 2)) (byte s (p + 3)) (u16 s (p + 4)) ++ countsText operations words code

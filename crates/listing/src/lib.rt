@@ -5,8 +5,9 @@ ghost use mathlib.Core.List.{List, _++_};
 ghost use Prim.Native.Nat.{_+_, _<_, _≤_};
 ghost use lib.ListN.{length, drop};
 ghost use Rattle.list.specs.Listing.{decimal, newline, refusedText, atText};
+ghost use Rattle.graph.specs.Bytes.{byte, u16};
 ghost use Rattle.listing.specs.Lines as Lines;
-ghost use Rattle.listing.specs.Lines.{Put, headText, countsText};
+ghost use Rattle.listing.specs.Lines.{Put, headText, countsText, lineAt};
 
 // ---- bytes and numbers
 
@@ -140,4 +141,47 @@ pub fn put_counts(
     let b = put_count(text, a, b" words ", words <= 8192, words, b"over");
     let c = put_count(text, b, b" code ", within(operations, words), code, b"none");
     put_bytes(text, c, b"\n")
+}
+
+// ---- functions
+
+fn wide(x: u8) -> usize
+    ensures { λ r. ⌜ (r ≡ x) × (r < 256) ⌝ }
+{
+    x as usize
+}
+
+// A byte of the table; behind its end 0.
+fn byte_at(table: &[u8], at: usize) -> usize
+    ensures { λ r. ⌜ (r ≡ byte (now (table .entry)) at) × (r < 256) ⌝ }
+{
+    if at < table.len() { wide(table[at]) } else { 0 }
+}
+
+fn u16_at(table: &[u8], at: usize) -> usize
+    requires { ⌜ at < 0x1_0000_0000 ⌝ }
+    ensures { λ r. ⌜ (r ≡ u16 (now (table .entry)) at) × (r < 65536) ⌝ }
+{
+    byte_at(table, at) + byte_at(table, at + 1) * 256
+}
+
+// The line of the function whose head stands at p.
+pub fn put_function(
+    text: &mut [u8; 2048],
+    at: usize,
+    table: &[u8],
+    p: usize,
+    operations: usize,
+    words: usize,
+    code: usize,
+) -> usize
+    requires { ⌜ (at + 103 ≤ 2048) × (p < 65536) ⌝ }
+    ensures { λ r. ⌜ Put (now (text .entry)) at (lineAt (now (table .entry)) p operations words code) (now (text .exit)) r × (r ≤ at + 103) ⌝ }
+{
+    let id = u16_at(table, p);
+    let inputs = byte_at(table, p + 2);
+    let outputs = byte_at(table, p + 3);
+    let nodes = u16_at(table, p + 4);
+    let middle = put_head(text, at, id, inputs, outputs, nodes);
+    put_counts(text, middle, operations, words, code)
 }
