@@ -83,7 +83,7 @@ pub fn put_count(
 
 // The line of a refusal.
 pub fn put_refused(text: &mut [u8; 2048], number: u8, place: usize) -> usize
-    ensures { λ r. ⌜ Put (now (text .entry)) 0 (refusedText ++ decimal number ++ atText ++ decimal place ++ newline) (now (text .exit)) r ⌝ }
+    ensures { λ r. ⌜ Put (now (text .entry)) 0 (refusedText ++ decimal number ++ atText ++ decimal place ++ newline) (now (text .exit)) r × (r ≤ 2048) ⌝ }
 {
     let number = number as usize;
     let middle = put_field(text, 0, b"refused ", number);
