@@ -1,0 +1,5 @@
+pub mod Digits
+pub mod Text
+pub mod Lines
+pub mod Table
+pub mod Functions
