@@ -9,12 +9,22 @@ use lib.Dec.{leb}
 use borrow.Author.Tests.{leb-true}
 use Rattle.graph.specs.Bytes.{byte, u16}
 use Rattle.list.specs.Code.{operationLimit, wordLimit}
-use Rattle.list.specs.Listing.{decimal, newline, refusedText, atText, functionText, inputsText, outputsText, nodesText, operationsText, wordsText, codeText, noneText, limited}
+use Rattle.list.specs.Listing.{decimal, newline, acceptedText, refusedText, atText, functionText, inputsText, outputsText, nodesText, operationsText, wordsText, codeText, noneText, limited}
 use Rattle.listing.specs.Lines.{headText, countsText, within, lineAt}
 use Rattle.listing.proofs.Text.{rooms}
 use Rattle.listing.proofs.Digits.{decimal-length, decimal-most}
 
--- ---- a refusal
+-- ---- the first line
+
+-- a count of 64 bits has room
+pub accepted-rooms : (count : ℕ) → count < 18446744073709551616
+    → (0 + length (acceptedText ++ decimal count) ≤ 2048) × (0 + length (acceptedText ++ decimal count ++ newline) ≤ 30)
+accepted-rooms count h =
+    let a = decimal-most count h in
+    let p : length (acceptedText ++ decimal count) ≤ 29 = simp length-append (omega arith) in
+    let q = length-append (acceptedText ++ decimal count) newline in
+    (omega arith, omega arith)
+
 
 pub refused-parts : (number place : ℕ) → (refusedText ++ decimal number) ++ (atText ++ decimal place) ++ newline ≡ refusedText ++ decimal number ++ atText ++ decimal place ++ newline
 refused-parts number place = ap (λ (xs : List ℕ). xs ++ newline) (sym (append-assoc (refusedText ++ decimal number) atText (decimal place)))

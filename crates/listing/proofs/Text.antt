@@ -2,6 +2,7 @@
 use Prim.Native.Nat.{ℕ, zero, suc, _+_, _≤_, _<_}
 use mathlib.Core.Path.{_≡_, refl, sym, ap, _∙_, subst}
 use mathlib.Core.List.{List, [], _∷_, _++_}
+use native.Mathlib.Nat.{zero-add}
 use native.Mathlib.Numerals.{add-one}
 use native.Mathlib.Omega.{arith}
 use lib.ListN.{length, getD, set, take, length-append}
@@ -35,6 +36,10 @@ then {l} {m} {n} {at} {a} {b} {xs} {ys} p q =
 -- the same bytes
 pub same : {l m : List ℕ} {at a : ℕ} {xs ys : List ℕ} → xs ≡ ys → Put l at xs m a → Put l at ys m a
 same {l} {m} {at} {a} e p = subst (λ (zs : List ℕ). Put l at zs m a) e p
+
+-- from the first byte on
+pub from-zero : {l m xs : List ℕ} {r : ℕ} → Put l 0 xs m r → (m ≡ sets l 0 xs) × (r ≡ length xs)
+from-zero {xs = xs} p = (p .written, p .end ∙ zero-add (length xs))
 
 -- ---- room
 

@@ -31,7 +31,9 @@ returns c =
     let two = c .before .before .before in
     let one = two .before .before .before in
     let a = one .before .before .before .args in
-    same (refused-parts (a .number) (a .place)) (then (then (one .put-field .ensures) (two .put-field2 .ensures)) (c .put-bytes .ensures))
+    let whole = then (then (one .put-field .ensures) (two .put-field2 .ensures)) (c .put-bytes .ensures) in
+    let end = whole .end in
+    (same (refused-parts (a .number) (a .place)) whole, omega (arith, refused-rooms (a .number) (a .place) (omega arith) (omega arith) .2))
 
 pub put-refused-spec : {M : Type 1} → statement M
 put-refused-spec =
