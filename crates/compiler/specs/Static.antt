@@ -1,16 +1,19 @@
 -- What can be said of a function's list before it is opened: sizes, and where each value stands in relation to the opening.
 use Prim.Native.Nat.{ℕ, zero, suc, _+_, _*_}
 use mathlib.Core.Bool.{Bool, true, false, cond}
-use mathlib.Core.List.{List, [], _∷_, map}
+use mathlib.Core.Path.{_≡_}
+use mathlib.Core.List.{List, [], _∷_, _++_, map}
 use lib.Dec.{eqb}
 use lib.ListN.{length, getD}
 use Rattle.ports.specs.Kinds.{kindOf}
 use Rattle.ports.specs.Ports.{widths, gives, arity, constantWords}
 use Rattle.graph.specs.Graph.{Ref, Payload, consts, refs, calls, Node, Output, Function}
-use Rattle.graph.specs.Look.{outputRefs}
+use Rattle.value.specs.Typed.{Each}
+use Rattle.graph.specs.Look.{reads, outputRefs}
 use Rattle.graph.specs.Schedule.{schedule}
 use Rattle.graph.specs.Sums.{sum}
-use Rattle.list.specs.Compile.{places}
+use Rattle.list.specs.Board.{Instruction}
+use Rattle.list.specs.Compile.{places, Open, openNode}
 
 -- ---- spots
 
@@ -114,3 +117,19 @@ instructionsOf (f ∷ early) c = let r = instructionsOf early c in cond (eqb (f 
 unfoldable pub bytesOfFunction : List Function → ℕ → ℕ
 bytesOfFunction [] c = 0
 bytesOfFunction (f ∷ early) c = let r = bytesOfFunction early c in cond (eqb (f .id) c) (functionBytes (bytesOfFunction early) f) r
+
+-- ---- one table of spots for a whole function
+
+-- the code of nodes in their order, from `next` on, where a reference's spot is the one that the table has
+abbrev pub emitNodes : Open → (Ref → Spot) → List ℕ → ℕ → List Node → ℕ → List Instruction
+emitNodes go table ins base [] next = []
+emitNodes go table ins base (n ∷ ns) next =
+    let o = openNode go (λ r. spotAt ins base (table r)) next n (n .payload) in
+    o .code ++ emitNodes go table ins base ns (o .next)
+
+-- the table has, for each node of the order, the spots of what it reads as they are at its turn
+abbrev pub Agrees : Callee → (Ref → Spot) → List Node → List Spotted → ℕ → Type 0
+Agrees go table [] spotted d = Unit {0}
+Agrees go table (n ∷ ns) spotted d =
+    let c = closedNode go spotted d n (n .payload) in
+    Each (λ r. table r ≡ spotOf spotted r) (reads n) × Agrees go table ns (record { id = n .id; spots = c .outputs } ∷ spotted) (d + c .words)

@@ -22,14 +22,14 @@ use Rattle.graph.specs.Sound.{AllSound}
 use Rattle.graph.specs.Meaning.{bind, functionMeans, meaningOf, words, graphMeans}
 use Rattle.graph.specs.Table.{Chosen, chosen}
 use Rattle.graph.proofs.Loops.{and-both}
-use Rattle.graph.proofs.Steps.{takes, passes}
+use Rattle.graph.proofs.Steps.{takes, passes, ok-is}
 use Rattle.graph.specs.Bytes.{Bytes}
 use Rattle.graph.proofs.Formed.{accepted}
 use Rattle.graph.proofs.Table.{chosen-sound, chosen-means}
 use Rattle.list.specs.Board.{BoardList, run}
 use Rattle.list.specs.Compile.{boardListOf}
-use Rattle.list.specs.Code.{encode, decode}
-use Rattle.list.specs.Answers.{compilable, codeOf, Compiled, compiled, Buffers, ran}
+use Rattle.list.specs.Code.{operationLimit, wordLimit, encode, decode}
+use Rattle.list.specs.Answers.{within, compilable, codeOf, Compiled, compiled, Buffers, ran, Evaluated, evaluated}
 use Rattle.list.specs.Demand3.{Within, Lent, Demand3}
 use Rattle.list.proofs.Promise.{runs}
 use Rattle.list.proofs.Back.{all-finite}
@@ -92,4 +92,54 @@ demand3 s c fs x w buffer arguments work out l =
       same = subst (λ (ws : List ℕ). length (run b ws work .memory) ≡ length work) same (r .size);
       rest = λ i h.
           subst (λ (ws : List ℕ). wordAt (run b ws work .memory) i ≡ wordAt work i) same (r .rest i (omega arith));
+    }
+
+-- ---- the same as one answer
+
+-- what `compiled` and `ran` give together is what `evaluated` says
+pub record Evaluates (s : List ℕ) (c : ℕ) (x : Chosen) (code arguments work out : List ℕ) : Type 0 where
+  pub after : Buffers
+  pub runs : ran (take (length (codeOf x)) (sets code 0 (codeOf x))) arguments work out ≡ ok after
+  pub answer : evaluated s c arguments code work out ≡ ok (record { count = after .count; code = sets code 0 (codeOf x); work = after .work; out = after .out })
+
+pub evaluates : (s : List ℕ) (c : ℕ) (fs : List Function) (x : Chosen) → Within s c fs x → (code arguments work out : List ℕ) → Lent x code arguments work out
+    → Evaluates s c x code arguments work out
+unfolding evaluated
+evaluates s c fs x w code arguments work out l =
+    let f = x .function in
+    let early = x .early in
+    let b = boardListOf early f in
+    let sound : AllSound (f ∷ early) = chosen-sound c fs x (w .chosen) (accepted s (w .bytes) fs (w .accepted)) in
+    let size : b .words ≡ functionWords early f = words-of early f sound in
+    let outs : length (b .outputs) ≡ widths (outputTypes (f .outputs)) = output-words early f sound in
+    let room : b .words ≤ length work = let a = l .work-fits in omega arith in
+    let room′ : length (b .outputs) ≤ length out = let a = l .out-fits in omega arith in
+    let d : decode (take (length (codeOf x)) (sets code 0 (codeOf x))) ≡ some b =
+    ap decode (front code (codeOf x) (l .code-fits)) ∙ code-of early f sound (w .operations) (w .words) in
+    let claim = demand3 s c fs x w code arguments work out l in
+    let inputs : length arguments ≡ b .arguments = l .count in
+    let ran-is = run-ok (take (length (codeOf x)) (sets code 0 (codeOf x))) arguments work out b d inputs (l .finite) room room′ in
+    let after : Buffers = record { count = length (b .outputs); work = run b arguments work .memory; out = sets out 0 (run b arguments work .outputs) } in
+    let same : claim .after ≡ after = ok-is (sym (claim .runs) ∙ ap (λ (y : Compiled). ran (take (y .size) (y .buffer)) arguments work out) (claim .list) ∙ ran-is) in
+    let count : length (claim .answer) ≡ after .count = sym (claim .count) ∙ ap (λ (y : Buffers). y .count) same in
+    let given : sets out 0 (claim .answer) ≡ after .out = sym (claim .given) ∙ ap (λ (y : Buffers). y .out) same in
+    let found : within fs c ≡ ok x =
+    takes (orElse (chosen c fs) 14 0) _ x (ap (λ (o : Option Chosen). orElse o 14 0) (w .chosen))
+    ∙ passes (leb (functionOperations (operationsOf early) f) operationLimit) 15 0 _ (le-leb _ _ (w .operations))
+    ∙ passes (leb (functionWords early f) wordLimit) 16 0 _ (le-leb _ _ (w .words)) in
+    let make : ℕ → List ℕ → Outcome Evaluated = λ n o. ok (record { count = n; code = sets code 0 (codeOf x); work = after .work; out = o }) in
+    record {
+      after = after;
+      runs = ran-is;
+      answer =
+          takes (table s) _ fs (w .accepted)
+          ∙ takes (within fs c) _ x found
+          ∙ passes (leb (length (codeOf x)) (length code)) 17 0 _ (le-leb _ _ (l .code-fits))
+          ∙ passes (eqb (length arguments) (widths (f .inputs))) 19 0 _ (eq-eqb _ _ (l .count))
+          ∙ passes (every argumentWord arguments) 20 0 _ (all-finite arguments (l .finite))
+          ∙ passes (leb (functionWords early f) (length work) && leb (widths (outputTypes (f .outputs))) (length out)) 21 0 _
+          (and-both _ _ (le-leb _ _ (l .work-fits)) (le-leb _ _ (l .out-fits)))
+          ∙ takes (orElse (graphMeans fs c arguments) 0 0) _ (claim .answer) (ap (λ (o : Option (List ℕ)). orElse o 0 0) (claim .meant))
+          ∙ ap (λ (n : ℕ). make n (sets out 0 (claim .answer))) count
+          ∙ ap (λ (o : List ℕ). make (after .count) o) given;
     }

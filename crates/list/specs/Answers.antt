@@ -9,7 +9,9 @@ use lib.Seq.{sets}
 use Rattle.graph.specs.Outcome.{Outcome, ok, fault, _>>=_, _>>_, need, orElse}
 use Rattle.graph.specs.Graph.{Function}
 use Rattle.value.specs.Values.{argumentWord, every}
-use Rattle.graph.specs.Judge.{table}
+use Rattle.graph.specs.Judge.{outputTypes, table}
+use Rattle.graph.specs.Meaning.{graphMeans}
+use Rattle.ports.specs.Ports.{widths}
 use Rattle.graph.specs.Sums.{functionOperations, operationsOf, functionWords}
 use Rattle.graph.specs.Table.{Chosen, chosen}
 use Rattle.list.specs.Board.{BoardList, run}
@@ -18,14 +20,19 @@ use Rattle.list.specs.Code.{operationLimit, wordLimit, encode, decode}
 
 -- ---- the compiler: 14, 15, 16, 17
 
--- a function of an accepted table, within the limits
-abbrev pub compilable : List ℕ → ℕ → Outcome Chosen
-compilable s c = do
-  fs ← table s
+-- the function of an id, within the limits
+abbrev pub within : List Function → ℕ → Outcome Chosen
+within fs c = do
   x ← orElse (chosen c fs) 14 0
   need (leb (functionOperations (operationsOf (x .early)) (x .function)) operationLimit) 15 0
   need (leb (functionWords (x .early) (x .function)) wordLimit) 16 0
   ok x
+
+-- of an accepted table
+abbrev pub compilable : List ℕ → ℕ → Outcome Chosen
+compilable s c = do
+  fs ← table s
+  within fs c
 
 abbrev pub codeOf : Chosen → List ℕ
 codeOf x = encode (boardListOf (x .early) (x .function))
@@ -56,3 +63,30 @@ ran code arguments work out = do
   need (every argumentWord arguments) 20 0
   need (leb (b .words) (length work) && leb (length (b .outputs)) (length out)) 21 0
   ok (record { count = length (b .outputs); work = run b arguments work .memory; out = sets out 0 (run b arguments work .outputs) })
+
+-- ---- from table to output words: the compiler's refusals, then 19, 20, 21
+
+-- the count of output words, and the three buffers after it
+pub record Evaluated : Type 0 where
+  pub count : ℕ
+  pub code : List ℕ
+  pub work : List ℕ
+  pub out : List ℕ
+
+unfoldable pub evaluated : List ℕ → ℕ → List ℕ → List ℕ → List ℕ → List ℕ → Outcome Evaluated
+evaluated s c arguments code work out = do
+  fs ← table s
+  x ← within fs c
+  need (leb (length (codeOf x)) (length code)) 17 0
+  need (eqb (length arguments) (widths (x .function .inputs))) 19 0
+  need (every argumentWord arguments) 20 0
+  need (leb (functionWords (x .early) (x .function)) (length work) && leb (widths (outputTypes (x .function .outputs))) (length out)) 21 0
+  -- an accepted function means something on all such arguments: this refuses nothing
+  answer ← orElse (graphMeans fs c arguments) 0 0
+  ok
+      (record {
+        count = length answer;
+        code = sets code 0 (codeOf x);
+        work = run (boardListOf (x .early) (x .function)) arguments work .memory;
+        out = sets out 0 answer;
+      })

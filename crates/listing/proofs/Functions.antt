@@ -42,7 +42,7 @@ step s n text₀ at text next line here k r l h e p m =
       most = l .most;
       room = omega arith;
       put =
-        subst (λ (j : ℕ). Put text₀ at (functionLines (earlier 8 s j)) next r) (sym (add-one k)) (then (l .put) (same e p));
+          subst (λ (j : ℕ). Put text₀ at (functionLines (earlier 8 s j)) next r) (sym (add-one k)) (then (l .put) (same e p));
     }
 
 pub done : (s : List ℕ) (n : ℕ) (text₀ : List ℕ) (at : ℕ) (text : List ℕ) (here k : ℕ) → Listed s n text₀ at text here k → n ≤ k

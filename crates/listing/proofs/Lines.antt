@@ -25,23 +25,8 @@ accepted-rooms count h =
     let q = length-append (acceptedText ++ decimal count) newline in
     (omega arith, omega arith)
 
-
 pub refused-parts : (number place : ℕ) → (refusedText ++ decimal number) ++ (atText ++ decimal place) ++ newline ≡ refusedText ++ decimal number ++ atText ++ decimal place ++ newline
 refused-parts number place = ap (λ (xs : List ℕ). xs ++ newline) (sym (append-assoc (refusedText ++ decimal number) atText (decimal place)))
-
--- numbers of 64 bits have room
-pub refused-rooms : (number place : ℕ) → number < 18446744073709551616 → place < 18446744073709551616
-    → (0 + length (refusedText ++ decimal number) ≤ 2048)
-    × (0 + length ((refusedText ++ decimal number) ++ (atText ++ decimal place)) ≤ 2048)
-    × (0 + length ((refusedText ++ decimal number) ++ (atText ++ decimal place) ++ newline) ≤ 2048)
-refused-rooms number place h k =
-    let a = decimal-most number h in
-    let b = decimal-most place k in
-    let p : length (atText ++ decimal place) ≤ 24 = simp length-append (omega arith) in
-    let q : length (refusedText ++ decimal number) ≤ 28 = simp length-append (omega arith) in
-    let two = length-append (refusedText ++ decimal number) (atText ++ decimal place) in
-    let three = length-append ((refusedText ++ decimal number) ++ (atText ++ decimal place)) newline in
-    (omega arith, omega arith, omega arith)
 
 -- ---- a function
 

@@ -200,7 +200,11 @@ pub enum Verdict {
 pub fn check(table: &[u8]) -> Verdict
     ensures { λ r. ⌜ r ≡ verdictOf (verdict (now (table .entry))) ⌝ }
 {
-    if table.len() < 8 { Verdict::Refused(1, 0) } else { Verdict::Accepted(1) }
+    if table.len() < 8 {
+        Verdict::Refused(1, 0)
+    } else {
+        Verdict::Accepted(1)
+    }
 }
 
 pub struct Sizes {
@@ -214,7 +218,12 @@ pub fn measure(table: &[u8], count: usize, k: usize) -> Sizes
     requires { ⌜ (verdict (now table) ≡ ok count) × (k < count) ⌝ }
     ensures { λ r. ⌜ Sized (now (table .entry)) k r ⌝ }
 {
-    Sizes { place: 8, operations: 1, words: 3, code: 20 }
+    Sizes {
+        place: 8,
+        operations: 1,
+        words: 3,
+        code: 20,
+    }
 }
 
 // STAND-IN END

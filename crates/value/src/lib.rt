@@ -7,7 +7,7 @@ ghost use lib.Ieee as Ieee;
 ghost use lib.Ieee.{binary64};
 ghost use Rattle.ports.specs.Ports.{width};
 ghost use Rattle.value.specs.Values as Values;
-ghost use Rattle.value.specs.Values.{vec, typeOf, word, vecWords, rowWords, wordsOf, floatAt, vecAt, rowAt, matAt, valueAt, constantWord, argumentWord};
+ghost use Rattle.value.specs.Values.{vec, typeOf, word, rowWords, wordsOf, floatAt, vecAt, rowAt, matAt, valueAt, constantWord, argumentWord};
 ghost use Rattle.value.specs.Steps as Steps;
 ghost use Rattle.value.specs.Steps.{stepOf, selected, clamped, zeroVec, zeroRow, zeroMat, scalar, vector, matrix, eachVec, eachRow, eachMat, components, dotProduct, crossProduct, rowTimes, matrixTimes, fromColumns, fromRows, transposed};
 
@@ -380,7 +380,7 @@ pub fn step_mat(o: Operator, a: Mat4, b: Mat4, c: Mat4, d: Mat4) -> Mat4
 
 // ---- a value as a scalar, a vector, a matrix; zeros where it is of another type
 
-fn zero_vec() -> Vec3
+pub fn zero_vec() -> Vec3
     ensures { λ r. ⌜ r ≡ zeroVec ⌝ }
 {
     Vec3 {
@@ -401,7 +401,7 @@ fn zero_row() -> Row
     }
 }
 
-fn zero_mat() -> Mat4
+pub fn zero_mat() -> Mat4
     ensures { λ r. ⌜ r ≡ zeroMat ⌝ }
 {
     let r = zero_row();

@@ -30,11 +30,10 @@ returns : tie.Need-returns
 returns c =
     let two = c .before .before in
     let one = two .before .before .before in
-    let s = one .before .before .before .before in
-    (
+    let s = one .before .before .before .before in (
       same (listing-accepted (s .args .table .now) (s .args .count) (s .pre))
-      (then (then (one .put-field .ensures) (two .put-bytes .ensures)) (c .put-functions .ensures .0)),
-      c .put-functions .ensures .1
+          (then (then (one .put-field .ensures) (two .put-bytes .ensures)) (c .put-functions .ensures .0)),
+      c .put-functions .ensures .1,
     )
 
 pub list-accepted-spec : {M : Type 1} → statement M

@@ -3,17 +3,13 @@ use borrow.Author.Needs.{needs}
 use Rattle.value.proofs.step_value.Statement.{statement}
 use Rattle.value.proofs.step_value.Tie as tie
 
-returns : tie.Need-returns
-returns c = rw (c .before .before .before .before .before .a .given .1, c .step .ensures, c .before .scalar-of3 .ensures, c .before .before .scalar-of2 .ensures, c .before .before .before .scalar-of .ensures)
-
-returns-2 : tie.Need-returns-2
-returns-2 c = rw (c .before .before .before .before .before .a2 .given .1, c .step-vec .ensures, c .before .vector-of3 .ensures, c .before .before .vector-of2 .ensures, c .before .before .before .vector-of .ensures)
-
-returns-3 : tie.Need-returns-3
-returns-3 c = rw (c .before .before .before .before .before .a3 .given .1, c .step-mat .ensures, c .before .matrix-of3 .ensures, c .before .before .matrix-of2 .ensures, c .before .before .before .matrix-of .ensures)
-
 pub step-value-spec : {M : Type 1} → statement M
 step-value-spec =
     tie.close
     (tie.spec
-    (λ c. search needs) (λ c κs. search needs) (λ c κs. search needs) (λ c κs. search needs) (λ c κs. search needs) (λ c. search needs) (λ c κs. search needs) (λ c κs. search needs) (λ c κs. search needs) (λ c κs. search needs) (λ c. search needs) (λ c κs. search needs) (λ c κs. search needs) (λ c κs. search needs) (λ c κs. search needs) returns returns-2 returns-3)
+    (λ c. search needs) (λ c κs. tt) (λ c κs. tt) (λ c κs. tt) (λ c κs. tt)
+    (λ c. search needs) (λ c κs. tt) (λ c κs. tt) (λ c κs. tt) (λ c κs. tt)
+    (λ c. search needs) (λ c κs. tt) (λ c κs. tt) (λ c κs. tt) (λ c κs. tt)
+    (λ c. rw (c .before .before .before .before .before .a .given .1, c .step .ensures, c .before .scalar-of3 .ensures, c .before .before .scalar-of2 .ensures, c .before .before .before .scalar-of .ensures))
+    (λ c. rw (c .before .before .before .before .before .a2 .given .1, c .step-vec .ensures, c .before .vector-of3 .ensures, c .before .before .vector-of2 .ensures, c .before .before .before .vector-of .ensures))
+    (λ c. rw (c .before .before .before .before .before .a3 .given .1, c .step-mat .ensures, c .before .matrix-of3 .ensures, c .before .before .matrix-of2 .ensures, c .before .before .before .matrix-of .ensures)))

@@ -1,0 +1,33 @@
+//! Times of the library against the independent program, and the deepest stack,
+//! as Markdown tables.
+
+#[cfg(feature = "run")]
+mod lists;
+#[cfg(feature = "run")]
+mod runs;
+mod stack;
+mod tables;
+mod time;
+
+fn main() {
+    println!(
+        "Ratios are the library's time over the independent program's: below 1 the library is"
+    );
+    println!("faster. Both are measured in one run, in batches that alternate; medians.");
+    tables::check();
+    #[cfg(feature = "compile")]
+    tables::compile();
+    #[cfg(feature = "run")]
+    runs::run();
+    #[cfg(feature = "evaluate")]
+    runs::evaluate();
+    for (name, there) in [
+        ("compile", cfg!(feature = "compile")),
+        ("run", cfg!(feature = "run")),
+        ("evaluate", cfg!(feature = "evaluate")),
+    ] {
+        if !there {
+            println!("\nNot measured: {name} (the feature is off).");
+        }
+    }
+}

@@ -1,0 +1,24 @@
+-- `executor::matvec` carries its kind out.
+use borrow.Author.Needs.{needs}
+use Rattle.value.specs.Results.{results}
+use Rattle.list.specs.Board.{execute}
+use Rattle.executor.proofs.matvec.Statement.{statement}
+use Rattle.executor.proofs.matvec.Tie as tie
+
+returns : tie.Need-returns
+unfolding execute results
+returns c =
+    rw (
+      c .before .before .put-value .ensures,
+      c .before .before .before .matvec .ensures,
+      c .before .before .before .before .before .get-vec .ensures,
+      c .before .before .before .before .before .before .u16-at2 .ensures .0,
+      c .before .before .before .before .before .before .before .before .get-mat .ensures,
+      c .before .before .before .before .before .before .before .before .before .u16-at .ensures .0,
+    )
+
+pub matvec-spec : {M : Type 1} → statement M
+matvec-spec =
+    tie.close
+    (tie.spec
+    (λ c κs. search needs) (λ c κs. search needs) (λ c. search needs) (λ c κs. search needs) (λ c κs. search needs) (λ c κs. search needs) (λ c κs. search needs) (λ c. search needs) returns)

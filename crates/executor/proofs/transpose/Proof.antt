@@ -1,0 +1,18 @@
+-- `executor::transpose` carries its kind out.
+use borrow.Author.Needs.{needs}
+use Rattle.value.specs.Results.{results}
+use Rattle.list.specs.Board.{execute}
+use Rattle.executor.proofs.transpose.Statement.{statement}
+use Rattle.executor.proofs.transpose.Tie as tie
+
+returns : tie.Need-returns
+unfolding execute results
+returns c =
+    rw
+    (c .before .before .put-value .ensures, c .before .before .before .transpose .ensures, c .before .before .before .before .before .get-mat .ensures, c .before .before .before .before .before .before .u16-at .ensures .0)
+
+pub transpose-spec : {M : Type 1} → statement M
+transpose-spec =
+    tie.close
+    (tie.spec
+    (λ c κs. search needs) (λ c κs. search needs) (λ c κs. search needs) (λ c κs. search needs) (λ c. search needs) returns)

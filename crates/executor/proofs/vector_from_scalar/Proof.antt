@@ -1,0 +1,18 @@
+-- `executor::vector_from_scalar` carries its kind out.
+use borrow.Author.Needs.{needs}
+use Rattle.value.specs.Results.{results}
+use Rattle.list.specs.Board.{execute}
+use Rattle.executor.proofs.vector_from_scalar.Statement.{statement}
+use Rattle.executor.proofs.vector_from_scalar.Tie as tie
+
+returns : tie.Need-returns
+unfolding execute results
+returns c =
+    rw
+    (c .before .before .put-value .ensures, c .before .before .before .vector-from-scalar .ensures, c .before .before .before .before .before .get .ensures, c .before .before .before .before .before .before .u16-at .ensures .0)
+
+pub vector-from-scalar-spec : {M : Type 1} → statement M
+vector-from-scalar-spec =
+    tie.close
+    (tie.spec
+    (λ c κs. search needs) (λ c κs. search needs) (λ c κs. search needs) (λ c κs. search needs) (λ c. search needs) returns)

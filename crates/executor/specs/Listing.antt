@@ -1,0 +1,18 @@
+-- All instructions of a code.
+use Prim.Native.Nat.{ℕ, _≤_}
+use mathlib.Core.Path.{_≡_}
+use mathlib.Core.List.{List}
+use mathlib.Core.Option.{Option, none, some}
+use Rattle.list.specs.Board.{executeAll}
+use Rattle.list.specs.Code.{Listed, readInstructions}
+
+-- the words after the instructions that were read
+unfoldable pub afterAll : Option Listed → List ℕ → List ℕ
+afterAll none m = m
+afterAll (some l) m = executeAll (l .instructions) m
+
+-- `count` instructions are read, from the byte 12 and the word `first` on, and their words have room
+pub record Listing (s : List ℕ) (count first size : ℕ) : Type 0 where
+  pub listed : Listed
+  pub reads : readInstructions count s 12 first ≡ some listed
+  pub room : listed .words ≤ size

@@ -1,0 +1,53 @@
+use borrow.Author.Needs.{needs}
+use Rattle.topology.proofs.first_on_loop.Statement.{statement}
+use Rattle.topology.proofs.first_on_loop.Tie as tie
+use mathlib.Core.Path.{_≡_, sym, ap, _∙_}
+use Prim.Native.Nat.{_-_, _≤_}
+use native.Mathlib.Omega.{arith}
+use Rattle.topology.specs.Indices.{firstOf}
+use Rattle.topology.specs.Paths.{onLoop}
+use Rattle.topology.proofs.Range.{first-hit, first-miss, first-end}
+use Rattle.topology.proofs.Closure.{loop-at, loop-nowhere}
+
+abbrev Inv-loop : tie.InvT-loop
+Inv-loop targets n i₀ i = (i ≤ n) × (firstOf (onLoop targets n) 0 n ≡ firstOf (onLoop targets n) i (n - i))
+
+abbrev μ-loop : tie.MeasureT-loop
+μ-loop targets n i₀ i = n - i
+
+loop-holds : tie.Need-loop-holds Inv-loop μ-loop
+loop-holds c =
+    let a = c .args in
+    let e : a .n ≡ a .n - 0 = omega arith in
+    (omega arith, ap (firstOf (onLoop (a .targets .now) (a .n)) 0) e)
+
+returns : tie.Need-returns Inv-loop μ-loop
+returns c =
+    let d = c .before .before in
+    let a = d .before .before .args in
+    let l = d .before .loop in
+    sym
+    (loop-at (a .targets .now) (a .n) (l .i) (d .loop-test .taken)
+    (l .inv .1 ∙ first-hit (onLoop (a .targets .now) (a .n)) (a .n) (l .i) (d .loop-test .taken) (sym (c .before .on-loop .ensures) ∙ c .if1 .taken)))
+
+loop-again : tie.Need-loop-again Inv-loop μ-loop
+loop-again c =
+    let d = c .before .before in
+    let a = d .before .before .args in
+    let l = d .before .loop in (
+      search needs,
+      l .inv .1 ∙ first-miss (onLoop (a .targets .now) (a .n)) (a .n) (l .i) (d .loop-test .taken) (sym (c .before .on-loop .ensures) ∙ c .if1 .left),
+    )
+
+returns-2 : tie.Need-returns-2 Inv-loop μ-loop
+returns-2 c =
+    let a = c .before .before .args in
+    let l = c .before .loop in
+    sym
+    (loop-nowhere (a .targets .now) (a .n) (l .i) (c .loop-test .left)
+    (l .inv .1 ∙ first-end (onLoop (a .targets .now) (a .n)) (a .n) (l .i) (c .loop-test .left)))
+
+pub first-on-loop-spec : {M : Type 1} → statement M
+first-on-loop-spec =
+    tie.close
+    (tie.spec Inv-loop μ-loop loop-holds (λ c κs. search needs) returns (λ c. search needs) (λ c. search needs) loop-again returns-2)

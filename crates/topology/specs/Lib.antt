@@ -1,0 +1,4 @@
+pub mod Indices
+pub mod Paths
+pub mod Resolve
+pub mod Walk

@@ -1,0 +1,99 @@
+/* Quetlapin: checks graph tables (IFG), compiles them to board lists (IFR) and runs these.
+ *
+ * Link with libboard.a and the mathematics library (-lm).
+ *
+ * Every function answers for every input. None keeps a pointer, takes memory or
+ * has a state: all it uses is lent by the caller. A pointer may be anything that
+ * is valid for its length; for a length of 0 nothing is read through it. Lent
+ * buffers must not overlap.
+ *
+ * An answer below 2^32 is a success. Any other answer is a refusal: number * 2^32
+ * + place. A refusal leaves every lent byte and word unchanged.
+ *
+ * Words are the bits of IEEE 754 binary64 values. A scalar is 1 word, a vector 3
+ * (x, y, z), a matrix 16 (row by row). A NaN that a step gives is always
+ * 0x7FF8000000000000.
+ *
+ * Refusals (place 0 unless said):
+ *
+ *  The table
+ *   1  fewer than 8 bytes
+ *   2  the mark differs
+ *   3  the version is not 1; place 3
+ *   4  the length field differs from the input's length; place 6
+ *   5  a record runs past the end; place: its first byte
+ *   6  a field outside its range, an unknown kind, a wrong type byte;
+ *      place: its record's first byte, for the function count 5
+ *   7  a constant is not finite; place: the payload's first byte
+ *   8  bytes after the last function; place: the first of them
+ *   9  the id of an earlier function, or of an earlier node of the function;
+ *      place: that head
+ *  10  a callee that is no earlier function, or a wrong argument count;
+ *      place: the node's head
+ *  11  no such node or port; place: the reference
+ *  12  the type differs from the one wanted; place: the reference
+ *  13  a loop; place: the head of the first node in the table that lies on one
+ *
+ *  The compiler
+ *  14  no function of the id asked for
+ *  15  more than 4,096 operations
+ *  16  more than 8,192 words
+ *  17  the code buffer is shorter than the code
+ *
+ *  The runner
+ *  18  the code is not well formed
+ *  19  the count of argument words differs from the one in the code
+ *  20  an argument is not finite
+ *  21  the work buffer is shorter than the word count, or the output buffer
+ *      shorter than the output words
+ */
+#ifndef QUETLAPIN_H
+#define QUETLAPIN_H
+
+#include <stddef.h>
+#include <stdint.h>
+
+#ifdef __cplusplus
+extern "C" {
+#endif
+
+/* The number of a refusal, 0 for a success. */
+#define IFG_NUMBER(answer) ((uint32_t)((uint64_t)(answer) >> 32))
+
+/* The place of a refusal; for a success the count or length answered. */
+#define IFG_PLACE(answer) ((uint32_t)((uint64_t)(answer) & 0xFFFFFFFFu))
+
+/* Checks a table. Success: its function count. Refusals 1 to 13. */
+uint64_t ifg_check(const uint8_t *table, size_t table_length);
+
+/* Compiles the function with this id. Success: the code's length; the code
+ * stands at the front of the buffer, the bytes behind it are unchanged.
+ * 73,996 bytes are enough for every code. Refusals 1 to 17. */
+uint64_t ifg_compile(const uint8_t *table, size_t table_length,
+                     uint16_t id,
+                     uint8_t *code, size_t code_length);
+
+/* Runs a code, given its bytes alone. Success: the count of output words, which
+ * stand at the front of the output buffer; the front of the work buffer holds all
+ * words of the list. The rest of both is unchanged. 8,192 work words and 128
+ * output words are enough for every code. Refusals 18 to 21. */
+uint64_t ifr_run(const uint8_t *code, size_t code_length,
+                 const uint64_t *arguments, size_t arguments_length,
+                 uint64_t *work, size_t work_length,
+                 uint64_t *out, size_t out_length);
+
+/* Compiles the function with this id and runs its code on the arguments.
+ * Success: the count of output words; they are what the graph means. Refusals 1
+ * to 17 and 19 to 21, in this order. */
+uint64_t ifg_evaluate(const uint8_t *table, size_t table_length,
+                      uint16_t id,
+                      const uint64_t *arguments, size_t arguments_length,
+                      uint8_t *code, size_t code_length,
+                      uint64_t *work, size_t work_length,
+                      uint64_t *out, size_t out_length);
+
+#ifdef __cplusplus
+}
+#endif
+
+#endif /* QUETLAPIN_H */

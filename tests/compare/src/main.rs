@@ -1,0 +1,142 @@
+//! Holds the library to the independent program.
+//!
+//! Ends with status 0 only if there is no difference and every refusal was met.
+
+mod check;
+#[cfg(feature = "compile")]
+mod compile;
+#[cfg(feature = "evaluate")]
+mod evaluate;
+mod lister;
+#[cfg(feature = "compile")]
+mod marked;
+mod options;
+mod report;
+#[cfg(feature = "run")]
+mod run;
+
+use std::process::ExitCode;
+use std::time::Instant;
+
+use generate::random::Random;
+use generate::tables::{damaged_table, random_graph};
+
+use crate::options::{Options, USAGE};
+use crate::report::{Part, Report};
+
+/// With fewer tables than this, a refusal may stay unmet.
+const ENOUGH_TABLES: usize = 20_000;
+
+/// Random and damaged inputs for the lister.
+const LISTINGS: usize = 400;
+
+fn main() -> ExitCode {
+    let Some(options) = Options::read(std::env::args().skip(1)) else {
+        println!("{USAGE}");
+        return ExitCode::FAILURE;
+    };
+    // The independent evaluation recurses along references, through up to 16 functions of 256 nodes.
+    let thread = std::thread::Builder::new().stack_size(256 << 20);
+    let comparison = thread.spawn(move || compare(&options)).expect("a thread");
+    match comparison.join() {
+        Ok(true) => ExitCode::SUCCESS,
+        _ => ExitCode::FAILURE,
+    }
+}
+
+/// Compares everything; whether all was well.
+fn compare(options: &Options) -> bool {
+    let start = Instant::now();
+    let mut report = Report::default();
+    let mut random = Random::new(options.seed);
+
+    check::fixed(&mut report);
+    #[cfg(feature = "compile")]
+    compile::fixed(&mut report);
+    #[cfg(feature = "run")]
+    {
+        run::fixed(&mut report, &mut random);
+        run::every_kind(&mut report, &mut random);
+    }
+    for _ in 0..options.tables {
+        random_table(&mut report, &mut random, options);
+    }
+    #[cfg(feature = "run")]
+    while report.count(Part::Run) < options.runs {
+        run::list(&mut report, &mut random);
+    }
+    if let Some(path) = &options.lister {
+        lister::all(&mut report, &mut random, path, LISTINGS);
+    }
+
+    let (seed, tables) = (options.seed, options.tables);
+    println!("seed {seed}, {tables} random tables and as many damaged ones");
+    report.print();
+    let complete = tables < ENOUGH_TABLES || all_met(&report);
+    println!("{:.1} seconds", start.elapsed().as_secs_f64());
+    println!("{} differences", report.differences);
+    report.differences == 0 && complete
+}
+
+/// A random table and a damaged one: verdicts.
+#[cfg(not(feature = "compile"))]
+fn random_table(report: &mut Report, random: &mut Random, _: &Options) {
+    let graph = random_graph(random);
+    check::compare(report, &graph.to_bytes());
+    check::compare(report, &damaged_table(random, &graph));
+}
+
+/// A random table and a damaged one: verdicts, codes, runs, evaluations.
+#[cfg(feature = "compile")]
+#[cfg_attr(not(feature = "evaluate"), allow(unused_variables))]
+fn random_table(report: &mut Report, random: &mut Random, options: &Options) {
+    let graph = random_graph(random);
+    let table = graph.to_bytes();
+    let damaged = damaged_table(random, &graph);
+    check::compare(report, &table);
+    check::compare(report, &damaged);
+
+    let id = compile::some_id(random, &graph);
+    let id_damaged = compile::some_id(random, &graph);
+    let code = compile::compare_around(report, random, &table, id);
+    compile::compare_around(report, random, &damaged, id_damaged);
+
+    #[cfg(feature = "run")]
+    {
+        if let Some(code) = &code {
+            run::compiled(report, random, &table, id, code);
+            run::compiled(report, random, &table, id, code);
+            run::damaged_compiled(report, random, code);
+        }
+        run::list(report, random);
+    }
+    #[cfg(feature = "evaluate")]
+    {
+        let after = options.code_after_refusal;
+        evaluate::compare(report, random, &table, id, after);
+        if random.chance(20) {
+            evaluate::compare(report, random, &damaged, id_damaged, after);
+        }
+    }
+}
+
+/// Whether each part met every refusal it can give; says which it did not.
+fn all_met(report: &Report) -> bool {
+    let parts = [
+        (true, Part::Check, 1, 13),
+        (cfg!(feature = "compile"), Part::Compile, 1, 17),
+        (cfg!(feature = "run"), Part::Run, 18, 21),
+        (cfg!(feature = "evaluate"), Part::Evaluate, 1, 17),
+        (cfg!(feature = "evaluate"), Part::Evaluate, 19, 21),
+    ];
+    let mut complete = true;
+    for (there, part, first, last) in parts {
+        for number in report.never_met(part, first, last) {
+            if there {
+                println!("{part:?} never met refusal {number}");
+                complete = false;
+            }
+        }
+    }
+    complete
+}

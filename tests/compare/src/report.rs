@@ -1,0 +1,149 @@
+//! What was compared, how often each refusal was met, and every difference.
+
+use std::fmt::Debug;
+#[cfg(feature = "compile")]
+use std::fmt::LowerHex;
+
+use independent::Refusal;
+
+#[cfg(feature = "compile")]
+use crate::marked::Marked;
+
+/// What is compared.
+#[derive(Clone, Copy, Debug, PartialEq, Eq)]
+pub enum Part {
+    Check,
+    Compile,
+    Run,
+    Evaluate,
+    Lister,
+}
+
+const PARTS: [Part; 5] = [
+    Part::Check,
+    Part::Compile,
+    Part::Run,
+    Part::Evaluate,
+    Part::Lister,
+];
+
+/// Differences printed in full; the rest are only counted.
+const PRINTED: usize = 5;
+
+#[derive(Default)]
+pub struct Report {
+    /// For each part, how often each refusal was met; at 0, how often none.
+    met: [[u64; 22]; 5],
+    pub differences: usize,
+}
+
+pub fn hex(bytes: &[u8]) -> String {
+    let bytes: Vec<String> = bytes.iter().map(|byte| format!("{byte:02X}")).collect();
+    bytes.join(" ")
+}
+
+#[cfg(feature = "run")]
+pub fn hex_words(words: &[u64]) -> String {
+    let words: Vec<String> = words.iter().map(|word| format!("{word:016X}")).collect();
+    words.join(" ")
+}
+
+impl Report {
+    /// Counts an answer of the independent program.
+    pub fn met<T>(&mut self, part: Part, answer: &Result<T, Refusal>) {
+        let number = answer.as_ref().err().map_or(0, |refusal| refusal.number);
+        self.met[part as usize][number as usize] += 1;
+    }
+
+    /// Counts an answer and holds another to it.
+    pub fn hold<T: Debug + PartialEq>(
+        &mut self,
+        part: Part,
+        wanted: Result<T, Refusal>,
+        got: Result<T, Refusal>,
+        inputs: impl Fn() -> String,
+    ) {
+        self.met(part, &wanted);
+        self.same(&format!("{part:?}: the answer"), &wanted, &got, inputs);
+    }
+
+    /// Holds what the library gave to what is wanted.
+    pub fn same<T: Debug + PartialEq + ?Sized>(
+        &mut self,
+        what: &str,
+        wanted: &T,
+        got: &T,
+        inputs: impl Fn() -> String,
+    ) {
+        if wanted == got {
+            return;
+        }
+        self.differences += 1;
+        if self.differences <= PRINTED {
+            println!("DIFFERENCE in {what}");
+            println!("  wanted  {wanted:X?}");
+            println!("  library {got:X?}");
+            println!("{}", inputs());
+        }
+    }
+
+    /// Holds a buffer after a call, with its guards.
+    #[cfg(feature = "compile")]
+    pub fn same_buffer<T: Copy + LowerHex + PartialEq>(
+        &mut self,
+        what: &str,
+        wanted: &Marked<T>,
+        got: &Marked<T>,
+        inputs: impl Fn() -> String,
+    ) {
+        if let Some((at, wanted, got)) = wanted.first_difference(got) {
+            let what = format!("{what}, first at {at}");
+            self.same(&what, &format!("{wanted:x}"), &format!("{got:x}"), inputs);
+        }
+    }
+
+    /// How often a part was compared.
+    pub fn count(&self, part: Part) -> u64 {
+        self.met[part as usize].iter().sum()
+    }
+
+    /// A table of the refusals met, in the parts that were compared.
+    pub fn print(&self) {
+        let parts: Vec<Part> = PARTS
+            .into_iter()
+            .filter(|&part| self.count(part) > 0)
+            .collect();
+        let row = |name: &str, cell: &dyn Fn(Part) -> String| {
+            let cells: Vec<String> = parts
+                .iter()
+                .map(|&part| format!("{:>9}", cell(part)))
+                .collect();
+            println!("| {name:<8} | {} |", cells.join(" | "));
+        };
+        row("refusal", &|part| format!("{part:?}"));
+        let lines: Vec<&str> = parts.iter().map(|_| "----------:").collect();
+        println!("|----------|{}|", lines.join("|"));
+        for number in 0..22 {
+            if parts
+                .iter()
+                .all(|&part| self.met[part as usize][number] == 0)
+            {
+                continue;
+            }
+            let name = if number == 0 {
+                "none".to_string()
+            } else {
+                number.to_string()
+            };
+            row(&name, &|part| self.met[part as usize][number].to_string());
+        }
+        row("all", &|part| self.count(part).to_string());
+    }
+
+    /// The refusals from `first` to `last` that a part never met.
+    pub fn never_met(&self, part: Part, first: usize, last: usize) -> Vec<usize> {
+        (first..=last)
+            .filter(|&number| self.met[part as usize][number] == 0)
+            .collect()
+    }
+}
