@@ -3,3 +3,4 @@ pub mod Text
 pub mod Lines
 pub mod Table
 pub mod Functions
+pub mod Verdicts

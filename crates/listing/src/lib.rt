@@ -4,8 +4,13 @@ ghost use mathlib.Core.Bool.{cond};
 ghost use mathlib.Core.List.{List, _++_};
 ghost use Prim.Native.Nat.{_+_, _<_, _≤_};
 ghost use lib.ListN.{length, drop};
-ghost use Rattle.list.specs.Listing.{decimal, newline, refusedText, atText};
+ghost use lib.Seq.{sets};
+ghost use Rattle.list.specs.Listing.{decimal, newline, refusedText, atText, functionLines, listing};
 ghost use Rattle.graph.specs.Bytes.{byte, u16};
+ghost use Rattle.graph.specs.Outcome.{ok, fault};
+ghost use Rattle.graph.specs.Judge.{verdict};
+ghost use Rattle.reader.specs.Layout.{earlier};
+ghost use Rattle.listing.specs.StandIn.{verdictOf, Sized};
 ghost use Rattle.listing.specs.Lines as Lines;
 ghost use Rattle.listing.specs.Lines.{Put, headText, countsText, lineAt};
 
@@ -184,4 +189,78 @@ pub fn put_function(
     let nodes = u16_at(table, p + 4);
     let middle = put_head(text, at, id, inputs, outputs, nodes);
     put_counts(text, middle, operations, words, code)
+}
+
+// STAND-IN BEGIN
+pub enum Verdict {
+    Accepted(usize),
+    Refused(u8, usize),
+}
+
+pub fn check(table: &[u8]) -> Verdict
+    ensures { λ r. ⌜ r ≡ verdictOf (verdict (now (table .entry))) ⌝ }
+{
+    if table.len() < 8 {
+        Verdict::Refused(1, 0)
+    } else {
+        Verdict::Accepted(1)
+    }
+}
+
+pub struct Sizes {
+    pub place: usize,
+    pub operations: usize,
+    pub words: usize,
+    pub code: usize,
+}
+
+pub fn measure(table: &[u8], count: usize, k: usize) -> Sizes
+    requires { ⌜ (verdict (now table) ≡ ok count) × (k < count) ⌝ }
+    ensures { λ r. ⌜ Sized (now (table .entry)) k r ⌝ }
+{
+    Sizes {
+        place: 8,
+        operations: 1,
+        words: 3,
+        code: 20,
+    }
+}
+
+// STAND-IN END
+
+// The lines of the first `count` functions.
+fn put_functions(text: &mut [u8; 2048], at: usize, table: &[u8], count: usize) -> usize
+    requires { ⌜ (verdict (now table) ≡ ok count) × (at ≤ 30) ⌝ }
+    ensures { λ r. ⌜ Put (now (text .entry)) at (functionLines (earlier 8 (now (table .entry)) count)) (now (text .exit)) r × (r ≤ 2048) ⌝ }
+{
+    let mut here = at;
+    let mut k = 0;
+    while k < count {
+        let m = measure(table, count, k);
+        here = put_function(text, here, table, m.place, m.operations, m.words, m.code);
+        k += 1;
+    }
+    here
+}
+
+// The text of an accepted table with so many functions.
+fn list_accepted(table: &[u8], count: usize, text: &mut [u8; 2048]) -> usize
+    requires { ⌜ verdict (now table) ≡ ok count ⌝ }
+    ensures { λ r. ⌜ Put (now (text .entry)) 0 (listing (now (table .entry))) (now (text .exit)) r × (r ≤ 2048) ⌝ }
+{
+    let middle = put_field(text, 0, b"accepted ", count);
+    let end = put_bytes(text, middle, b"\n");
+    put_functions(text, end, table, count)
+}
+
+// The text for a table, from the first byte on; the answer is its length.
+pub fn list_table(table: &[u8], text: &mut [u8; 2048]) -> usize
+    ensures written { λ r. ⌜ now (text .exit) ≡ sets (now (text .entry)) 0 (listing (now (table .entry))) ⌝ }
+    ensures { λ r. ⌜ (r ≡ length (listing (now (table .entry)))) × (r ≤ 2048) ⌝ }
+{
+    let verdict = check(table);
+    match verdict {
+        Verdict::Accepted(count) => list_accepted(table, count, text),
+        Verdict::Refused(number, place) => put_refused(text, number, place),
+    }
 }
