@@ -10,9 +10,9 @@ ghost use Rattle.graph.specs.Bytes.{byte, u16};
 ghost use Rattle.graph.specs.Outcome.{ok, fault};
 ghost use Rattle.graph.specs.Judge.{verdict};
 ghost use Rattle.reader.specs.Layout.{earlier};
-ghost use Rattle.listing.specs.StandIn.{verdictOf, Sized};
 ghost use Rattle.listing.specs.Lines as Lines;
 ghost use Rattle.listing.specs.Lines.{Put, headText, countsText, lineAt};
+use checker::Verdict;
 
 // ---- bytes and numbers
 
@@ -191,43 +191,6 @@ pub fn put_function(
     put_counts(text, middle, operations, words, code)
 }
 
-// STAND-IN BEGIN
-pub enum Verdict {
-    Accepted(usize),
-    Refused(u8, usize),
-}
-
-pub fn check(table: &[u8]) -> Verdict
-    ensures { λ r. ⌜ r ≡ verdictOf (verdict (now (table .entry))) ⌝ }
-{
-    if table.len() < 8 {
-        Verdict::Refused(1, 0)
-    } else {
-        Verdict::Accepted(1)
-    }
-}
-
-pub struct Sizes {
-    pub place: usize,
-    pub operations: usize,
-    pub words: usize,
-    pub code: usize,
-}
-
-pub fn measure(table: &[u8], count: usize, k: usize) -> Sizes
-    requires { ⌜ (verdict (now table) ≡ ok count) × (k < count) ⌝ }
-    ensures { λ r. ⌜ Sized (now (table .entry)) k r ⌝ }
-{
-    Sizes {
-        place: 8,
-        operations: 1,
-        words: 3,
-        code: 20,
-    }
-}
-
-// STAND-IN END
-
 // The lines of the first `count` functions.
 fn put_functions(text: &mut [u8; 2048], at: usize, table: &[u8], count: usize) -> usize
     requires { ⌜ (verdict (now table) ≡ ok count) × (at ≤ 30) ⌝ }
@@ -236,7 +199,7 @@ fn put_functions(text: &mut [u8; 2048], at: usize, table: &[u8], count: usize) -
     let mut here = at;
     let mut k = 0;
     while k < count {
-        let m = measure(table, count, k);
+        let m = sizes::measure(table, count, k);
         here = put_function(text, here, table, m.place, m.operations, m.words, m.code);
         k += 1;
     }
@@ -258,7 +221,7 @@ pub fn list_table(table: &[u8], text: &mut [u8; 2048]) -> usize
     ensures written { λ r. ⌜ now (text .exit) ≡ sets (now (text .entry)) 0 (listing (now (table .entry))) ⌝ }
     ensures { λ r. ⌜ (r ≡ length (listing (now (table .entry)))) × (r ≤ 2048) ⌝ }
 {
-    let verdict = check(table);
+    let verdict = checker::check(table);
     match verdict {
         Verdict::Accepted(count) => list_accepted(table, count, text),
         Verdict::Refused(number, place) => put_refused(text, number, place),

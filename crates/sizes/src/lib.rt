@@ -325,7 +325,15 @@ pub fn measure(table: &[u8], count: usize, k: usize) -> Sizes
     let mut results = [0u32; 16];
     let mut counts = [0u32; 16];
     let mut sizes = [0u32; 16];
-    all_sums(table, &starts, k + 1, &mut ops, &mut results, &mut counts, &mut sizes);
+    all_sums(
+        table,
+        &starts,
+        k + 1,
+        &mut ops,
+        &mut results,
+        &mut counts,
+        &mut sizes,
+    );
     let p = wide16(starts[k]);
     let operations = wide32(ops[k]);
     let own = wide32(results[k]);

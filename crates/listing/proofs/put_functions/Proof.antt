@@ -2,6 +2,7 @@
 use Prim.Native.Nat.{_-_}
 use native.Mathlib.Omega.{arith}
 use borrow.Author.Needs.{needs}
+use Rattle.sizes.proofs.Measuring.{sized}
 use Rattle.listing.proofs.Table.{line-at}
 use Rattle.listing.proofs.Functions.{Listed, start, step, done}
 use Rattle.listing.proofs.put_functions.Statement.{statement}
@@ -24,14 +25,14 @@ put-function-requires c κs =
     let l = c .before .before .before .loop .inv in
     let room = l .room in
     let most = l .most in
-    (omega arith, c .before .measure .ensures .near)
+    (omega arith, c .before .measure .ensures .1)
 
 loop-again : tie.Need-loop-again Inv-loop μ-loop
 loop-again c =
     let m = c .before .before .measure in
-    let e = m .ensures in
     let l = c .before .before .before .before .loop in
     let s = c .before .before .before .before .before .before .args in
+    let e = sized (s .table .now) (l .k) (m .result) (m .ensures .0) (m .ensures .1) in
     step _ _ _ _ _ _ _ _ _ _ (l .inv) (omega arith)
     (line-at (s .table .now) (l .k) (m .result .place) (m .result .operations) (m .result .words) (m .result .code) (e .place) (e .operations) (e .words) (e .code))
     (c .put-function .ensures .0)
