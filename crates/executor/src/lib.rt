@@ -3,9 +3,11 @@ ghost use mathlib.Core.Path.{_≡_};
 ghost use mathlib.Core.List.{[], _∷_};
 ghost use Prim.Native.Nat.{_+_, _≤_, _<_};
 ghost use lib.ListN.{length};
+ghost use lib.Seq.{sets};
 ghost use lib.Ieee as Ieee;
 ghost use lib.Ieee.{binary64};
 ghost use Rattle.graph.specs.Bytes.{byte, u16, u64};
+ghost use Rattle.value.specs.Values.{typeOf, wordsOf};
 ghost use Rattle.value.specs.Steps.{zero64};
 ghost use Rattle.list.specs.Board as Board;
 ghost use Rattle.list.specs.Code.{readInstructions};
@@ -74,6 +76,18 @@ fn constant_at(s: &[u8], at: usize) -> f64
     value::float_of(u64_at(s, at))
 }
 
+// Writes a value that is no matrix: small enough to be made part of each place that calls it.
+fn put_short(m: &mut [u64], at: usize, v: Value)
+    requires { ⌜ (at + length (wordsOf v) ≤ length (now m)) × (typeOf v ≤ 2) ⌝ }
+    ensures { λ _. ⌜ now (m .exit) ≡ sets (now (m .entry)) at (wordsOf v) ⌝ }
+{
+    match v {
+        Value::Scalar(a) => value::put(m, at, a),
+        Value::Vector(a) => value::put_vec(m, at, a),
+        Value::Matrix(a) => {}
+    }
+}
+
 fn zero() -> f64
     ensures { λ r. ⌜ r ≡ zero64 ⌝ }
 {
@@ -91,7 +105,7 @@ fn one_scalar(o: Operator, s: &[u8], at: usize, work: &mut [u64], result: usize)
     let z = zero();
     let a = value::get(work, u16_at(s, at));
     let x = value::step(o, a, z, z, z);
-    value::put_value(work, result, Value::Scalar(x));
+    put_short(work, result, Value::Scalar(x));
     next
 }
 
@@ -108,7 +122,7 @@ fn two_scalars(o: Operator, s: &[u8], at: usize, work: &mut [u64], result: usize
     let a = value::get(work, u16_at(s, at));
     let b = value::get(work, u16_at(s, p));
     let x = value::step(o, a, b, z, z);
-    value::put_value(work, result, Value::Scalar(x));
+    put_short(work, result, Value::Scalar(x));
     next
 }
 
@@ -127,7 +141,7 @@ fn three_scalars(o: Operator, s: &[u8], at: usize, work: &mut [u64], result: usi
     let b = value::get(work, u16_at(s, p));
     let c = value::get(work, u16_at(s, q));
     let x = value::step(o, a, b, c, z);
-    value::put_value(work, result, Value::Scalar(x));
+    put_short(work, result, Value::Scalar(x));
     next
 }
 
@@ -147,7 +161,7 @@ fn four_scalars(o: Operator, s: &[u8], at: usize, work: &mut [u64], result: usiz
     let c = value::get(work, u16_at(s, q));
     let d = value::get(work, u16_at(s, r));
     let x = value::step(o, a, b, c, d);
-    value::put_value(work, result, Value::Scalar(x));
+    put_short(work, result, Value::Scalar(x));
     next
 }
 
@@ -162,7 +176,7 @@ fn one_vector(o: Operator, s: &[u8], at: usize, work: &mut [u64], result: usize)
     let z = value::zero_vec();
     let a = value::get_vec(work, u16_at(s, at));
     let x = value::step_vec(o, a, z, z, z);
-    value::put_value(work, result, Value::Vector(x));
+    put_short(work, result, Value::Vector(x));
     next
 }
 
@@ -179,7 +193,7 @@ fn two_vectors(o: Operator, s: &[u8], at: usize, work: &mut [u64], result: usize
     let a = value::get_vec(work, u16_at(s, at));
     let b = value::get_vec(work, u16_at(s, p));
     let x = value::step_vec(o, a, b, z, z);
-    value::put_value(work, result, Value::Vector(x));
+    put_short(work, result, Value::Vector(x));
     next
 }
 
@@ -198,7 +212,7 @@ fn three_vectors(o: Operator, s: &[u8], at: usize, work: &mut [u64], result: usi
     let b = value::get_vec(work, u16_at(s, p));
     let c = value::get_vec(work, u16_at(s, q));
     let x = value::step_vec(o, a, b, c, z);
-    value::put_value(work, result, Value::Vector(x));
+    put_short(work, result, Value::Vector(x));
     next
 }
 
@@ -218,28 +232,13 @@ fn four_vectors(o: Operator, s: &[u8], at: usize, work: &mut [u64], result: usiz
     let c = value::get_vec(work, u16_at(s, q));
     let d = value::get_vec(work, u16_at(s, r));
     let x = value::step_vec(o, a, b, c, d);
-    value::put_value(work, result, Value::Vector(x));
+    put_short(work, result, Value::Vector(x));
     next
 }
 
-fn one_matrix(o: Operator, s: &[u8], at: usize, work: &mut [u64], result: usize) -> Next
-    requires { ⌜ Operands 1 3 (now s) at result (length (now work)) ⌝ }
-    ensures { λ x. ⌜ Operated o 1 3 (now (s .entry)) at result (now (work .entry)) (now (work .exit)) x ⌝ }
-{
-    let next = Next {
-        at: at + 2,
-        result: result + 16,
-    };
-    let z = value::zero_mat();
-    let a = value::get_mat(work, u16_at(s, at));
-    let x = value::step_mat(o, a, z, z, z);
-    value::put_value(work, result, Value::Matrix(x));
-    next
-}
-
-fn two_matrices(o: Operator, s: &[u8], at: usize, work: &mut [u64], result: usize) -> Next
+fn add_matrices(s: &[u8], at: usize, work: &mut [u64], result: usize) -> Next
     requires { ⌜ Operands 2 3 (now s) at result (length (now work)) ⌝ }
-    ensures { λ x. ⌜ Operated o 2 3 (now (s .entry)) at result (now (work .entry)) (now (work .exit)) x ⌝ }
+    ensures { λ x. ⌜ Operated Operator.Add 2 3 (now (s .entry)) at result (now (work .entry)) (now (work .exit)) x ⌝ }
 {
     let p = at + 2;
     let next = Next {
@@ -249,33 +248,131 @@ fn two_matrices(o: Operator, s: &[u8], at: usize, work: &mut [u64], result: usiz
     let z = value::zero_mat();
     let a = value::get_mat(work, u16_at(s, at));
     let b = value::get_mat(work, u16_at(s, p));
-    let x = value::step_mat(o, a, b, z, z);
-    value::put_value(work, result, Value::Matrix(x));
+    let x = value::step_mat(Operator::Add, a, b, z, z);
+    value::put_mat(work, result, x);
     next
 }
 
-fn three_matrices(o: Operator, s: &[u8], at: usize, work: &mut [u64], result: usize) -> Next
-    requires { ⌜ Operands 3 3 (now s) at result (length (now work)) ⌝ }
-    ensures { λ x. ⌜ Operated o 3 3 (now (s .entry)) at result (now (work .entry)) (now (work .exit)) x ⌝ }
+fn subtract_matrices(s: &[u8], at: usize, work: &mut [u64], result: usize) -> Next
+    requires { ⌜ Operands 2 3 (now s) at result (length (now work)) ⌝ }
+    ensures { λ x. ⌜ Operated Operator.Subtract 2 3 (now (s .entry)) at result (now (work .entry)) (now (work .exit)) x ⌝ }
 {
     let p = at + 2;
-    let q = p + 2;
     let next = Next {
-        at: q + 2,
+        at: p + 2,
         result: result + 16,
     };
     let z = value::zero_mat();
     let a = value::get_mat(work, u16_at(s, at));
     let b = value::get_mat(work, u16_at(s, p));
-    let c = value::get_mat(work, u16_at(s, q));
-    let x = value::step_mat(o, a, b, c, z);
-    value::put_value(work, result, Value::Matrix(x));
+    let x = value::step_mat(Operator::Subtract, a, b, z, z);
+    value::put_mat(work, result, x);
     next
 }
 
-fn four_matrices(o: Operator, s: &[u8], at: usize, work: &mut [u64], result: usize) -> Next
+fn multiply_matrices(s: &[u8], at: usize, work: &mut [u64], result: usize) -> Next
+    requires { ⌜ Operands 2 3 (now s) at result (length (now work)) ⌝ }
+    ensures { λ x. ⌜ Operated Operator.Multiply 2 3 (now (s .entry)) at result (now (work .entry)) (now (work .exit)) x ⌝ }
+{
+    let p = at + 2;
+    let next = Next {
+        at: p + 2,
+        result: result + 16,
+    };
+    let z = value::zero_mat();
+    let a = value::get_mat(work, u16_at(s, at));
+    let b = value::get_mat(work, u16_at(s, p));
+    let x = value::step_mat(Operator::Multiply, a, b, z, z);
+    value::put_mat(work, result, x);
+    next
+}
+
+fn divide_matrices(s: &[u8], at: usize, work: &mut [u64], result: usize) -> Next
+    requires { ⌜ Operands 2 3 (now s) at result (length (now work)) ⌝ }
+    ensures { λ x. ⌜ Operated Operator.Divide 2 3 (now (s .entry)) at result (now (work .entry)) (now (work .exit)) x ⌝ }
+{
+    let p = at + 2;
+    let next = Next {
+        at: p + 2,
+        result: result + 16,
+    };
+    let z = value::zero_mat();
+    let a = value::get_mat(work, u16_at(s, at));
+    let b = value::get_mat(work, u16_at(s, p));
+    let x = value::step_mat(Operator::Divide, a, b, z, z);
+    value::put_mat(work, result, x);
+    next
+}
+
+fn minimum_matrices(s: &[u8], at: usize, work: &mut [u64], result: usize) -> Next
+    requires { ⌜ Operands 2 3 (now s) at result (length (now work)) ⌝ }
+    ensures { λ x. ⌜ Operated Operator.Minimum 2 3 (now (s .entry)) at result (now (work .entry)) (now (work .exit)) x ⌝ }
+{
+    let p = at + 2;
+    let next = Next {
+        at: p + 2,
+        result: result + 16,
+    };
+    let z = value::zero_mat();
+    let a = value::get_mat(work, u16_at(s, at));
+    let b = value::get_mat(work, u16_at(s, p));
+    let x = value::step_mat(Operator::Minimum, a, b, z, z);
+    value::put_mat(work, result, x);
+    next
+}
+
+fn maximum_matrices(s: &[u8], at: usize, work: &mut [u64], result: usize) -> Next
+    requires { ⌜ Operands 2 3 (now s) at result (length (now work)) ⌝ }
+    ensures { λ x. ⌜ Operated Operator.Maximum 2 3 (now (s .entry)) at result (now (work .entry)) (now (work .exit)) x ⌝ }
+{
+    let p = at + 2;
+    let next = Next {
+        at: p + 2,
+        result: result + 16,
+    };
+    let z = value::zero_mat();
+    let a = value::get_mat(work, u16_at(s, at));
+    let b = value::get_mat(work, u16_at(s, p));
+    let x = value::step_mat(Operator::Maximum, a, b, z, z);
+    value::put_mat(work, result, x);
+    next
+}
+
+fn absolute_matrix(s: &[u8], at: usize, work: &mut [u64], result: usize) -> Next
+    requires { ⌜ Operands 1 3 (now s) at result (length (now work)) ⌝ }
+    ensures { λ x. ⌜ Operated Operator.Absolute 1 3 (now (s .entry)) at result (now (work .entry)) (now (work .exit)) x ⌝ }
+{
+    let next = Next {
+        at: at + 2,
+        result: result + 16,
+    };
+    let z = value::zero_mat();
+    let a = value::get_mat(work, u16_at(s, at));
+    let x = value::step_mat(Operator::Absolute, a, z, z, z);
+    value::put_mat(work, result, x);
+    next
+}
+
+fn remainder_matrices(s: &[u8], at: usize, work: &mut [u64], result: usize) -> Next
+    requires { ⌜ Operands 2 3 (now s) at result (length (now work)) ⌝ }
+    ensures { λ x. ⌜ Operated Operator.Remainder 2 3 (now (s .entry)) at result (now (work .entry)) (now (work .exit)) x ⌝ }
+{
+    let p = at + 2;
+    let next = Next {
+        at: p + 2,
+        result: result + 16,
+    };
+    let z = value::zero_mat();
+    let a = value::get_mat(work, u16_at(s, at));
+    let b = value::get_mat(work, u16_at(s, p));
+    let x = value::step_mat(Operator::Remainder, a, b, z, z);
+    value::put_mat(work, result, x);
+    next
+}
+
+fn select_matrices(s: &[u8], at: usize, work: &mut [u64], result: usize) -> Next
     requires { ⌜ Operands 4 3 (now s) at result (length (now work)) ⌝ }
-    ensures { λ x. ⌜ Operated o 4 3 (now (s .entry)) at result (now (work .entry)) (now (work .exit)) x ⌝ }
+    ensures { λ x. ⌜ Operated Operator.Select 4 3 (now (s .entry)) at result (now (work .entry)) (now (work .exit)) x ⌝ }
 {
     let p = at + 2;
     let q = p + 2;
@@ -288,8 +385,27 @@ fn four_matrices(o: Operator, s: &[u8], at: usize, work: &mut [u64], result: usi
     let b = value::get_mat(work, u16_at(s, p));
     let c = value::get_mat(work, u16_at(s, q));
     let d = value::get_mat(work, u16_at(s, r));
-    let x = value::step_mat(o, a, b, c, d);
-    value::put_value(work, result, Value::Matrix(x));
+    let x = value::step_mat(Operator::Select, a, b, c, d);
+    value::put_mat(work, result, x);
+    next
+}
+
+fn clamp_matrices(s: &[u8], at: usize, work: &mut [u64], result: usize) -> Next
+    requires { ⌜ Operands 3 3 (now s) at result (length (now work)) ⌝ }
+    ensures { λ x. ⌜ Operated Operator.Clamp 3 3 (now (s .entry)) at result (now (work .entry)) (now (work .exit)) x ⌝ }
+{
+    let p = at + 2;
+    let q = p + 2;
+    let next = Next {
+        at: q + 2,
+        result: result + 16,
+    };
+    let z = value::zero_mat();
+    let a = value::get_mat(work, u16_at(s, at));
+    let b = value::get_mat(work, u16_at(s, p));
+    let c = value::get_mat(work, u16_at(s, q));
+    let x = value::step_mat(Operator::Clamp, a, b, c, z);
+    value::put_mat(work, result, x);
     next
 }
 
@@ -297,7 +413,7 @@ fn constant(s: &[u8], at: usize, work: &mut [u64], result: usize)
     requires { ⌜ Ready 5 0 (now s) at result (length (now work)) ⌝ }
     ensures { λ _. ⌜ now (work .exit) ≡ Board.execute (instructionAt 5 0 (now (s .entry)) at result) (now (work .entry)) ⌝ }
 {
-    value::put_value(work, result, Value::Scalar(constant_at(s, at)));
+    put_short(work, result, Value::Scalar(constant_at(s, at)));
 }
 
 fn constvec(s: &[u8], at: usize, work: &mut [u64], result: usize)
@@ -311,7 +427,7 @@ fn constvec(s: &[u8], at: usize, work: &mut [u64], result: usize)
         y: constant_at(s, y),
         z: constant_at(s, z),
     };
-    value::put_value(work, result, Value::Vector(v));
+    put_short(work, result, Value::Vector(v));
 }
 
 fn constant_row(s: &[u8], at: usize) -> Row
@@ -339,7 +455,7 @@ fn constmat(s: &[u8], at: usize, work: &mut [u64], result: usize)
         r2: constant_row(s, at + 64),
         r3: constant_row(s, at + 96),
     };
-    value::put_value(work, result, Value::Matrix(m));
+    value::put_mat(work, result, m);
 }
 
 fn compose_vector(s: &[u8], at: usize, work: &mut [u64], result: usize)
@@ -351,7 +467,7 @@ fn compose_vector(s: &[u8], at: usize, work: &mut [u64], result: usize)
     let a = value::get(work, u16_at(s, at));
     let b = value::get(work, u16_at(s, p));
     let c = value::get(work, u16_at(s, q));
-    value::put_value(work, result, Value::Vector(value::compose_vector(a, b, c)));
+    put_short(work, result, Value::Vector(value::compose_vector(a, b, c)));
 }
 
 fn vector_from_scalar(s: &[u8], at: usize, work: &mut [u64], result: usize)
@@ -359,7 +475,7 @@ fn vector_from_scalar(s: &[u8], at: usize, work: &mut [u64], result: usize)
     ensures { λ _. ⌜ now (work .exit) ≡ Board.execute (instructionAt 9 0 (now (s .entry)) at result) (now (work .entry)) ⌝ }
 {
     let a = value::get(work, u16_at(s, at));
-    value::put_value(work, result, Value::Vector(value::vector_from_scalar(a)));
+    put_short(work, result, Value::Vector(value::vector_from_scalar(a)));
 }
 
 // Its three results are scalars.
@@ -368,9 +484,9 @@ fn decompose_vector(s: &[u8], at: usize, work: &mut [u64], result: usize)
     ensures { λ _. ⌜ now (work .exit) ≡ Board.execute (instructionAt 10 0 (now (s .entry)) at result) (now (work .entry)) ⌝ }
 {
     let v = value::get_vec(work, u16_at(s, at));
-    value::put_value(work, result, Value::Scalar(v.x));
-    value::put_value(work, result + 1, Value::Scalar(v.y));
-    value::put_value(work, result + 2, Value::Scalar(v.z));
+    put_short(work, result, Value::Scalar(v.x));
+    put_short(work, result + 1, Value::Scalar(v.y));
+    put_short(work, result + 2, Value::Scalar(v.z));
 }
 
 fn scalars_row(s: &[u8], at: usize, work: &[u64]) -> Row
@@ -401,7 +517,7 @@ fn compose_matrix(s: &[u8], at: usize, work: &mut [u64], result: usize)
         r2: scalars_row(s, q, work),
         r3: scalars_row(s, r, work),
     };
-    value::put_value(work, result, Value::Matrix(m));
+    value::put_mat(work, result, m);
 }
 
 fn matrix_from_columns(s: &[u8], at: usize, work: &mut [u64], result: usize)
@@ -415,7 +531,7 @@ fn matrix_from_columns(s: &[u8], at: usize, work: &mut [u64], result: usize)
     let b = value::get_vec(work, u16_at(s, p));
     let c = value::get_vec(work, u16_at(s, q));
     let d = value::get_vec(work, u16_at(s, r));
-    value::put_value(work, result, Value::Matrix(value::from_columns(a, b, c, d)));
+    value::put_mat(work, result, value::from_columns(a, b, c, d));
 }
 
 fn matrix_from_rows(s: &[u8], at: usize, work: &mut [u64], result: usize)
@@ -429,7 +545,7 @@ fn matrix_from_rows(s: &[u8], at: usize, work: &mut [u64], result: usize)
     let b = value::get_vec(work, u16_at(s, p));
     let c = value::get_vec(work, u16_at(s, q));
     let d = value::get_vec(work, u16_at(s, r));
-    value::put_value(work, result, Value::Matrix(value::from_rows(a, b, c, d)));
+    value::put_mat(work, result, value::from_rows(a, b, c, d));
 }
 
 fn dot(s: &[u8], at: usize, work: &mut [u64], result: usize)
@@ -438,7 +554,7 @@ fn dot(s: &[u8], at: usize, work: &mut [u64], result: usize)
 {
     let a = value::get_vec(work, u16_at(s, at));
     let b = value::get_vec(work, u16_at(s, at + 2));
-    value::put_value(work, result, Value::Scalar(value::dot(a, b)));
+    put_short(work, result, Value::Scalar(value::dot(a, b)));
 }
 
 fn cross(s: &[u8], at: usize, work: &mut [u64], result: usize)
@@ -447,7 +563,7 @@ fn cross(s: &[u8], at: usize, work: &mut [u64], result: usize)
 {
     let a = value::get_vec(work, u16_at(s, at));
     let b = value::get_vec(work, u16_at(s, at + 2));
-    value::put_value(work, result, Value::Vector(value::cross(a, b)));
+    put_short(work, result, Value::Vector(value::cross(a, b)));
 }
 
 fn matvec(s: &[u8], at: usize, work: &mut [u64], result: usize)
@@ -456,7 +572,7 @@ fn matvec(s: &[u8], at: usize, work: &mut [u64], result: usize)
 {
     let a = value::get_mat(work, u16_at(s, at));
     let b = value::get_vec(work, u16_at(s, at + 2));
-    value::put_value(work, result, Value::Vector(value::matvec(a, b)));
+    put_short(work, result, Value::Vector(value::matvec(a, b)));
 }
 
 fn transpose(s: &[u8], at: usize, work: &mut [u64], result: usize)
@@ -464,7 +580,7 @@ fn transpose(s: &[u8], at: usize, work: &mut [u64], result: usize)
     ensures { λ _. ⌜ now (work .exit) ≡ Board.execute (instructionAt 17 0 (now (s .entry)) at result) (now (work .entry)) ⌝ }
 {
     let a = value::get_mat(work, u16_at(s, at));
-    value::put_value(work, result, Value::Matrix(value::transpose(a)));
+    value::put_mat(work, result, value::transpose(a));
 }
 
 fn execute_plain(k: u8, s: &[u8], at: usize, work: &mut [u64], result: usize) -> Next
@@ -607,16 +723,16 @@ fn execute_matrices(k: u8, s: &[u8], at: usize, work: &mut [u64], result: usize)
     ensures { λ x. ⌜ Executed k 3 (now (s .entry)) at result (now (work .entry)) (now (work .exit)) x ⌝ }
 {
     match k {
-        1 => two_matrices(Operator::Add, s, at, work, result),
-        2 => two_matrices(Operator::Subtract, s, at, work, result),
-        3 => two_matrices(Operator::Multiply, s, at, work, result),
-        4 => two_matrices(Operator::Divide, s, at, work, result),
-        18 => two_matrices(Operator::Minimum, s, at, work, result),
-        19 => two_matrices(Operator::Maximum, s, at, work, result),
-        20 => one_matrix(Operator::Absolute, s, at, work, result),
-        21 => two_matrices(Operator::Remainder, s, at, work, result),
-        22 => four_matrices(Operator::Select, s, at, work, result),
-        _ => three_matrices(Operator::Clamp, s, at, work, result),
+        1 => add_matrices(s, at, work, result),
+        2 => subtract_matrices(s, at, work, result),
+        3 => multiply_matrices(s, at, work, result),
+        4 => divide_matrices(s, at, work, result),
+        18 => minimum_matrices(s, at, work, result),
+        19 => maximum_matrices(s, at, work, result),
+        20 => absolute_matrix(s, at, work, result),
+        21 => remainder_matrices(s, at, work, result),
+        22 => select_matrices(s, at, work, result),
+        _ => clamp_matrices(s, at, work, result),
     }
 }
 

@@ -38,7 +38,7 @@ scalars-row-requires-4 c κs =
 returns : tie.Need-returns
 returns c =
     let a = c .before .before .before .before .before .before .before .before .before .before .before .before .before .before .args in
-    c .before .before .put-value .ensures
+    c .before .before .put-mat .ensures
     ∙ of-scalars (now (a .s)) (now (a .work)) (a .at) (a .result) (c .before .before .before .before .before .before .before .before .before .before .scalars-row .ensures) (c .before .before .before .before .before .before .before .before .scalars-row2 .ensures) (c .before .before .before .before .before .before .scalars-row3 .ensures) (c .before .before .before .before .scalars-row4 .ensures)
 
 pub compose-matrix-spec : {M : Type 1} → statement M

@@ -10,7 +10,7 @@ use Rattle.executor.proofs.decompose_vector.Tie as tie
 returns : tie.Need-returns
 returns c =
     let a = c .before .before .before .before .before .before .before .before .before .before .before .before .before .before .before .before .before .args in
-    of-components (now (a .s)) (now (a .work)) (a .at) (a .result) (c .before .before .before .before .before .before .before .before .before .before .put-value .ensures) (c .before .before .before .before .before .before .put-value2 .ensures) (c .before .before .put-value3 .ensures)
+    of-components (now (a .s)) (now (a .work)) (a .at) (a .result) (c .before .before .before .before .before .before .before .before .before .before .put-short .ensures) (c .before .before .before .before .before .before .put-short2 .ensures) (c .before .before .put-short3 .ensures)
     (c .before .before .before .before .before .before .before .before .before .before .before .before .get-vec .ensures ∙ ap (vecAt (now (a .work))) (c .before .before .before .before .before .before .before .before .before .before .before .before .before .u16-at .ensures .0))
 
 pub decompose-vector-spec : {M : Type 1} → statement M

@@ -9,7 +9,7 @@ returns : tie.Need-returns
 unfolding execute results
 returns c =
     rw
-    (c .before .before .put-value .ensures, c .before .before .before .transpose .ensures, c .before .before .before .before .before .get-mat .ensures, c .before .before .before .before .before .before .u16-at .ensures .0)
+    (c .before .before .put-mat .ensures, c .before .before .before .transpose .ensures, c .before .before .before .before .before .get-mat .ensures, c .before .before .before .before .before .before .u16-at .ensures .0)
 
 pub transpose-spec : {M : Type 1} → statement M
 transpose-spec =

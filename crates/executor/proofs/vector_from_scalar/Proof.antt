@@ -9,7 +9,7 @@ returns : tie.Need-returns
 unfolding execute results
 returns c =
     rw
-    (c .before .before .put-value .ensures, c .before .before .before .vector-from-scalar .ensures, c .before .before .before .before .before .get .ensures, c .before .before .before .before .before .before .u16-at .ensures .0)
+    (c .before .before .put-short .ensures, c .before .before .before .vector-from-scalar .ensures, c .before .before .before .before .before .get .ensures, c .before .before .before .before .before .before .u16-at .ensures .0)
 
 pub vector-from-scalar-spec : {M : Type 1} → statement M
 vector-from-scalar-spec =

@@ -1,4 +1,4 @@
--- `executor::four_matrices`: the operands at their addresses, the step, the result.
+-- `executor::select_matrices`: the operands at their addresses, the step, the result.
 use borrow.Author.Needs.{needs}
 use native.Mathlib.Omega.{arith}
 use mathlib.Core.Path.{_∙_, ap}
@@ -7,9 +7,10 @@ use lib.Seq.{sets}
 use Rattle.value.specs.declared.Mat4.{Mat4}
 use Rattle.value.specs.declared.Value.the-variants.{Matrix}
 use Rattle.value.specs.Values.{wordsOf, matAt}
+use Rattle.value.specs.declared.Operator.the-variants.{Select}
 use Rattle.executor.proofs.Stored.{operate-four}
-use Rattle.executor.proofs.four_matrices.Statement.{statement}
-use Rattle.executor.proofs.four_matrices.Tie as tie
+use Rattle.executor.proofs.select_matrices.Statement.{statement}
+use Rattle.executor.proofs.select_matrices.Tie as tie
 
 returns : tie.Need-returns
 returns c =
@@ -17,8 +18,8 @@ returns c =
     let m = now (a .work) in
     record {
       words =
-          c .before .before .put-value .ensures ∙ ap (λ (x : Mat4). sets m (a .result) (wordsOf (Matrix x))) (c .before .before .before .before .step-mat .ensures)
-          ∙ operate-four (a .o) (now (a .s)) m (a .at) (a .result)
+          c .before .before .put-mat .ensures ∙ ap (λ (x : Mat4). sets m (a .result) (wordsOf (Matrix x))) (c .before .before .before .before .step-mat .ensures)
+          ∙ operate-four Select (now (a .s)) m (a .at) (a .result)
           (c .before .before .before .before .before .before .before .before .before .before .before .before .before .before .get-mat .ensures ∙ ap (matAt m) (c .before .before .before .before .before .before .before .before .before .before .before .before .before .before .before .u16-at .ensures .0))
           (c .before .before .before .before .before .before .before .before .before .before .before .get-mat2 .ensures ∙ ap (matAt m) (c .before .before .before .before .before .before .before .before .before .before .before .before .u16-at2 .ensures .0))
           (c .before .before .before .before .before .before .before .before .get-mat3 .ensures ∙ ap (matAt m) (c .before .before .before .before .before .before .before .before .before .u16-at3 .ensures .0))
@@ -27,8 +28,8 @@ returns c =
       next-result = omega arith;
     }
 
-pub four-matrices-spec : {M : Type 1} → statement M
-four-matrices-spec =
+pub select-matrices-spec : {M : Type 1} → statement M
+select-matrices-spec =
     tie.close
     (tie.spec
     (λ c. search needs) (λ c. search needs) (λ c. search needs) (λ c. search needs) (λ c. search needs) (λ c κs. omega (arith, c .before .before .before .pre .fits)) (λ c κs. omega (arith, c .before .before .before .before .pre)) (λ c κs. omega (arith, c .before .before .before .before .before .before .pre .fits)) (λ c κs. omega (arith, c .before .before .before .before .before .before .before .pre)) (λ c κs. omega (arith, c .before .before .before .before .before .before .before .before .before .pre .fits)) (λ c κs. omega (arith, c .before .before .before .before .before .before .before .before .before .before .pre)) (λ c κs. omega (arith, c .before .before .before .before .before .before .before .before .before .before .before .before .pre .fits)) (λ c κs. omega (arith, c .before .before .before .before .before .before .before .before .before .before .before .before .before .pre)) (λ c κs. search needs) (λ c κs. omega (arith, c .before .before .before .before .before .before .before .before .before .before .before .before .before .before .before .before .pre .room)) (λ c. search needs) returns)
