@@ -20,7 +20,7 @@ returns c =
       words =
           c .before .before .put-mat .ensures ∙ ap (λ (x : Mat4). sets m (a .result) (wordsOf (Matrix x))) (c .before .before .before .before .step-mat .ensures)
           ∙ operate-one Absolute (now (a .s)) m (a .at) (a .result)
-          (c .before .before .before .before .before .get-mat .ensures ∙ ap (matAt m) (c .before .before .before .before .before .before .u16-at .ensures .0))
+          (c .before .before .before .before .before .load-mat .ensures ∙ ap (matAt m) (c .before .before .before .before .before .before .u16-at .ensures .0))
           (c .before .before .before .before .before .before .before .before .zero-mat .ensures)
           (c .before .before .before .before .before .before .before .before .zero-mat .ensures)
           (c .before .before .before .before .before .before .before .before .zero-mat .ensures);
@@ -32,4 +32,4 @@ pub absolute-matrix-spec : {M : Type 1} → statement M
 absolute-matrix-spec =
     tie.close
     (tie.spec
-    (λ c. search needs) (λ c. search needs) (λ c κs. search needs) (λ c κs. omega (arith, c .before .before .before .before .pre .fits)) (λ c κs. omega (arith, c .before .before .before .before .before .pre)) (λ c κs. search needs) (λ c κs. omega (arith, c .before .before .before .before .before .before .before .before .pre .room)) (λ c. search needs) returns)
+    (λ c. search needs) (λ c. search needs) (λ c κs. search needs) (λ c κs. omega (arith, c .before .before .before .before .pre .fits)) (λ c κs. record { end = c .before .before .before .before .before .args .result; within = omega (arith, c .before .before .before .before .before .pre); room = omega (arith, c .before .before .before .before .before .pre .room); canonical = c .before .before .before .before .before .pre .canonical }) (λ c κs. search needs) (λ c κs. omega (arith, c .before .before .before .before .before .before .before .before .pre .room)) (λ c. search needs) returns)
