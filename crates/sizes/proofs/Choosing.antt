@@ -97,6 +97,23 @@ compilable-refused s c a b e = ap measuredOf (sym (within-refused (table s) c a 
 pub count-refused : (g : Chosen → Count) (s : List ℕ) (c a b : ℕ) → named s c ≡ fault a b → Count.Refused a b ≡ countOf g (named s c)
 count-refused g s c a b e = ap (countOf g) (sym e)
 
+-- a count may be capped above its limit
+up-to-cap : (limit n : ℕ) → upTo limit (min (suc limit) n) ≡ upTo limit n
+up-to-cap limit n = by-limit (leb n limit) refl
+  where
+    by-limit : (b : Bool) → leb n limit ≡ b → upTo limit (min (suc limit) n) ≡ upTo limit n
+    by-limit true e =
+        let h : n ≤ limit = leb-true n limit e in
+        let z : min (suc limit) n ≡ n = omega arith in
+        ap (upTo limit) z
+    by-limit false e = rw (leb-cap limit n, e)
+
+pub up-to-fits : (limit n : ℕ) → n ≤ limit → Count.Exactly n ≡ upTo limit n
+up-to-fits limit n l = rw (le-leb n limit l)
+
+pub up-to-over : (limit n : ℕ) → limit < n → Count.Over ≡ upTo limit n
+up-to-over limit n l = rw (lt-leb n limit l)
+
 module _ (s : List ℕ) (c k : ℕ) (e : named s c ≡ ok (chosenAt s k)) (m : Sizes) (em : m ≡ sizesOf s k) where
 
   capped-operations : m .operations ≡ min 4097 (functionOperations (operationsOf (earlier 8 s k)) (functionOf 8 s k))
@@ -113,3 +130,68 @@ module _ (s : List ℕ) (c k : ℕ) (e : named s c ≡ ok (chosenAt s k)) (m : S
 
   words-test : leb (m .words) 8192 ≡ leb (functionWords (earlier 8 s k) (functionOf 8 s k)) 8192
   words-test = ap (λ (n : ℕ). leb n 8192) capped-words ∙ leb-cap 8192 (functionWords (earlier 8 s k) (functionOf 8 s k))
+
+  module _ (l : 4096 < m .operations) where
+    many : leb (functionOperations (operationsOf (earlier 8 s k)) (functionOf 8 s k)) 4096 ≡ false
+    many = sym operations-test ∙ lt-leb (m .operations) 4096 l
+
+    pub over-operations : Measured.Refused 15 0 ≡ measuredOf (compilable s c)
+    over-operations = ap measuredOf (sym (within-found (table s) c (chosenAt s k) e ∙ fails _ 15 0 _ many))
+
+    pub no-code : Count.Over ≡ countOf codeCount (named s c)
+    unfolding codeCount
+    no-code = sym (ap (countOf codeCount) e ∙ rw many)
+
+  module _ (l : m .operations ≤ 4096) where
+    few : leb (functionOperations (operationsOf (earlier 8 s k)) (functionOf 8 s k)) 4096 ≡ true
+    few = sym operations-test ∙ le-leb (m .operations) 4096 l
+
+    module _ (h : 8192 < m .words) where
+      long : leb (functionWords (earlier 8 s k) (functionOf 8 s k)) 8192 ≡ false
+      long = sym words-test ∙ lt-leb (m .words) 8192 h
+
+      pub over-words : Measured.Refused 16 0 ≡ measuredOf (compilable s c)
+      over-words = ap measuredOf (sym (within-found (table s) c (chosenAt s k) e ∙ passes _ 15 0 _ few ∙ fails _ 16 0 _ long))
+
+      pub no-code-either : Count.Over ≡ countOf codeCount (named s c)
+      unfolding codeCount
+      no-code-either = sym (ap (countOf codeCount) e ∙ rw (few, long))
+
+    module _ (h : m .words ≤ 8192) where
+      short : leb (functionWords (earlier 8 s k) (functionOf 8 s k)) 8192 ≡ true
+      short = sym words-test ∙ le-leb (m .words) 8192 h
+
+      -- within the limits the sizes are exact
+      exact : cappedSizes (earlier 8 s k) (functionOf 8 s k) ≡ exactSizes (chosenAt s k)
+      unfolding cappedSizes exactSizes
+      exact =
+          let eo = capped-operations in
+          let ew = capped-words in
+          let zo : min 4097 (functionOperations (operationsOf (earlier 8 s k)) (functionOf 8 s k)) ≡ functionOperations (operationsOf (earlier 8 s k)) (functionOf 8 s k) = omega arith in
+          let zw : min 8193 (functionWords (earlier 8 s k) (functionOf 8 s k)) ≡ functionWords (earlier 8 s k) (functionOf 8 s k) = omega arith in
+          rw (few, short, zo, zw)
+
+      pub within-limits : Measured.Is m ≡ measuredOf (compilable s c)
+      within-limits =
+          ap (λ (x : Sizes). Measured.Is x) (em ∙ exact)
+          ∙ ap measuredOf (sym (within-found (table s) c (chosenAt s k) e ∙ passes _ 15 0 _ few ∙ passes _ 16 0 _ short))
+
+      code-exact : exactSizes (chosenAt s k) .code ≡ length (codeOf (chosenAt s k))
+      unfolding exactSizes
+      code-exact = refl
+
+      pub its-code : Count.Exactly (m .code) ≡ countOf codeCount (named s c)
+      unfolding codeCount
+      its-code =
+          ap (λ (x : Sizes). Count.Exactly (x .code)) (em ∙ exact) ∙ ap (λ (n : ℕ). Count.Exactly n) code-exact ∙ sym (ap (countOf codeCount) e ∙ rw (few, short))
+
+  -- ---- each count by itself
+
+  pub its-operations : upTo 4096 (m .operations) ≡ countOf operationCount (named s c)
+  unfolding operationCount
+  its-operations =
+      ap (upTo 4096) capped-operations ∙ up-to-cap 4096 (functionOperations (operationsOf (earlier 8 s k)) (functionOf 8 s k)) ∙ sym (ap (countOf operationCount) e)
+
+  pub its-words : upTo 8192 (m .words) ≡ countOf wordCount (named s c)
+  unfolding wordCount
+  its-words = ap (upTo 8192) capped-words ∙ up-to-cap 8192 (functionWords (earlier 8 s k) (functionOf 8 s k)) ∙ sym (ap (countOf wordCount) e)

@@ -1,59 +1,61 @@
 use borrow.Author.Needs.{needs}
+use mathlib.Core.Path.{_≡_, sym, ap, _∙_}
+use native.Mathlib.Omega.{arith}
+use Rattle.graph.specs.Outcome.{ok}
+use Rattle.graph.specs.Judge.{verdict}
+use Rattle.graph.specs.Bytes.{Bytes}
+use Rattle.sizes.specs.Position.{positionOf}
+use Rattle.sizes.proofs.Accepted.{few-functions, all-fit}
+use Rattle.sizes.proofs.Choosing.{is-accepted, is-refused, named-at, named-none, named-refused}
 use Rattle.sizes.proofs.find_named.Statement.{statement}
 use Rattle.sizes.proofs.find_named.Tie as tie
-use Rattle.sizes.proofs.find_named.Reads as reads
-use Rattle.sizes.proofs.find_named.Lts as lts
-use Rattle.checker.proofs.check.Reads as check-reads
-use Rattle.sizes.proofs.find_starts.Reads as find-starts-reads
-use Rattle.sizes.proofs.position_of.Reads as position-of-reads
-use Rattle.sizes.proofs.wide16.Reads as wide16-reads
 
--- src/lib.rt:361:9
-check-requires : tie.Need-check-requires
-check-requires c κs = search needs
+small : (d : tie.After-known-told) → Bytes (d .before .before .before .before .before .args .table .now)
+small d q = omega (arith, d .before .before .before .before .shared-slice-known .given q)
 
--- src/lib.rt:363:27
-enum-known-answer : tie.Need-enum-known-answer
-enum-known-answer c = search needs
+accepted : (d : tie.After-known-told) → verdict (d .before .before .before .before .before .args .table .now) ≡ ok (d .before .answer .given .0 .0)
+accepted d = is-accepted (verdict (d .before .before .before .before .before .args .table .now)) (d .before .answer .given .0 .0) (sym (d .before .answer .given .1) ∙ d .before .before .before .check .ensures)
 
--- src/lib.rt:365:13
 find-starts-requires : tie.Need-find-starts-requires
-find-starts-requires c κs = ?
+find-starts-requires c κs =
+    let d = c .before in
+    let s = d .before .before .before .before .before .args .table .now in
+    let n = d .before .answer .given .0 .0 in
+    (few-functions s n (accepted d), all-fit s n (accepted d) (small d), search needs)
 
--- src/lib.rt:366:56
-wide16-requires : tie.Need-wide16-requires
-wide16-requires c κs = search needs
-
--- src/lib.rt:366:17
 position-of-requires : tie.Need-position-of-requires
-position-of-requires c κs = ?
+position-of-requires c κs =
+    let d = c .before .before .before .before in
+    (few-functions (d .before .before .before .before .before .args .table .now) (d .before .answer .given .0 .0) (accepted d), c .before .before .find-starts .ensures)
 
--- src/lib.rt:373:26
-enum-known-answer-2 : tie.Need-enum-known-answer-2
-enum-known-answer-2 c = search needs
+-- where the function stands
+position : (c : tie.After-position-of) →
+    let d = c .before .before .before .before .before in
+    c .position-of .result ≡ positionOf (d .before .before .before .before .before .args .table .now) (d .before .answer .given .0 .0) (d .before .before .before .before .before .args .id)
+position c =
+    let d = c .before .before .before .before .before in
+    c .position-of .ensures ∙ ap (positionOf (d .before .before .before .before .before .args .table .now) (d .before .answer .given .0 .0)) (c .before .wide16 .ensures .0)
 
--- src/lib.rt:358:1
 returns : tie.Need-returns
-returns c = ?
+returns c =
+    let d = c .before .before .before .before .before .before in
+    let a = d .before .before .before .before .before .args in
+    let n = d .before .answer .given .0 .0 in
+    (accepted d, c .if1 .taken, named-at (a .table .now) (a .id) n (c .before .position-of .result) (accepted d) (position (c .before)) (c .if1 .taken))
 
--- src/lib.rt:358:1
 returns-2 : tie.Need-returns-2
-returns-2 c = ?
+returns-2 c =
+    let d = c .before .before .before .before .before .before in
+    let a = d .before .before .before .before .before .args in
+    named-none (a .table .now) (a .id) (d .before .answer .given .0 .0) (c .before .position-of .result) (accepted d) (position (c .before)) (c .if1 .left)
 
--- src/lib.rt:358:1
 returns-3 : tie.Need-returns-3
-returns-3 c = ?
+returns-3 c =
+    let a = c .before .before .before .before .before .args in
+    named-refused (a .table .now) (a .id) _ _ (is-refused (verdict (a .table .now)) _ _ (sym (c .before .answer2 .given .1) ∙ c .before .before .before .check .ensures))
 
 pub find-named-spec : {M : Type 1} → statement M
 find-named-spec =
     tie.close
-    (tie.spec
-    check-requires
-    enum-known-answer
-    find-starts-requires
-    wide16-requires
-    position-of-requires
-    enum-known-answer-2
-    returns
-    returns-2
-    returns-3)
+    (tie.spec (λ c κs. search needs) (λ c. search needs) find-starts-requires (λ c κs. search needs) position-of-requires (λ c. search needs)
+    returns returns-2 returns-3)
