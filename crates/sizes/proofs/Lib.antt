@@ -7,3 +7,4 @@ pub mod CodeLimits
 pub mod Accepted
 pub mod Widths
 pub mod Measuring
+pub mod Choosing

@@ -8,12 +8,18 @@ use lib.ListN.{length}
 use Rattle.ports.specs.Ports.{widths}
 use Rattle.graph.specs.Bytes.{byte}
 use Rattle.graph.specs.Graph.{Function}
-use Rattle.graph.specs.Judge.{outputTypes}
+use Rattle.graph.specs.Outcome.{Outcome, ok, fault, _>>=_, orElse}
+use Rattle.graph.specs.Judge.{outputTypes, table, verdict}
 use Rattle.graph.specs.Sums.{functionOperations, operationsOf, functionWords}
+use Rattle.graph.specs.Table.{Chosen, chosen}
+use Rattle.list.specs.Answers.{codeOf}
 use Rattle.list.specs.Compile.{boardListOf}
 use Rattle.list.specs.Code.{operationLimit, wordLimit, encode}
 use Rattle.reader.specs.Layout.{functionPlace, functionOf, earlier}
 use Rattle.sizes.specs.declared.Sizes.{Sizes}
+use Rattle.sizes.specs.declared.Named.{Named}
+use Rattle.sizes.specs.declared.Measured.{Measured}
+use Rattle.sizes.specs.declared.Count.{Count}
 
 -- both counts are within their limits
 abbrev pub limitsHold : ℕ → ℕ → Bool
@@ -58,3 +64,56 @@ pub record Sized (s : List ℕ) (k : ℕ) (r : Sizes) : Type 0 where
       → r .code ≡ length (encode (boardListOf (earlier 8 s k) (functionOf 8 s k)))
   pub arguments : r .arguments ≡ widths (functionOf 8 s k .inputs)
   pub outputs : r .outputs ≡ widths (outputTypes (functionOf 8 s k .outputs))
+
+-- ---- of the function of an id
+
+-- the table's refusals, then 14
+abbrev pub named : List ℕ → ℕ → Outcome Chosen
+named s c = do
+  fs ← table s
+  orElse (chosen c fs) 14 0
+
+-- the function at position k, and those before it
+abbrev pub chosenAt : List ℕ → ℕ → Chosen
+chosenAt s k = record { function = functionOf 8 s k; early = earlier 8 s k }
+
+abbrev pub Names : List ℕ → ℕ → Named → Type 0
+Names s c (Named.At n k) = (verdict s ≡ ok n) × (k < n) × (named s c ≡ ok (chosenAt s k))
+Names s c (Named.Refused a b) = named s c ≡ fault a b
+
+-- of a function within the limits
+unfoldable pub exactSizes : Chosen → Sizes
+exactSizes x =
+    let f = x .function in
+    record {
+      place = f .place;
+      operations = functionOperations (operationsOf (x .early)) f;
+      words = functionWords (x .early) f;
+      code = length (codeOf x);
+      arguments = widths (f .inputs);
+      outputs = widths (outputTypes (f .outputs));
+    }
+
+abbrev pub measuredOf : Outcome Chosen → Measured
+measuredOf (ok x) = Measured.Is (exactSizes x)
+measuredOf (fault n p) = Measured.Refused n p
+
+-- ---- each count by itself
+
+abbrev pub upTo : ℕ → ℕ → Count
+upTo limit n = cond (leb n limit) (Count.Exactly n) Count.Over
+
+abbrev pub countOf : (Chosen → Count) → Outcome Chosen → Count
+countOf g (ok x) = g x
+countOf g (fault n p) = Count.Refused n p
+
+unfoldable pub operationCount : Chosen → Count
+operationCount x = upTo operationLimit (functionOperations (operationsOf (x .early)) (x .function))
+
+unfoldable pub wordCount : Chosen → Count
+wordCount x = upTo wordLimit (functionWords (x .early) (x .function))
+
+-- of a function within both limits
+unfoldable pub codeCount : Chosen → Count
+codeCount x =
+    cond (limitsHold (functionOperations (operationsOf (x .early)) (x .function)) (functionWords (x .early) (x .function))) (Count.Exactly (length (codeOf x))) Count.Over

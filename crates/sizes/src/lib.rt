@@ -9,10 +9,12 @@ ghost use Rattle.ports.specs.Ports.{portsOf, formOf, constantIn, widths};
 ghost use Rattle.graph.specs.Outcome.{ok};
 ghost use Rattle.graph.specs.Bytes.{byte, u16};
 ghost use Rattle.graph.specs.Judge.{verdict};
+ghost use Rattle.list.specs.Answers.{compilable};
 ghost use Rattle.reader.specs.Layout.{kindAt, nodeAt, nodeEnd, nodePlace, nodesPlace, nodeCount};
 ghost use Rattle.sizes.specs.Position.{placeOf, positionOf, Starts, calling, NodeFit, NodesFit, Fit, AllFit};
 ghost use Rattle.sizes.specs.Capped.{operationsAt, wordsAt, instructionsAt, bytesAt, operationCap, wordCap, byteCap, Caps, AllSummed};
-ghost use Rattle.sizes.specs.Answers.{typesAt, codeSize, sizesOf};
+ghost use Rattle.sizes.specs.Answers.{typesAt, codeSize, sizesOf, Names, measuredOf, upTo, countOf, named, operationCount, wordCount, codeCount};
+use checker::Verdict;
 use ports::Form;
 use ports::Ports;
 
@@ -350,5 +352,131 @@ pub fn measure(table: &[u8], count: usize, k: usize) -> Sizes
         code,
         arguments,
         outputs,
+    }
+}
+
+// ---- by the function's id
+
+// The count of an accepted table's functions and the position of the one asked for, or a refusal.
+pub enum Named {
+    At(usize, usize),
+    Refused(u8, usize),
+}
+
+fn find_named(table: &[u8], id: u16) -> Named
+    ensures { λ r. ⌜ Names (now (table .entry)) id r ⌝ }
+{
+    let answer = checker::check(table);
+    match answer {
+        Verdict::Accepted(count) => {
+            let mut starts = [0u16; 16];
+            find_starts(table, count, &mut starts);
+            let k = position_of(table, &starts, count, wide16(id));
+            if k < count {
+                Named::At(count, k)
+            } else {
+                Named::Refused(14, 0)
+            }
+        }
+        Verdict::Refused(number, place) => Named::Refused(number, place),
+    }
+}
+
+// The sizes of a function that can be compiled, or the refusal.
+pub enum Measured {
+    Is(Sizes),
+    Refused(u8, usize),
+}
+
+// The sizes of the function of an id: the table's refusals, then 14, 15 and 16.
+pub fn measure_named(table: &[u8], id: u16) -> Measured
+    ensures { λ r. ⌜ r ≡ measuredOf (compilable (now (table .entry)) id) ⌝ }
+{
+    let answer = find_named(table, id);
+    match answer {
+        Named::At(count, k) => {
+            let m = measure(table, count, k);
+            let operations = m.operations;
+            let words = m.words;
+            if operations <= 4096 {
+                if words <= 8192 {
+                    Measured::Is(m)
+                } else {
+                    Measured::Refused(16, 0)
+                }
+            } else {
+                Measured::Refused(15, 0)
+            }
+        }
+        Named::Refused(number, place) => Measured::Refused(number, place),
+    }
+}
+
+// A count within its limit, a count above it, or the refusal of the table or of the id.
+pub enum Count {
+    Exactly(usize),
+    Over,
+    Refused(u8, usize),
+}
+
+fn up_to(limit: usize, n: usize) -> Count
+    ensures { λ r. ⌜ r ≡ upTo limit n ⌝ }
+{
+    if n <= limit {
+        Count::Exactly(n)
+    } else {
+        Count::Over
+    }
+}
+
+// The operations of the function of an id: the table's refusals, then 14.
+pub fn operations(table: &[u8], id: u16) -> Count
+    ensures { λ r. ⌜ r ≡ countOf operationCount (named (now (table .entry)) id) ⌝ }
+{
+    let answer = find_named(table, id);
+    match answer {
+        Named::At(count, k) => {
+            let m = measure(table, count, k);
+            up_to(4096, m.operations)
+        }
+        Named::Refused(number, place) => Count::Refused(number, place),
+    }
+}
+
+// The words of the function of an id.
+pub fn words(table: &[u8], id: u16) -> Count
+    ensures { λ r. ⌜ r ≡ countOf wordCount (named (now (table .entry)) id) ⌝ }
+{
+    let answer = find_named(table, id);
+    match answer {
+        Named::At(count, k) => {
+            let m = measure(table, count, k);
+            up_to(8192, m.words)
+        }
+        Named::Refused(number, place) => Count::Refused(number, place),
+    }
+}
+
+// The length of the code of the function of an id; over where its operations or its words are.
+pub fn code_length(table: &[u8], id: u16) -> Count
+    ensures { λ r. ⌜ r ≡ countOf codeCount (named (now (table .entry)) id) ⌝ }
+{
+    let answer = find_named(table, id);
+    match answer {
+        Named::At(count, k) => {
+            let m = measure(table, count, k);
+            let operations = m.operations;
+            let words = m.words;
+            if operations <= 4096 {
+                if words <= 8192 {
+                    Count::Exactly(m.code)
+                } else {
+                    Count::Over
+                }
+            } else {
+                Count::Over
+            }
+        }
+        Named::Refused(number, place) => Count::Refused(number, place),
     }
 }
