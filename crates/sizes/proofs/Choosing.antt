@@ -115,7 +115,6 @@ pub up-to-over : (limit n : ℕ) → limit < n → Count.Over ≡ upTo limit n
 up-to-over limit n l = rw (lt-leb n limit l)
 
 module _ (s : List ℕ) (c k : ℕ) (e : named s c ≡ ok (chosenAt s k)) (m : Sizes) (em : m ≡ sizesOf s k) where
-
   capped-operations : m .operations ≡ min 4097 (functionOperations (operationsOf (earlier 8 s k)) (functionOf 8 s k))
   unfolding cappedSizes
   capped-operations = ap (λ (x : Sizes). x .operations) em

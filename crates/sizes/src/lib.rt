@@ -278,15 +278,15 @@ fn widths_at(t: &[u8], p: usize, step: usize, n: usize) -> usize
     requires { ⌜ (p < 2 ^ 20) × (step ≤ 4) × (n < 256) ⌝ }
     ensures { λ r. ⌜ (r ≡ widths (typesAt n (now (t .entry)) p step)) × (r < 65536) ⌝ }
 {
-    let mut w = 0;
+    let mut total = 0;
     let mut q = p;
     let mut i = 0;
     while i < n {
-        w += ports::width(byte_at(t, q));
+        total += ports::width(byte_at(t, q));
         q += step;
         i += 1;
     }
-    w
+    total
 }
 
 // The length of the code; 0 where a count is above its limit.
@@ -327,7 +327,15 @@ pub fn measure(table: &[u8], count: usize, k: usize) -> Sizes
     let mut results = [0u32; 16];
     let mut counts = [0u32; 16];
     let mut sizes = [0u32; 16];
-    all_sums(table, &starts, k + 1, &mut ops, &mut results, &mut counts, &mut sizes);
+    all_sums(
+        table,
+        &starts,
+        k + 1,
+        &mut ops,
+        &mut results,
+        &mut counts,
+        &mut sizes,
+    );
     let p = wide16(starts[k]);
     let operations = wide32(ops[k]);
     let own = wide32(results[k]);
