@@ -1,22 +1,22 @@
 -- What an accepted table gives: its functions by position, their places, and that each is sound over those before it.
-use Prim.Native.Nat.{ℕ, zero, suc, _+_, _-_, _*_, _≤_, _<_}
+use Prim.Native.Nat.{ℕ, zero, suc, _+_, _-_, _≤_, _<_}
 use mathlib.Core.Path.{_≡_, refl, sym, ap, _∙_, subst}
 use mathlib.Core.Bool.{Bool, true, false, _&&_}
-use mathlib.Core.List.{List, [], _∷_}
+use mathlib.Core.List.{List, _∷_}
 use native.Mathlib.Omega.{arith}
 use lib.Dec.{leb, eqb}
 use lib.ListN.{length}
 use borrow.Author.Tests.{leb-true, eqb-true, eqb-false}
-use Rattle.graph.specs.Outcome.{Outcome, ok, fault, _>>=_}
+use Rattle.graph.specs.Outcome.{ok}
 use Rattle.graph.specs.Bytes.{byte, u16, Bytes}
-use Rattle.graph.specs.Graph.{Node, Function}
+use Rattle.graph.specs.Graph.{Function}
 use Rattle.graph.specs.Read.{version1, Part, function, functions, parse}
 use Rattle.graph.specs.Judge.{table, verdict}
 use Rattle.graph.specs.Sound.{AllSound}
 use Rattle.graph.proofs.Loops.{and-inv}
 use Rattle.graph.proofs.Steps.{took, passed, ok-is}
 use Rattle.graph.proofs.Formed.{accepted}
-use Rattle.reader.specs.Layout.{nodeEnd, nodeCount, nodesPlace, functionAt, functionEnd, functionPlace, functionOf, earlier}
+use Rattle.reader.specs.Layout.{nodeEnd, nodeCount, nodesPlace, functionEnd, functionPlace, functionOf, earlier}
 use Rattle.reader.specs.Find.{ReadsNode, ReadsNodes, ReadsFunction}
 use Rattle.reader.proofs.Standing.{function-read, table-read}
 use Rattle.reader.proofs.Passed.{head-fits, callee-fits, first-reads, rest-reads, function-holds}

@@ -1,14 +1,13 @@
 -- The function of an id in an accepted table, and what its capped sizes say of its counts.
-use Prim.Native.Nat.{ℕ, zero, suc, _+_, _≤_, _<_, min}
+use Prim.Native.Nat.{ℕ, suc, _≤_, _<_, min}
 use mathlib.Core.Path.{_≡_, refl, sym, ap, _∙_, subst}
-use mathlib.Core.Bool.{Bool, true, false, _&&_, cond}
-use mathlib.Core.List.{List, [], _∷_}
+use mathlib.Core.Bool.{Bool, true, false, cond}
+use mathlib.Core.List.{List}
 use mathlib.Core.Option.{Option, none, some}
 use native.Mathlib.Omega.{arith}
 use lib.Dec.{leb, eqb}
 use lib.ListN.{length}
-use borrow.Author.Tests.{leb-true, leb-false, le-leb, lt-leb}
-use Rattle.ports.specs.Ports.{widths}
+use borrow.Author.Tests.{leb-true, le-leb, lt-leb}
 use Rattle.graph.specs.Outcome.{Outcome, ok, fault, _>>=_, _>>_, need, orElse}
 use Rattle.graph.specs.Bytes.{u16}
 use Rattle.graph.specs.Graph.{Function}
@@ -17,16 +16,15 @@ use Rattle.graph.specs.Sums.{functionOperations, operationsOf, functionWords}
 use Rattle.graph.specs.Table.{Chosen, chosen}
 use Rattle.graph.proofs.Steps.{takes, stops, passes, fails}
 use Rattle.list.specs.Answers.{within, compilable, codeOf}
-use Rattle.list.specs.Compile.{boardListOf}
-use Rattle.list.specs.Code.{operationLimit, wordLimit, encode}
-use Rattle.reader.specs.Layout.{functionAt, functionPlace, functionOf, earlier}
+use Rattle.list.specs.Code.{operationLimit, wordLimit}
+use Rattle.reader.specs.Layout.{functionAt, functionOf, earlier}
 use Rattle.checker.specs.declared.Verdict.{Verdict}
 use Rattle.checker.specs.Answers.{verdictOf}
 use Rattle.sizes.specs.declared.Sizes.{Sizes}
 use Rattle.sizes.specs.declared.Measured.{Measured}
 use Rattle.sizes.specs.declared.Count.{Count}
 use Rattle.sizes.specs.Position.{placeOf, before, positionOf}
-use Rattle.sizes.specs.Answers.{limitsHold, cappedSizes, sizesOf, named, chosenAt, exactSizes, measuredOf, upTo, countOf, operationCount, wordCount, codeCount}
+use Rattle.sizes.specs.Answers.{cappedSizes, sizesOf, named, chosenAt, exactSizes, measuredOf, upTo, countOf, operationCount, wordCount, codeCount}
 use Rattle.sizes.proofs.Positions.{at-position, no-position}
 use Rattle.sizes.proofs.Accepted.{functions-are, few-functions}
 use Rattle.sizes.proofs.Measuring.{leb-cap}
@@ -115,7 +113,6 @@ pub up-to-over : (limit n : ℕ) → limit < n → Count.Over ≡ upTo limit n
 up-to-over limit n l = rw (lt-leb n limit l)
 
 module _ (s : List ℕ) (c k : ℕ) (e : named s c ≡ ok (chosenAt s k)) (m : Sizes) (em : m ≡ sizesOf s k) where
-
   capped-operations : m .operations ≡ min 4097 (functionOperations (operationsOf (earlier 8 s k)) (functionOf 8 s k))
   unfolding cappedSizes
   capped-operations = ap (λ (x : Sizes). x .operations) em

@@ -1,6 +1,6 @@
 -- The sums over a function's nodes are the sizes of its code.
-use Prim.Native.Nat.{ℕ, zero, suc, _+_, _*_, _≤_, _<_}
-use mathlib.Core.Path.{_≡_, refl, ap, sym, _∙_, subst}
+use Prim.Native.Nat.{ℕ, zero, suc, _+_, _*_, _≤_}
+use mathlib.Core.Path.{_≡_, refl, ap, sym, _∙_}
 use mathlib.Core.Bool.{Bool, true, false, cond}
 use mathlib.Core.List.{List, [], _∷_, _++_, map, append-assoc}
 use mathlib.Core.Logic.{inl, inr}
@@ -13,14 +13,14 @@ use Rattle.ports.proofs.Laws.{length-takes}
 use Rattle.graph.specs.Graph.{Ref, Payload, consts, refs, calls, Node, Function}
 use Rattle.graph.specs.Judge.{outputTypes}
 use Rattle.graph.specs.Schedule.{schedule}
-use Rattle.graph.specs.Sums.{sum, nodeOperations, functionOperations, operationsOf, nodeWords, resultWords, resultWordsOf, functionWords}
+use Rattle.graph.specs.Sums.{sum, nodeOperations, functionOperations, operationsOf}
 use Rattle.graph.specs.Sound.{Is, FormedPayload, FormedNode, Shaped, Sound, AllSound}
 use Rattle.graph.proofs.Steps.{is-each}
 use Rattle.graph.proofs.Order.{scheduled, schedule-within}
 use Rattle.list.specs.Board.{Instruction}
 use Rattle.list.specs.Compile.{Written, address, places, Open, single, openNode, also, openNodes, openFunction, opened, boardListOf}
 use Rattle.list.specs.Code.{bytesOf, allBytes, instructionCode, instructionsCode, headerCode, encode}
-use Rattle.list.proofs.Limits.{opened-size, words-of, output-words}
+use Rattle.list.proofs.Limits.{output-words}
 use Rattle.sizes.specs.CodeSums.{nodeInstructions, nodeBytes, functionInstructions, functionBytes, instructionsOf, bytesOfFunction}
 
 -- ---- a measure of code

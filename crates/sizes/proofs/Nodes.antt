@@ -1,8 +1,8 @@
 -- A node as the code meets it: its references, the place behind it, the nodes in turn.
-use Prim.Native.Nat.{ℕ, zero, suc, _+_, _-_, _*_, _≤_, _<_}
+use Prim.Native.Nat.{ℕ, suc, _+_, _-_, _*_, _≤_, _<_}
 use mathlib.Core.Path.{_≡_, refl, sym, ap, _∙_, subst}
 use mathlib.Core.Bool.{Bool, true, false}
-use mathlib.Core.List.{List, [], _∷_}
+use mathlib.Core.List.{List}
 use native.Mathlib.Omega.{arith}
 use lib.Dec.{eqb}
 use lib.ListN.{length, getD, set, length-set}
@@ -14,10 +14,10 @@ use Rattle.ports.specs.declared.Ports.{Ports}
 use Rattle.ports.specs.Kinds.{Kind, kindOf}
 use Rattle.ports.specs.Ports.{portsOf, arity, formOf, constantIn, constantWords}
 use Rattle.graph.specs.Bytes.{byte, u16}
-use Rattle.graph.specs.Graph.{Ref, Payload, consts, refs, calls, Node}
+use Rattle.graph.specs.Graph.{calls}
 use Rattle.graph.specs.Read.{references}
 use Rattle.reader.specs.Layout.{kindAt, payloadAt, payloadEnd, nodeAt, nodeEnd, nodePlace, nodesPlace, nodeCount, functionEnd, functionPlace}
-use Rattle.sizes.specs.Position.{placeOf, Starts, calling, NodeFit, NodesFit, Fit, AllFit}
+use Rattle.sizes.specs.Position.{placeOf, Starts, calling, NodeFit, NodesFit}
 use Rattle.sizes.proofs.Rows.{operandsBy, Narrow, narrow}
 
 pub call-form : (f : Form) → calling f ≡ true → f ≡ Call

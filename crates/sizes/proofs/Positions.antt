@@ -1,16 +1,16 @@
 -- What is said of the function of an id is said of the function at its position.
-use Prim.Native.Nat.{ℕ, zero, suc, _+_, _-_, _≤_, _<_}
+use Prim.Native.Nat.{ℕ, zero, suc, _-_, _≤_, _<_}
 use mathlib.Core.Path.{_≡_, refl, sym, ap, _∙_, subst}
 use mathlib.Core.Bool.{Bool, true, false, cond}
-use mathlib.Core.List.{List, [], _∷_}
+use mathlib.Core.List.{List, []}
 use mathlib.Core.Logic.{_⊎_, inl, inr, ⊎-elim}
 use native.Mathlib.Omega.{arith}
 use lib.Dec.{eqb}
 use borrow.Author.Tests.{eq-eqb, ne-eqb}
-use Rattle.graph.specs.Bytes.{byte, u16}
+use Rattle.graph.specs.Bytes.{u16}
 use Rattle.graph.specs.Graph.{Function}
 use Rattle.graph.specs.Sums.{operationsOf, resultWordsOf}
-use Rattle.reader.specs.Layout.{functionAt, functionPlace, earlier}
+use Rattle.reader.specs.Layout.{functionAt, earlier}
 use Rattle.sizes.specs.CodeSums.{instructionsOf, bytesOfFunction}
 use Rattle.sizes.specs.Position.{placeOf, before, positionOf}
 use Rattle.sizes.specs.Capped.{operationsAt, wordsAt, instructionsAt, bytesAt}

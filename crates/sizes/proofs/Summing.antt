@@ -1,8 +1,8 @@
 -- The sums over the nodes of a function, capped as they are taken.
-use Prim.Native.Nat.{ℕ, zero, suc, _+_, _-_, _*_, _≤_, _<_, min}
-use mathlib.Core.Path.{_≡_, refl, sym, ap, _∙_, subst}
-use mathlib.Core.Bool.{Bool, true, false}
-use mathlib.Core.List.{List, [], _∷_}
+use Prim.Native.Nat.{ℕ, suc, _+_, _-_, _*_, _≤_, _<_, min}
+use mathlib.Core.Path.{_≡_, refl, sym, ap, _∙_}
+use mathlib.Core.Bool.{true, false}
+use mathlib.Core.List.{List}
 use native.Mathlib.Omega.{arith}
 use lib.ListN.{getD}
 use Rattle.ports.specs.declared.Form.{Form}
@@ -13,15 +13,14 @@ use Rattle.ports.specs.Ports.{widths, gives, portsOf, arity, formOf, constantIn
 use Rattle.ports.specs.Ports as PortList
 use Rattle.ports.proofs.Laws.{words-given}
 use Rattle.graph.specs.Bytes.{byte, u16}
-use Rattle.graph.specs.Graph.{Payload, Node, Function}
+use Rattle.graph.specs.Graph.{Payload}
 use Rattle.graph.specs.Sums.{sum, nodeOperations, operationsOf, nodeWords, resultWordsOf}
-use Rattle.reader.specs.Layout.{kindAt, payloadAt, nodeAt, nodeEnd, nodesAt, nodePlace, nodesPlace, nodeCount, functionAt, functionPlace}
+use Rattle.reader.specs.Layout.{kindAt, payloadAt, nodeAt, nodeEnd, nodesAt, nodesPlace, nodeCount, functionAt}
 use Rattle.sizes.specs.declared.Sums.{Sums}
 use Rattle.sizes.specs.CodeSums.{nodeInstructions, nodeBytes, instructionsOf, bytesOfFunction}
-use Rattle.sizes.specs.Position.{placeOf, before, positionOf, calling, NodeFit, NodesFit}
-use Rattle.sizes.specs.Capped.{operationCap, wordCap, byteCap, operationsAt, wordsAt, instructionsAt, bytesAt, addsOperations, addsWords, addsInstructions, addsBytes, Caps, Summed, AllSummed}
-use Rattle.sizes.proofs.Rows.{Narrow}
-use Rattle.sizes.proofs.Nodes.{row-is, row-narrow, form-is, call-payload, Passing, pass-start, pass-here, pass-step}
+use Rattle.sizes.specs.Position.{placeOf, before, positionOf, calling, NodesFit}
+use Rattle.sizes.specs.Capped.{operationCap, wordCap, byteCap, operationsAt, wordsAt, instructionsAt, bytesAt, addsOperations, addsWords, addsInstructions, addsBytes, Caps, AllSummed}
+use Rattle.sizes.proofs.Nodes.{row-is, row-narrow, form-is, call-payload, Passing, pass-start, pass-step}
 use Rattle.sizes.proofs.Positions.{operations-at, words-at, instructions-at, bytes-at, operations-none, words-none, instructions-none, bytes-none}
 
 -- ---- what a node adds

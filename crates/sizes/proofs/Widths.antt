@@ -1,13 +1,12 @@
 -- The words of a function's inputs and outputs, type by type.
 use Prim.Native.Nat.{ℕ, zero, suc, _+_, _-_, _*_, _≤_, _<_}
-use mathlib.Core.Path.{_≡_, refl, sym, ap, _∙_, subst}
+use mathlib.Core.Path.{_≡_, refl, ap, _∙_}
 use mathlib.Core.Bool.{Bool, true, false, cond}
-use mathlib.Core.List.{List, [], _∷_}
+use mathlib.Core.List.{List, _∷_}
 use native.Mathlib.Omega.{arith}
 use lib.Dec.{eqb}
 use Rattle.ports.specs.Ports.{width, widths}
 use Rattle.graph.specs.Bytes.{byte}
-use Rattle.graph.specs.Graph.{Output, Function}
 use Rattle.graph.specs.Judge.{outputTypes}
 use Rattle.reader.specs.Layout.{inputsAt, outputsAt, inputCount, outputCount, outputsPlace, functionAt, functionPlace, functionOf}
 use Rattle.sizes.specs.Answers.{typesAt}

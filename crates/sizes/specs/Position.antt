@@ -10,7 +10,7 @@ use Rattle.ports.specs.declared.Form.the-variants.{Absent, Constant, References
 use Rattle.ports.specs.Ports.{formOf}
 use Rattle.graph.specs.Bytes.{byte, u16}
 use Rattle.graph.specs.Graph.{Function}
-use Rattle.reader.specs.Layout.{kindAt, nodeAt, nodeEnd, inputCount, outputCount, nodeCount, nodesPlace, functionPlace, functionOf, earlier}
+use Rattle.reader.specs.Layout.{kindAt, nodeEnd, inputCount, outputCount, nodeCount, nodesPlace, functionPlace, functionOf, earlier}
 
 -- where the function at a position stands; the function; those before it, the last first
 abbrev pub placeOf : List ℕ → ℕ → ℕ

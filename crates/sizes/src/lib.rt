@@ -1,17 +1,14 @@
 // Operations, words and code length of a table's functions, by sums that are taken once for each function.
 ghost use mathlib.Core.Path.{_≡_};
-ghost use mathlib.Core.Bool.{_&&_, cond};
-ghost use Prim.Native.Nat.{ℕ, suc, _+_, _*_, _<_, _≤_, _^_, min};
-ghost use lib.Dec.{leb};
-ghost use lib.ListN.{length, getD, set};
-ghost use Rattle.ports.specs.Kinds.{kindOf};
-ghost use Rattle.ports.specs.Ports.{portsOf, formOf, constantIn, widths};
+ghost use Prim.Native.Nat.{suc, _+_, _*_, _<_, _≤_, _^_, min};
+ghost use lib.ListN.{length, set};
+ghost use Rattle.ports.specs.Ports.{constantIn, widths};
 ghost use Rattle.graph.specs.Outcome.{ok};
 ghost use Rattle.graph.specs.Bytes.{byte, u16};
 ghost use Rattle.graph.specs.Judge.{verdict};
 ghost use Rattle.list.specs.Answers.{compilable};
-ghost use Rattle.reader.specs.Layout.{kindAt, nodeAt, nodeEnd, nodePlace, nodesPlace, nodeCount};
-ghost use Rattle.sizes.specs.Position.{placeOf, positionOf, Starts, calling, NodeFit, NodesFit, Fit, AllFit};
+ghost use Rattle.reader.specs.Layout.{nodeAt, nodeEnd, nodePlace, nodesPlace};
+ghost use Rattle.sizes.specs.Position.{positionOf, Starts, calling, NodesFit, Fit, AllFit};
 ghost use Rattle.sizes.specs.Capped.{operationsAt, wordsAt, instructionsAt, bytesAt, operationCap, wordCap, byteCap, Caps, AllSummed};
 ghost use Rattle.sizes.specs.Answers.{typesAt, codeSize, sizesOf, Names, measuredOf, upTo, countOf, named, operationCount, wordCount, codeCount};
 use checker::Verdict;
@@ -278,15 +275,15 @@ fn widths_at(t: &[u8], p: usize, step: usize, n: usize) -> usize
     requires { ⌜ (p < 2 ^ 20) × (step ≤ 4) × (n < 256) ⌝ }
     ensures { λ r. ⌜ (r ≡ widths (typesAt n (now (t .entry)) p step)) × (r < 65536) ⌝ }
 {
-    let mut w = 0;
+    let mut total = 0;
     let mut q = p;
     let mut i = 0;
     while i < n {
-        w += ports::width(byte_at(t, q));
+        total += ports::width(byte_at(t, q));
         q += step;
         i += 1;
     }
-    w
+    total
 }
 
 // The length of the code; 0 where a count is above its limit.

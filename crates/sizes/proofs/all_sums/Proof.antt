@@ -1,5 +1,5 @@
 use borrow.Author.Needs.{needs}
-use Prim.Native.Nat.{ℕ, _-_, _≤_}
+use Prim.Native.Nat.{_-_, _≤_}
 use native.Mathlib.Omega.{arith}
 use Rattle.sizes.proofs.Measuring.{AllMeasured, none-summed, one-more}
 use Rattle.sizes.proofs.all_sums.Statement.{statement}

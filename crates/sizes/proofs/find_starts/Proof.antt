@@ -1,10 +1,10 @@
 use borrow.Author.Needs.{needs}
-use mathlib.Core.Path.{_≡_, refl, sym, ap, _∙_, subst}
+use mathlib.Core.Path.{_≡_, sym, ap, _∙_, subst}
 use Prim.Native.Nat.{ℕ, _-_, _<_, _+_}
 use native.Mathlib.Omega.{arith}
 use Rattle.graph.specs.Bytes.{u16}
 use Rattle.reader.specs.Layout.{nodePlace, nodesPlace, nodeCount}
-use Rattle.sizes.specs.Position.{placeOf, NodesFit, Fit}
+use Rattle.sizes.specs.Position.{placeOf, Fit}
 use Rattle.sizes.proofs.Nodes.{Starting, start-none, start-step}
 use Rattle.sizes.proofs.find_starts.Statement.{statement}
 use Rattle.sizes.proofs.find_starts.Tie as tie

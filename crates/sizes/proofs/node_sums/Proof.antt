@@ -1,5 +1,5 @@
 use borrow.Author.Needs.{needs}
-use mathlib.Core.Path.{_≡_, sym, ap, _∙_}
+use mathlib.Core.Path.{sym, _∙_}
 use Rattle.sizes.proofs.Summing.{called-sums, no-callee-sums, plain-sums}
 use Rattle.sizes.proofs.node_sums.Statement.{statement}
 use Rattle.sizes.proofs.node_sums.Tie as tie

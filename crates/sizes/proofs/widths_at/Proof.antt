@@ -1,6 +1,6 @@
 use borrow.Author.Needs.{needs}
 use mathlib.Core.Path.{_≡_, ap, _∙_}
-use Prim.Native.Nat.{ℕ, _-_, _<_, _≤_}
+use Prim.Native.Nat.{_-_}
 use native.Mathlib.Omega.{arith}
 use Rattle.ports.specs.Ports.{width}
 use Rattle.graph.specs.Bytes.{byte}
@@ -21,11 +21,11 @@ loop-holds c = let a = c .before .args in add-start (a .t .now) (a .p) (a .step)
 own : (c : tie.After-width Inv-loop μ-loop) → c .width .result ≡ width (byte (c .before .before .before .before .before .args .t .now) (c .before .before .before .loop .q))
 own c = let e : c .width .result ≡ width (c .before .byte-at .result) = c .width .ensures .0 in e ∙ ap width (c .before .byte-at .ensures)
 
-add-w : tie.Need-add-w Inv-loop μ-loop
-add-w c =
+add-total : tie.Need-add-total Inv-loop μ-loop
+add-total c =
     let a = c .before .before .before .before .before .args in
     let l = c .before .before .before .loop in
-    let x = width-room (a .t .now) (a .p) (a .step) (a .n) (l .w) (l .q) (l .i) (c .width .result) (l .inv) (c .before .before .loop-test .taken) (c .before .before .before .before .before .pre .2) (own c) in
+    let x = width-room (a .t .now) (a .p) (a .step) (a .n) (l .total) (l .q) (l .i) (c .width .result) (l .inv) (c .before .before .loop-test .taken) (c .before .before .before .before .before .pre .2) (own c) in
     omega arith
 
 add-q : tie.Need-add-q Inv-loop μ-loop
@@ -42,7 +42,7 @@ loop-again : tie.Need-loop-again Inv-loop μ-loop
 loop-again c =
     let a = c .before .before .before .before .before .args in
     let l = c .before .before .before .loop in
-    add-step (a .t .now) (a .p) (a .step) (a .n) (l .w) (l .q) (l .i) (c .width .result) (l .inv) (c .before .before .loop-test .taken) (c .before .before .before .before .before .pre .1) (own c)
+    add-step (a .t .now) (a .p) (a .step) (a .n) (l .total) (l .q) (l .i) (c .width .result) (l .inv) (c .before .before .loop-test .taken) (c .before .before .before .before .before .pre .1) (own c)
 
 returns : tie.Need-returns Inv-loop μ-loop
 returns c =
@@ -51,9 +51,9 @@ returns c =
     let few = l .inv .few in
     let index = l .inv .index in
     let n = c .before .before .before .pre .2 in
-    (add-done (a .t .now) (a .p) (a .step) (a .n) (l .w) (l .q) (l .i) (l .inv) (c .loop-test .left), omega arith)
+    (add-done (a .t .now) (a .p) (a .step) (a .n) (l .total) (l .q) (l .i) (l .inv) (c .loop-test .left), omega arith)
 
 pub widths-at-spec : {M : Type 1} → statement M
 widths-at-spec =
     tie.close
-    (tie.spec Inv-loop μ-loop loop-holds (λ c κs. search needs) (λ c κs. search needs) add-w add-q add-i (λ c. search needs) loop-again returns)
+    (tie.spec Inv-loop μ-loop loop-holds (λ c κs. search needs) (λ c κs. search needs) add-total add-q add-i (λ c. search needs) loop-again returns)

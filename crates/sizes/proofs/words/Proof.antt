@@ -1,5 +1,5 @@
 use borrow.Author.Needs.{needs}
-use mathlib.Core.Path.{_≡_, ap, _∙_, subst}
+use mathlib.Core.Path.{_≡_, _∙_, subst}
 use Prim.Native.Nat.{_<_}
 use Rattle.graph.specs.Outcome.{ok}
 use Rattle.graph.specs.Judge.{verdict}
