@@ -17,7 +17,7 @@ use checker::Verdict;
 // ---- bytes and numbers
 
 // The bytes s from `at` on; the answer is the place behind them.
-pub fn put_bytes(text: &mut [u8; 2048], at: usize, s: &[u8]) -> usize
+fn put_bytes(text: &mut [u8; 2048], at: usize, s: &[u8]) -> usize
     requires { ⌜ at + length (now s) ≤ 2048 ⌝ }
     ensures { λ r. ⌜ Put (now (text .entry)) at (now (s .entry)) (now (text .exit)) r ⌝ }
 {
@@ -46,7 +46,7 @@ fn fill_digits(digits: &mut [u8; 20], n: usize) -> usize
     i
 }
 
-pub fn put_decimal(text: &mut [u8; 2048], at: usize, n: usize) -> usize
+fn put_decimal(text: &mut [u8; 2048], at: usize, n: usize) -> usize
     requires { ⌜ at + length (decimal n) ≤ 2048 ⌝ }
     ensures { λ r. ⌜ Put (now (text .entry)) at (decimal n) (now (text .exit)) r ⌝ }
 {
@@ -56,7 +56,7 @@ pub fn put_decimal(text: &mut [u8; 2048], at: usize, n: usize) -> usize
 }
 
 // A word and a number.
-pub fn put_field(text: &mut [u8; 2048], at: usize, word: &[u8], n: usize) -> usize
+fn put_field(text: &mut [u8; 2048], at: usize, word: &[u8], n: usize) -> usize
     requires { ⌜ at + length (now word ++ decimal n) ≤ 2048 ⌝ }
     ensures { λ r. ⌜ Put (now (text .entry)) at (now (word .entry) ++ decimal n) (now (text .exit)) r ⌝ }
 {
@@ -65,7 +65,7 @@ pub fn put_field(text: &mut [u8; 2048], at: usize, word: &[u8], n: usize) -> usi
 }
 
 // A word and a number, or other bytes where it is not to be shown.
-pub fn put_count(
+fn put_count(
     text: &mut [u8; 2048],
     at: usize,
     word: &[u8],
@@ -87,7 +87,7 @@ pub fn put_count(
 // ---- lines
 
 // The line of a refusal.
-pub fn put_refused(text: &mut [u8; 2048], number: u8, place: usize) -> usize
+fn put_refused(text: &mut [u8; 2048], number: u8, place: usize) -> usize
     ensures { λ r. ⌜ Put (now (text .entry)) 0 (refusedText ++ decimal number ++ atText ++ decimal place ++ newline) (now (text .exit)) r × (r ≤ 2048) ⌝ }
 {
     let number = number as usize;
@@ -97,7 +97,7 @@ pub fn put_refused(text: &mut [u8; 2048], number: u8, place: usize) -> usize
 }
 
 // The first half of a function's line.
-pub fn put_head(
+fn put_head(
     text: &mut [u8; 2048],
     at: usize,
     id: usize,
@@ -125,7 +125,7 @@ fn within(operations: usize, words: usize) -> bool
 }
 
 // The second half.
-pub fn put_counts(
+fn put_counts(
     text: &mut [u8; 2048],
     at: usize,
     operations: usize,
@@ -171,7 +171,7 @@ fn u16_at(table: &[u8], at: usize) -> usize
 }
 
 // The line of the function whose head stands at p.
-pub fn put_function(
+fn put_function(
     text: &mut [u8; 2048],
     at: usize,
     table: &[u8],
