@@ -4,17 +4,26 @@ use mathlib.Core.List.{List}
 use mathlib.Core.Path.{_≡_}
 use Rattle.graph.specs.Outcome.{Outcome}
 use Rattle.list.specs.Answers.{Buffers}
+use Rattle.checker.specs.declared.Verdict.{Verdict}
+use Rattle.checker.specs.declared.Verdict.the-variants as verdict
 use Rattle.runner.specs.declared.Ran.{Ran}
-use Rattle.runner.specs.declared.Ran.the-variants.{Done, Refused}
+use Rattle.runner.specs.declared.Ran.the-variants as ran
 use Rattle.runner.specs.Runs.{answerOf, workAfter, outAfter}
 
--- the place in the low 32 bits
-abbrev pub numberOf : Ran → ℕ
-numberOf (Done n) = n
-numberOf (Refused n p) = n * 0x1_0000_0000 + p % 0x1_0000_0000
+-- a refusal: the number, and the place in the low 32 bits
+abbrev pub refusalNumber : ℕ → ℕ → ℕ
+refusalNumber n p = n * 0x1_0000_0000 + p % 0x1_0000_0000
+
+abbrev pub verdictNumber : Verdict → ℕ
+verdictNumber (verdict.Accepted n) = n
+verdictNumber (verdict.Refused n p) = refusalNumber n p
+
+abbrev pub ranNumber : Ran → ℕ
+ranNumber (ran.Done n) = n
+ranNumber (ran.Refused n p) = refusalNumber n p
 
 -- a run's answer, and both buffers after it
-pub record Numbered (g : Outcome Buffers) (work out work′ out′ : List ℕ) (r : ℕ) : Type 0 where
-  pub answer : r ≡ numberOf (answerOf g)
+pub record RunAnswered (g : Outcome Buffers) (work out work′ out′ : List ℕ) (r : ℕ) : Type 0 where
+  pub answer : r ≡ ranNumber (answerOf g)
   pub work-after : work′ ≡ workAfter g work
   pub out-after : out′ ≡ outAfter g out

@@ -1,22 +1,48 @@
-// The entry points for other programs.
+// The entry points for other programs: an answer is one number, a refusal's number times 2^32 and its place.
 ghost use mathlib.Core.Path.{_≡_};
+ghost use Rattle.graph.specs.Judge.{verdict};
 ghost use Rattle.list.specs.Answers.{ran};
-ghost use Rattle.board.specs.Numbers.{numberOf, Numbered};
+ghost use Rattle.checker.specs.Answers.{verdictOf};
+ghost use Rattle.board.specs.Numbers.{refusalNumber, verdictNumber, ranNumber, RunAnswered};
+use checker::Verdict;
 use runner::Ran;
 
-fn number_of(r: Ran) -> u64
-    ensures { λ n. ⌜ n ≡ numberOf r ⌝ }
+fn refusal_number(n: u8, p: usize) -> u64
+    ensures { λ r. ⌜ r ≡ refusalNumber n p ⌝ }
 {
-    match r {
-        Ran::Done(n) => n as u64,
-        Ran::Refused(n, p) => (n as u64) * 0x1_0000_0000 + (p as u64) % 0x1_0000_0000,
+    (n as u64) * 0x1_0000_0000 + (p as u64) % 0x1_0000_0000
+}
+
+fn verdict_number(v: Verdict) -> u64
+    ensures { λ r. ⌜ r ≡ verdictNumber v ⌝ }
+{
+    match v {
+        Verdict::Accepted(n) => n as u64,
+        Verdict::Refused(n, p) => refusal_number(n, p),
     }
 }
 
-// Runs a code: the count of output words, or the number of a refusal times 2^32 and its place.
+fn ran_number(a: Ran) -> u64
+    ensures { λ r. ⌜ r ≡ ranNumber a ⌝ }
+{
+    match a {
+        Ran::Done(n) => n as u64,
+        Ran::Refused(n, p) => refusal_number(n, p),
+    }
+}
+
+// Checks a table: the function count, or a refusal.
+#[no_mangle]
+pub extern "C" fn ifg_check(table: &[u8]) -> u64
+    ensures { λ r. ⌜ r ≡ verdictNumber (verdictOf (verdict (now (table .entry)))) ⌝ }
+{
+    verdict_number(checker::check(table))
+}
+
+// Runs a code: the count of output words, or a refusal.
 #[no_mangle]
 pub extern "C" fn ifr_run(code: &[u8], arguments: &[u64], work: &mut [u64], out: &mut [u64]) -> u64
-    ensures { λ r. ⌜ Numbered (ran (now (code .entry)) (now (arguments .entry)) (now (work .entry)) (now (out .entry))) (now (work .entry)) (now (out .entry)) (now (work .exit)) (now (out .exit)) r ⌝ }
+    ensures { λ r. ⌜ RunAnswered (ran (now (code .entry)) (now (arguments .entry)) (now (work .entry)) (now (out .entry))) (now (work .entry)) (now (out .entry)) (now (work .exit)) (now (out .exit)) r ⌝ }
 {
-    number_of(runner::run(code, arguments, work, out))
+    ran_number(runner::run(code, arguments, work, out))
 }

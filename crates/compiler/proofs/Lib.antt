@@ -1,3 +1,12 @@
 pub mod Spots
 pub mod CodeSizes
 pub mod Bounds
+pub mod Writing
+pub mod Rows
+pub mod Nodes
+pub mod Positions
+pub mod Sizes
+pub mod Loops
+pub mod Single
+pub mod Opening
+pub mod Emission

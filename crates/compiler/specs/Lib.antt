@@ -1,1 +1,4 @@
 pub mod Static
+pub mod Position
+pub mod Capped
+pub mod Emit

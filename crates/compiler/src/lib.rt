@@ -1,1 +1,496 @@
 // The compiler: from a table and a function to the board list.
+ghost use mathlib.Core.Path.{_≡_};
+ghost use mathlib.Core.Bool.{true, false};
+ghost use Prim.Native.Nat.{ℕ, suc, _+_, _*_, _<_, _≤_, _^_, min};
+ghost use lib.ListN.{length, getD, set};
+ghost use lib.Seq.{sets};
+ghost use Rattle.ports.specs.Kinds.{kindOf};
+ghost use Rattle.ports.specs.Ports.{portsOf, formOf, constantIn};
+ghost use Rattle.graph.specs.Bytes.{byte, u16};
+ghost use Rattle.graph.specs.Look.{reads};
+ghost use Rattle.list.specs.Code.{bytesOf, allBytes};
+ghost use Rattle.reader.specs.Layout.{kindAt, nodeAt, nodeEnd, nodePlace, nodesPlace, nodeCount};
+ghost use Rattle.compiler.specs.Position.{placeOf, positionOf, Starts, calling, ReadsOf, NodeFit, NodesFit, Fit, AllFit};
+ghost use Rattle.compiler.specs.Capped.{operationsAt, wordsAt, instructionsAt, bytesAt, operationCap, wordCap, byteCap, Caps, AllSummed};
+ghost use Rattle.compiler.specs.Emit.{copied, spotRoom, Small, addressOf, addressesIn, nodeOpened, functionOpened, Room, Emits, AllLaid};
+use ports::Form;
+use ports::Ports;
+
+// ---- numbers
+
+fn wide(x: u8) -> usize
+    ensures { λ r. ⌜ (r ≡ x) × (r < 256) ⌝ }
+{
+    x as usize
+}
+
+fn wide16(x: u16) -> usize
+    ensures { λ r. ⌜ (r ≡ x) × (r < 65536) ⌝ }
+{
+    x as usize
+}
+
+fn wide32(x: u32) -> usize
+    ensures { λ r. ⌜ (r ≡ x) × (r < 2 ^ 32) ⌝ }
+{
+    x as usize
+}
+
+// A byte of the table; behind its end 0.
+fn byte_at(t: &[u8], at: usize) -> u8
+    ensures { λ r. ⌜ r ≡ byte (now (t .entry)) at ⌝ }
+{
+    if at < t.len() { t[at] } else { 0 }
+}
+
+fn u16_at(t: &[u8], at: usize) -> usize
+    requires { ⌜ at < 2 ^ 32 ⌝ }
+    ensures { λ r. ⌜ (r ≡ u16 (now (t .entry)) at) × (r < 65536) ⌝ }
+{
+    wide(byte_at(t, at)) + wide(byte_at(t, at + 1)) * 256
+}
+
+fn put16(code: &mut [u8], at: usize, x: u16)
+    requires { ⌜ at + 2 ≤ length (now code) ⌝ }
+    ensures { λ _. ⌜ now (code .exit) ≡ sets (now (code .entry)) at (bytesOf 2 x) ⌝ }
+{
+    code[at] = (x % 256) as u8;
+    code[at + 1] = (x / 256 % 256) as u8;
+}
+
+// n bytes of the table.
+fn copy(t: &[u8], from: usize, n: usize, code: &mut [u8], at: usize)
+    requires { ⌜ (from + n ≤ 2 ^ 32) × (at + n ≤ length (now code)) ⌝ }
+    ensures { λ _. ⌜ now (code .exit) ≡ sets (now (code .entry)) at (copied n (now (t .entry)) from) ⌝ }
+{
+    let mut j = 0;
+    while j < n {
+        code[at + j] = byte_at(t, from + j);
+        j += 1;
+    }
+}
+
+fn capped(x: usize, cap: usize) -> usize
+    ensures { λ r. ⌜ r ≡ min cap x ⌝ }
+{
+    if cap <= x { cap } else { x }
+}
+
+// ---- nodes
+
+fn is_call(form: Form) -> bool
+    ensures { λ r. ⌜ r ≡ calling form ⌝ }
+{
+    match form {
+        Form::Absent => false,
+        Form::Constant => false,
+        Form::References => false,
+        Form::Call => true,
+    }
+}
+
+// The words of a kind's constant.
+fn constant_words(form: Form, words: u8) -> usize
+    ensures { λ r. ⌜ (r ≡ constantIn form words) × (r < 256) ⌝ }
+{
+    match form {
+        Form::Absent => 0,
+        Form::Constant => wide(words),
+        Form::References => 0,
+        Form::Call => 0,
+    }
+}
+
+// Where the references of a node begin, and how many there are.
+pub struct Reads {
+    pub first: usize,
+    pub count: usize,
+}
+
+fn reads_at(t: &[u8], p: usize) -> Reads
+    requires { ⌜ p < 65536 ⌝ }
+    ensures { λ r. ⌜ ReadsOf (now (t .entry)) p r ⌝ }
+{
+    let row = ports::ports_of(byte_at(t, p + 2));
+    let form = row.form;
+    if is_call(form) {
+        Reads {
+            first: p + 4 + 3,
+            count: wide(byte_at(t, p + 4 + 2)),
+        }
+    } else {
+        Reads {
+            first: p + 4,
+            count: wide(row.operands),
+        }
+    }
+}
+
+// The place behind the node at p.
+fn node_end(t: &[u8], p: usize) -> usize
+    requires { ⌜ p < 65536 ⌝ }
+    ensures { λ r. ⌜ (r ≡ nodeEnd (now (t .entry)) p) × (r < 2 ^ 20) ⌝ }
+{
+    let row = ports::ports_of(byte_at(t, p + 2));
+    let form = row.form;
+    if is_call(form) {
+        p + 4 + 3 + 3 * wide(byte_at(t, p + 4 + 2))
+    } else {
+        p + 4 + 3 * wide(row.operands) + 8 * constant_words(form, row.words)
+    }
+}
+
+// Where the nodes of the function at p begin.
+fn nodes_place(t: &[u8], p: usize) -> usize
+    requires { ⌜ p < 65536 ⌝ }
+    ensures { λ r. ⌜ (r ≡ nodesPlace (now (t .entry)) p) × (r < 2 ^ 20) ⌝ }
+{
+    p + 6 + wide(byte_at(t, p + 2)) + 4 * wide(byte_at(t, p + 3))
+}
+
+// The place behind n nodes from `at` on.
+fn nodes_end(t: &[u8], at: usize, n: usize) -> usize
+    requires { ⌜ (at < 2 ^ 20) × NodesFit (now t) n at ⌝ }
+    ensures { λ r. ⌜ (r ≡ nodePlace (now (t .entry)) at n) × (r < 2 ^ 20) ⌝ }
+{
+    let mut q = at;
+    let mut i = 0;
+    while i < n {
+        q = node_end(t, q);
+        i += 1;
+    }
+    q
+}
+
+// The places of n functions.
+fn find_starts(t: &[u8], n: usize, starts: &mut [u16; 16])
+    requires { ⌜ (n ≤ 16) × AllFit (now t) n × (length (now starts) ≡ 16) ⌝ }
+    ensures { λ _. ⌜ Starts (now (t .entry)) (now (starts .exit)) n ⌝ }
+{
+    let mut p = 8;
+    let mut k = 0;
+    while k < n {
+        starts[k] = p as u16;
+        let count = u16_at(t, p + 4);
+        p = nodes_end(t, nodes_place(t, p), count);
+        k += 1;
+    }
+}
+
+// The position of the function of an id among those before k, or 16.
+fn position_of(t: &[u8], starts: &[u16; 16], k: usize, c: usize) -> usize
+    requires { ⌜ (k ≤ 16) × Starts (now t) (now starts) k ⌝ }
+    ensures { λ r. ⌜ r ≡ positionOf (now (t .entry)) k c ⌝ }
+{
+    let mut m = k;
+    while 0 < m {
+        m -= 1;
+        if u16_at(t, wide16(starts[m])) == c {
+            return m;
+        }
+    }
+    16
+}
+
+// ---- sums
+
+// Operations, result words, instructions and bytes of code; at a cap or above it, some number that is.
+pub struct Sums {
+    pub operations: usize,
+    pub words: usize,
+    pub instructions: usize,
+    pub bytes: usize,
+}
+
+// What the node at p adds to the sums of the function at position k.
+fn node_sums(
+    t: &[u8],
+    starts: &[u16; 16],
+    k: usize,
+    ops: &[u32; 16],
+    words: &[u32; 16],
+    counts: &[u32; 16],
+    sizes: &[u32; 16],
+    p: usize,
+) -> Sums
+    requires { ⌜ (k ≤ 16) × (p < 65536) × Starts (now t) (now starts) k ⌝ }
+    requires { ⌜ AllSummed (now t) (now ops) (now words) (now counts) (now sizes) k ⌝ }
+    ensures { λ r. ⌜ Caps (now (t .entry)) k (nodeAt (now (t .entry)) p) r ⌝ }
+{
+    let row = ports::ports_of(byte_at(t, p + 2));
+    let form = row.form;
+    if is_call(form) {
+        let g = position_of(t, starts, k, u16_at(t, p + 4));
+        if g < k {
+            let o = wide32(ops[g]);
+            let w = wide32(words[g]);
+            let m = wide32(counts[g]);
+            let b = wide32(sizes[g]);
+            Sums {
+                operations: 1 + o,
+                words: w,
+                instructions: m,
+                bytes: b,
+            }
+        } else {
+            Sums {
+                operations: 1,
+                words: 0,
+                instructions: 0,
+                bytes: 0,
+            }
+        }
+    } else {
+        let w = ports::result_words(row, byte_at(t, p + 3));
+        let n = wide(row.operands);
+        let c = constant_words(form, row.words);
+        Sums {
+            operations: 1,
+            words: w,
+            instructions: 1,
+            bytes: 2 + 2 * n + 8 * c,
+        }
+    }
+}
+
+// The sums of the function at position k, behind those of the functions before it.
+fn function_sums(
+    t: &[u8],
+    starts: &[u16; 16],
+    k: usize,
+    ops: &mut [u32; 16],
+    words: &mut [u32; 16],
+    counts: &mut [u32; 16],
+    sizes: &mut [u32; 16],
+)
+    requires { ⌜ (k < 16) × Fit (now t) k × Starts (now t) (now starts) (suc k) ⌝ }
+    requires { ⌜ AllSummed (now t) (now ops) (now words) (now counts) (now sizes) k ⌝ }
+    ensures { λ _. ⌜ (now (ops .exit) ≡ set (now (ops .entry)) k (min operationCap (operationsAt (now (t .entry)) k)))
+        × (now (words .exit) ≡ set (now (words .entry)) k (min wordCap (wordsAt (now (t .entry)) k)))
+        × (now (counts .exit) ≡ set (now (counts .entry)) k (min operationCap (instructionsAt (now (t .entry)) k)))
+        × (now (sizes .exit) ≡ set (now (sizes .entry)) k (min byteCap (bytesAt (now (t .entry)) k))) ⌝ }
+{
+    let p = wide16(starts[k]);
+    let n = u16_at(t, p + 4);
+    let mut q = nodes_place(t, p);
+    let mut o = 0;
+    let mut w = 0;
+    let mut m = 0;
+    let mut b = 0;
+    let mut i = 0;
+    while i < n {
+        let r = node_sums(t, starts, k, ops, words, counts, sizes, q);
+        o = capped(o + r.operations, 4097);
+        w = capped(w + r.words, 8193);
+        m = capped(m + r.instructions, 4097);
+        b = capped(b + r.bytes, 1048576);
+        q = node_end(t, q);
+        i += 1;
+    }
+    ops[k] = o as u32;
+    words[k] = w as u32;
+    counts[k] = m as u32;
+    sizes[k] = b as u32;
+}
+
+// ---- instructions
+
+// The address of a spot.
+fn address(ins: &[u16; 8], first: usize, e: usize) -> u16
+    requires { ⌜ (first ≤ 8192) × (e ≤ 16384) ⌝ }
+    ensures { λ r. ⌜ r ≡ addressOf (now (ins .entry)) first e ⌝ }
+{
+    if e < 8 {
+        ins[e]
+    } else {
+        (first + (e - 8)) as u16
+    }
+}
+
+// The bytes of the addresses of n operands.
+fn operands(
+    spots: &[u16; 20166],
+    spot: usize,
+    n: usize,
+    ins: &[u16; 8],
+    first: usize,
+    code: &mut [u8],
+    at: usize,
+)
+    requires { ⌜ (first ≤ 8192) × Small (now spots) × (spot + n ≤ spotRoom) × (at + 2 * n ≤ length (now code)) ⌝ }
+    ensures { λ _. ⌜ now (code .exit) ≡ sets (now (code .entry)) at (allBytes 2 (addressesIn (now (spots .entry)) (now (ins .entry)) first spot n)) ⌝ }
+{
+    let mut j = 0;
+    while j < n {
+        let a = address(ins, first, wide16(spots[spot + j]));
+        put16(code, at + 2 * j, a);
+        j += 1;
+    }
+}
+
+// The addresses of n arguments.
+fn arguments(
+    spots: &[u16; 20166],
+    spot: usize,
+    n: usize,
+    ins: &[u16; 8],
+    first: usize,
+    args: &mut [u16; 8],
+)
+    requires { ⌜ (first ≤ 8192) × Small (now spots) × (spot + n ≤ spotRoom) × (n ≤ 8) ⌝ }
+    ensures { λ _. ⌜ now (args .exit) ≡ sets (now (args .entry)) 0 (addressesIn (now (spots .entry)) (now (ins .entry)) first spot n) ⌝ }
+{
+    let mut j = 0;
+    while j < n {
+        args[j] = address(ins, first, wide16(spots[spot + j]));
+        j += 1;
+    }
+}
+
+// The byte behind what was written, the next free word, and the spot behind those that were read.
+pub struct Reached {
+    pub at: usize,
+    pub next: usize,
+    pub spot: usize,
+}
+
+// The node at p, which is no call.
+fn emit_single(
+    t: &[u8],
+    spots: &[u16; 20166],
+    k: usize,
+    p: usize,
+    spot: usize,
+    ins: &[u16; 8],
+    first: usize,
+    code: &mut [u8],
+    at: usize,
+    next: usize,
+) -> Reached
+    requires { ⌜ (p < 65536) × (calling (formOf (kindAt (now t) p)) ≡ false) ⌝ }
+    requires { ⌜ (first ≤ 8192) × Small (now spots) × (spot + length (reads (nodeAt (now t) p)) ≤ spotRoom) ⌝ }
+    requires { ⌜ Room (now code) at (nodeOpened (now t) (now spots) k p spot (now ins) first next) ⌝ }
+    ensures { λ r. ⌜ Emits (now (code .entry)) (now (code .exit)) at
+        (nodeOpened (now (t .entry)) (now (spots .entry)) k p spot (now (ins .entry)) first next) r ⌝ }
+    ensures { λ r. ⌜ r .spot ≡ spot + length (reads (nodeAt (now (t .entry)) p)) ⌝ }
+{
+    let kind = byte_at(t, p + 2);
+    let ty = byte_at(t, p + 3);
+    let row = ports::ports_of(kind);
+    let form = row.form;
+    let n = wide(row.operands);
+    let m = 8 * constant_words(form, row.words);
+    let w = ports::result_words(row, ty);
+    code[at] = kind;
+    code[at + 1] = ty;
+    operands(spots, spot, n, ins, first, code, at + 2);
+    copy(t, p + 4, m, code, at + 2 + 2 * n);
+    Reached {
+        at: at + 2 + 2 * n + m,
+        next: next + w,
+        spot: spot + n,
+    }
+}
+
+// The node at p of the function at position k, whose results begin at `first`.
+fn emit_node(
+    t: &[u8],
+    starts: &[u16; 16],
+    begins: &[u16; 16],
+    order: &[u16; 4096],
+    spots: &[u16; 20166],
+    k: usize,
+    p: usize,
+    spot: usize,
+    ins: &[u16; 8],
+    first: usize,
+    code: &mut [u8],
+    at: usize,
+    next: usize,
+) -> Reached
+    requires { ⌜ (k < 16) × Starts (now t) (now starts) k × NodeFit (now t) p ⌝ }
+    requires { ⌜ (first ≤ 8192) × Small (now spots) × (spot + length (reads (nodeAt (now t) p)) ≤ spotRoom) ⌝ }
+    requires { ⌜ AllLaid (now t) (now begins) (now order) (now spots) k ⌝ }
+    requires { ⌜ Room (now code) at (nodeOpened (now t) (now spots) k p spot (now ins) first next) ⌝ }
+    ensures { λ r. ⌜ Emits (now (code .entry)) (now (code .exit)) at
+        (nodeOpened (now (t .entry)) (now (spots .entry)) k p spot (now (ins .entry)) first next) r ⌝ }
+    ensures { λ r. ⌜ r .spot ≡ spot + length (reads (nodeAt (now (t .entry)) p)) ⌝ }
+{
+    let row = ports::ports_of(byte_at(t, p + 2));
+    let form = row.form;
+    if is_call(form) {
+        let n = wide(byte_at(t, p + 4 + 2));
+        let c = u16_at(t, p + 4);
+        let mut args = [0u16; 8];
+        arguments(spots, spot, n, ins, first, &mut args);
+        let g = position_of(t, starts, k, c);
+        if g < k {
+            let r = emit(t, starts, begins, order, spots, g, &args, code, at, next);
+            Reached {
+                at: r.at,
+                next: r.next,
+                spot: spot + n,
+            }
+        } else {
+            Reached {
+                at,
+                next,
+                spot: spot + n,
+            }
+        }
+    } else {
+        emit_single(t, spots, k, p, spot, ins, first, code, at, next)
+    }
+}
+
+// The function at position k, with the addresses of its arguments.
+fn emit(
+    t: &[u8],
+    starts: &[u16; 16],
+    begins: &[u16; 16],
+    order: &[u16; 4096],
+    spots: &[u16; 20166],
+    k: usize,
+    ins: &[u16; 8],
+    code: &mut [u8],
+    at: usize,
+    next: usize,
+) -> Reached
+    requires { ⌜ (k < 16) × Starts (now t) (now starts) (suc k) × Small (now spots) ⌝ }
+    requires { ⌜ AllLaid (now t) (now begins) (now order) (now spots) (suc k) ⌝ }
+    requires { ⌜ Room (now code) at (functionOpened (now t) k (now ins) next) ⌝ }
+    ensures { λ r. ⌜ Emits (now (code .entry)) (now (code .exit)) at (functionOpened (now (t .entry)) k (now (ins .entry)) next) r ⌝ }
+{
+    let n = u16_at(t, wide16(starts[k]) + 4);
+    let mut spot = wide16(begins[k]);
+    let mut here = at;
+    let mut word = next;
+    let mut i = 0;
+    while i < n {
+        let p = wide16(order[256 * k + i]);
+        let r = emit_node(
+            t,
+            starts,
+            begins,
+            order,
+            spots,
+            k,
+            p,
+            spot,
+            ins,
+            next,
+            code,
+            here,
+            word,
+        );
+        here = r.at;
+        word = r.next;
+        spot = r.spot;
+        i += 1;
+    }
+    Reached {
+        at: here,
+        next: word,
+        spot,
+    }
+}

@@ -41,10 +41,10 @@ module _ {k : ℕ} {o : Operator} {n : ℕ} (c : Carried k o n) (t : ℕ) (s : L
   behind : endOf k at ≡ at + 2 * n
   behind = let e : arity (kindOf k) ≡ n = c .count in let z : constantWords (kindOf k) ≡ 0 = c .constants in omega arith
 
-  operands-of : (size : ℕ) → Ready k t s at result size → Operands n t s at result size
-  operands-of size h =
+  operands-of : (m : List ℕ) → Ready k t s at result m → Operands n t s at result m
+  operands-of m h =
       let f : endOf k at ≤ length s = h .fits in
-      let r : result + wordsGiven k t ≤ size = h .room in
+      let r : result + wordsGiven k t ≤ length m = h .room in
       let g : wordsGiven k t ≡ width t + 0 = c .gives t in
       let e : endOf k at ≡ at + 2 * n = behind in
       record {
@@ -52,6 +52,7 @@ module _ {k : ℕ} {o : Operator} {n : ℕ} (c : Carried k o n) (t : ℕ) (s : L
         operands = subst (λ (ts : List ℕ). Below result ts (addresses n s at)) (c .takes t)
             (subst (λ (i : ℕ). Below result (takes (kindOf k) t) (addresses i s at)) (c .count) (h .operands));
         room = omega arith;
+        canonical = h .canonical;
       }
 
   carried-out : (m : List ℕ) → operate o t (addresses n s at) result m ≡ execute (instructionAt k t s at result) m
@@ -114,12 +115,12 @@ clamp-is = record { count = refl; takes = λ t. refl; gives = λ t. refl; consta
 
 -- ---- an arm: its number k stands for the kind byte x
 
-module _ {x t : ℕ} {s : List ℕ} {at result size : ℕ} (h : Executable x t s at result size) {k : ℕ} (e : x ≡ k) where
-  pub plain-ready : Ready k t s at result size
-  plain-ready = subst (λ (i : ℕ). Ready i t s at result size) e (h .ready)
+module _ {x t : ℕ} {s : List ℕ} {at result : ℕ} {m₀ : List ℕ} (h : Executable x t s at result m₀) {k : ℕ} (e : x ≡ k) where
+  pub plain-ready : Ready k t s at result m₀
+  plain-ready = subst (λ (i : ℕ). Ready i t s at result m₀) e (h .ready)
 
-  pub typed-ready : {o : Operator} {n : ℕ} → Carried k o n → Operands n t s at result size
-  typed-ready c = operands-of c t s at result size plain-ready
+  pub typed-ready : {o : Operator} {n : ℕ} → Carried k o n → Operands n t s at result m₀
+  typed-ready c = operands-of c t s at result m₀ plain-ready
 
 module _ {x t : ℕ} {s : List ℕ} {at result : ℕ} {k : ℕ} (e : x ≡ k) {m after : List ℕ} {y : Next} where
   pub plain-done : Executed k t s at result m after y → Executed x t s at result m after y
@@ -129,8 +130,8 @@ module _ {x t : ℕ} {s : List ℕ} {at result : ℕ} {k : ℕ} (e : x ≡ k) {m
   typed-done c d = plain-done (executed-of c t s at result d)
 
 -- the same of the type byte t, which is u
-pub with-type : {k t u : ℕ} {s : List ℕ} {at result size : ℕ} → t ≡ u → Executable k t s at result size → Executable k u s at result size
-with-type {k} {t} {u} {s} {at} {result} {size} e h = subst (λ (i : ℕ). Executable k i s at result size) e h
+pub with-type : {k t u : ℕ} {s : List ℕ} {at result : ℕ} {m₀ : List ℕ} → t ≡ u → Executable k t s at result m₀ → Executable k u s at result m₀
+with-type {k} {t} {u} {s} {at} {result} {m₀} e h = subst (λ (i : ℕ). Executable k i s at result m₀) e h
 
 pub of-type : {k t u : ℕ} {s : List ℕ} {at result : ℕ} {m after : List ℕ} {y : Next} → t ≡ u → Executed k u s at result m after y → Executed k t s at result m after y
 of-type {k} {t} {u} {s} {at} {result} {m} {after} {y} e d = subst (λ (i : ℕ). Executed k i s at result m after y) (sym e) d
@@ -191,17 +192,17 @@ plainArms = 16 ∷ 15 ∷ 14 ∷ 13 ∷ 12 ∷ 11 ∷ 10 ∷ 9 ∷ 8 ∷ 7 ∷ 6
 abbrev typedArms : List ℕ
 typedArms = 22 ∷ 21 ∷ 20 ∷ 19 ∷ 18 ∷ 4 ∷ 3 ∷ 2 ∷ 1 ∷ []
 
-module _ {k : ℕ} {s : List ℕ} {at result size : ℕ} where
-  pub last-plain : Executable k 0 s at result size → NoneOf plainArms k → k ≡ 17
+module _ {k : ℕ} {s : List ℕ} {at result : ℕ} {m₀ : List ℕ} where
+  pub last-plain : Executable k 0 s at result m₀ → NoneOf plainArms k → k ≡ 17
   last-plain h r = last-of 17 plainArms k (among (17 ∷ plainArms) 0 refl k (h .legal)) r
 
-  pub last-scalars : Executable k 1 s at result size → NoneOf typedArms k → k ≡ 23
+  pub last-scalars : Executable k 1 s at result m₀ → NoneOf typedArms k → k ≡ 23
   last-scalars h r = last-of 23 typedArms k (among (23 ∷ typedArms) 1 refl k (h .legal)) r
 
-  pub last-vectors : Executable k 2 s at result size → NoneOf typedArms k → k ≡ 23
+  pub last-vectors : Executable k 2 s at result m₀ → NoneOf typedArms k → k ≡ 23
   last-vectors h r = last-of 23 typedArms k (among (23 ∷ typedArms) 2 refl k (h .legal)) r
 
-  pub last-matrices : Executable k 3 s at result size → NoneOf typedArms k → k ≡ 23
+  pub last-matrices : Executable k 3 s at result m₀ → NoneOf typedArms k → k ≡ 23
   last-matrices h r = last-of 23 typedArms k (among (23 ∷ typedArms) 3 refl k (h .legal)) r
 
 last-fits : (b : Bool) (t : ℕ) → cond b (isType t) (eqb t 0) ≡ true → NoneOf (2 ∷ 1 ∷ 0 ∷ []) t → t ≡ 3
@@ -212,5 +213,5 @@ last-fits true t e r =
     omega (arith, r .1, r .0 .1)
 last-fits false t e r = absurd (r .0 .0 .1 (eqb-true t 0 e))
 
-pub last-type : {k t : ℕ} {s : List ℕ} {at result size : ℕ} → Executable k t s at result size → NoneOf (2 ∷ 1 ∷ 0 ∷ []) t → t ≡ 3
+pub last-type : {k t : ℕ} {s : List ℕ} {at result : ℕ} {m₀ : List ℕ} → Executable k t s at result m₀ → NoneOf (2 ∷ 1 ∷ 0 ∷ []) t → t ≡ 3
 last-type {k} {t} h r = last-fits (portsOf (kindOf k) .typed) t (and-inv (executable (portsOf (kindOf k) .form)) _ (h .legal) .1) r

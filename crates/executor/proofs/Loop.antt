@@ -1,6 +1,6 @@
 -- The loop over the instructions: those that are left, on the words as they are, end where all end.
 use Prim.Native.Nat.{ℕ, zero, suc, _+_, _-_, _*_, _≤_, _<_}
-use mathlib.Core.Path.{_≡_, refl, ap, sym, _∙_}
+use mathlib.Core.Path.{_≡_, refl, ap, sym, _∙_, subst}
 use mathlib.Core.Bool.{true}
 use mathlib.Core.List.{List, [], _∷_}
 use mathlib.Core.Option.{Option, none, some}
@@ -20,8 +20,9 @@ use Rattle.list.specs.Board.{Instruction, execute, executeAll}
 use Rattle.list.specs.Code.{addresses, allBelow, readInstruction, nextWord, Listed, readInstructions}
 use Rattle.list.proofs.Decoded.{guard-inv, some-is, then-inv, addresses-length, all-below}
 use Rattle.executor.specs.declared.Next.{Next}
-use Rattle.executor.specs.Execution.{instructionAt, endOf, wordsGiven, Executable, Executed}
+use Rattle.executor.specs.Execution.{instructionAt, endOf, wordsGiven, CanonicalBefore, Executable, Executed}
 use Rattle.executor.specs.Listing.{afterAll, Listing}
+use Rattle.executor.proofs.Canonical.{after-execute}
 
 -- ---- an instruction that is read, and what is known of it
 
@@ -59,12 +60,13 @@ pub record Running (s : List ℕ) (left at result : ℕ) (m end : List ℕ) : Ty
   pub rest : Listed
   pub reads : readInstructions left s at result ≡ some rest
   pub room : rest .words ≤ length m
+  pub canonical : CanonicalBefore result m
   pub same : executeAll (rest .instructions) m ≡ end
 
-pub start : (s : List ℕ) (count first : ℕ) (m : List ℕ) → Listing s count first (length m)
+pub start : (s : List ℕ) (count first : ℕ) (m : List ℕ) → Listing s count first m
     → Running s count 12 first m (afterAll (readInstructions count s 12 first) m)
 unfolding afterAll
-start s count first m h = record { rest = h .listed; reads = h .reads; room = h .room; same = rw (h .reads) }
+start s count first m h = record { rest = h .listed; reads = h .reads; room = h .room; canonical = h .canonical; same = rw (h .reads) }
 
 -- the first instruction that is left, and the others
 record Split (s : List ℕ) (left at result : ℕ) (m end : List ℕ) : Type 0 where
@@ -73,6 +75,7 @@ record Split (s : List ℕ) (left at result : ℕ) (m end : List ℕ) : Type 0 w
   rest : Listed
   reads : readInstructions left s (first .next) (nextWord result (first .it)) ≡ some rest
   room : rest .words ≤ length m
+  canonical : CanonicalBefore result m
   same : executeAll (rest .instructions) (execute (first .it) m) ≡ end
 
 split : (s : List ℕ) (left at result : ℕ) (m end : List ℕ) → Running s (suc left) at result m end → Split s left at result m end
@@ -88,11 +91,12 @@ split s left at result m end h =
       rest = r;
       reads = er;
       room = omega arith;
+      canonical = h .canonical;
       same = ap (λ (x : Listed). executeAll (x .instructions) m) q ∙ h .same;
     }
 
 executable-of : (s : List ℕ) (left at result : ℕ) (m end : List ℕ) → Split s left at result m end
-    → Executable (byte s at) (byte s (at + 1)) s (at + 2) result (length m)
+    → Executable (byte s at) (byte s (at + 1)) s (at + 2) result m
 executable-of s left at result m end p =
     let k = byte s at in
     let t = byte s (at + 1) in
@@ -107,6 +111,7 @@ executable-of s left at result m end p =
         operands = all-below result (takes (kindOf k) t) (addresses (arity (kindOf k)) s (at + 2))
             (addresses-length (arity (kindOf k)) s (at + 2) ∙ sym (length-takes (kindOf k) t)) (r .below);
         room = omega arith;
+        canonical = p .canonical;
       };
     }
 
@@ -127,10 +132,13 @@ next-of s left at result m end after x p d =
     let em : after ≡ execute (i .it) m = d .words ∙ ap (λ (y : Part Instruction). execute (y .it) m) e in
     let el : length after ≡ length m = same-size (byte s at) (byte s (at + 1)) s (at + 2) result m after x d in
     let o : p .rest .words ≤ length m = p .room in
+    let h = executable-of s left at result m end p in
     record {
       rest = p .rest;
       reads = ap (λ (y : ℕ). readInstructions left s y (x .result)) ea ∙ ap (readInstructions left s (i .next)) er ∙ p .reads;
       room = omega arith;
+      canonical = subst (λ (y : ℕ). CanonicalBefore y after) (sym (d .next-result))
+          (subst (CanonicalBefore (result + wordsGiven (byte s at) (byte s (at + 1)))) (sym (d .words)) (after-execute (byte s at) (byte s (at + 1)) s (at + 2) result m h));
       same = ap (executeAll (p .rest .instructions)) em ∙ p .same;
     }
 
@@ -141,7 +149,7 @@ less s zero at result m end h p = absurd (omega arith)
 less s (suc left) at result m end h p = rw sub-one (split s left at result m end h)
 
 pub ready : (s : List ℕ) (left at result : ℕ) (m end : List ℕ) → Running s left at result m end → 0 < left
-    → Executable (byte s at) (byte s (at + 1)) s (at + 2) result (length m)
+    → Executable (byte s at) (byte s (at + 1)) s (at + 2) result m
 ready s left at result m end h p = executable-of s (left - 1) at result m end (less s left at result m end h p)
 
 pub next : (s : List ℕ) (left at result : ℕ) (m end after : List ℕ) (x : Next) → Running s left at result m end → 0 < left

@@ -1,5 +1,5 @@
 -- One instruction of a code: what it must have to be carried out, and what it does. `at` is the place behind its kind and type bytes.
-use Prim.Native.Nat.{ℕ, _+_, _*_, _≤_}
+use Prim.Native.Nat.{ℕ, _+_, _*_, _≤_, _<_}
 use mathlib.Core.Path.{_≡_}
 use mathlib.Core.Bool.{true}
 use mathlib.Core.List.{List, [], _∷_}
@@ -11,7 +11,7 @@ use Rattle.ports.specs.Kinds.{kindOf}
 use Rattle.ports.specs.Ports.{width, widths, takes, gives, arity, constantWords, legalInstruction}
 use Rattle.value.specs.declared.Row.{Row}
 use Rattle.value.specs.declared.Operator.{Operator}
-use Rattle.value.specs.Values.{row, allWords, floatAt}
+use Rattle.value.specs.Values.{row, word, allWords, wordAt, floatAt}
 use Rattle.value.specs.Results.{each}
 use Rattle.graph.specs.Bytes.{u16, u64}
 use Rattle.graph.specs.Read.{constants}
@@ -54,27 +54,48 @@ constantRow s at = row (constantAt s at) (constantAt s (at + 8)) (constantAt s (
 abbrev pub scalarsRow : List ℕ → List ℕ → ℕ → Row
 scalarsRow m s at = row (floatAt m (u16 s at)) (floatAt m (u16 s (at + 2))) (floatAt m (u16 s (at + 2 + 2))) (floatAt m (u16 s (at + 2 + 2 + 2)))
 
--- ---- what must be so before, on a memory of `size` words
+-- ---- canonical words
 
-pub record Ready (k t : ℕ) (s : List ℕ) (at result size : ℕ) : Type 0 where
+-- the word of the float that it stands for: a NaN has one
+abbrev pub Canonical : ℕ → Type 0
+Canonical w = word (Ieee.ofBits binary64 w) ≡ w
+
+abbrev pub CanonicalBefore : ℕ → List ℕ → Type 0
+CanonicalBefore end m = (i : ℕ) → i < end → Canonical (wordAt m i)
+
+-- n words at an address, before an end up to which all words are canonical
+pub record Loadable (m : List ℕ) (at n : ℕ) : Type 0 where
+  pub end : ℕ
+  pub within : at + n ≤ end
+  pub room : end ≤ length m
+  pub canonical : CanonicalBefore end m
+
+-- ---- what must be so before, in a memory m
+
+pub record Ready (k t : ℕ) (s : List ℕ) (at result : ℕ) (m : List ℕ) : Type 0 where
   pub fits : endOf k at ≤ length s
   pub operands : Below result (takes (kindOf k) t) (addresses (arity (kindOf k)) s at)
-  pub room : result + wordsGiven k t ≤ size
+  pub room : result + wordsGiven k t ≤ length m
+  pub canonical : CanonicalBefore result m
 
-pub record Executable (k t : ℕ) (s : List ℕ) (at result size : ℕ) : Type 0 where
+pub record Executable (k t : ℕ) (s : List ℕ) (at result : ℕ) (m : List ℕ) : Type 0 where
   pub legal : legalInstruction (kindOf k) t ≡ true
-  pub ready : Ready k t s at result size
+  pub ready : Ready k t s at result m
 
 -- n operands of one type, and room for a result of that type
-pub record Operands (n t : ℕ) (s : List ℕ) (at result size : ℕ) : Type 0 where
+pub record Operands (n t : ℕ) (s : List ℕ) (at result : ℕ) (m : List ℕ) : Type 0 where
   pub fits : at + 2 * n ≤ length s
   pub operands : Below result (replicate n t) (addresses n s at)
-  pub room : result + width t ≤ size
+  pub room : result + width t ≤ length m
+  pub canonical : CanonicalBefore result m
 
 -- four scalars
-pub record ScalarsReady (s : List ℕ) (at size : ℕ) : Type 0 where
+pub record ScalarsReady (s : List ℕ) (at : ℕ) (m : List ℕ) : Type 0 where
+  pub end : ℕ
   pub fits : at + 8 ≤ length s
-  pub operands : Below size (replicate 4 1) (addresses 4 s at)
+  pub operands : Below end (replicate 4 1) (addresses 4 s at)
+  pub room : end ≤ length m
+  pub canonical : CanonicalBefore end m
 
 -- ---- what is so after: the words, where the next instruction stands, and where its result goes
 

@@ -3,16 +3,19 @@ use Prim.Native.Nat.{ℕ, _≤_}
 use mathlib.Core.Path.{_≡_}
 use mathlib.Core.List.{List}
 use mathlib.Core.Option.{Option, none, some}
+use lib.ListN.{length}
 use Rattle.list.specs.Board.{executeAll}
 use Rattle.list.specs.Code.{Listed, readInstructions}
+use Rattle.executor.specs.Execution.{CanonicalBefore}
 
 -- the words after the instructions that were read
 unfoldable pub afterAll : Option Listed → List ℕ → List ℕ
 afterAll none m = m
 afterAll (some l) m = executeAll (l .instructions) m
 
--- `count` instructions are read, from the byte 12 and the word `first` on, and their words have room
-pub record Listing (s : List ℕ) (count first size : ℕ) : Type 0 where
+-- `count` instructions are read, from the byte 12 and the word `first` on; their words have room in m, and the words before are canonical
+pub record Listing (s : List ℕ) (count first : ℕ) (m : List ℕ) : Type 0 where
   pub listed : Listed
   pub reads : readInstructions count s 12 first ≡ some listed
-  pub room : listed .words ≤ size
+  pub room : listed .words ≤ length m
+  pub canonical : CanonicalBefore first m

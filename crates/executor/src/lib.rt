@@ -3,13 +3,15 @@ ghost use mathlib.Core.Path.{_≡_};
 ghost use mathlib.Core.List.{[], _∷_};
 ghost use Prim.Native.Nat.{_+_, _≤_, _<_};
 ghost use lib.ListN.{length};
+ghost use lib.Seq.{sets};
 ghost use lib.Ieee as Ieee;
 ghost use lib.Ieee.{binary64};
 ghost use Rattle.graph.specs.Bytes.{byte, u16, u64};
+ghost use Rattle.value.specs.Values.{typeOf, wordsOf, floatAt, vecAt, rowAt, matAt};
 ghost use Rattle.value.specs.Steps.{zero64};
 ghost use Rattle.list.specs.Board as Board;
 ghost use Rattle.list.specs.Code.{readInstructions};
-ghost use Rattle.executor.specs.Execution.{instructionAt, operate, constantRow, scalarsRow, Ready, ScalarsReady, Operands, Operated, Executable, Executed};
+ghost use Rattle.executor.specs.Execution.{instructionAt, operate, constantRow, scalarsRow, Ready, ScalarsReady, Operands, Operated, Executable, Executed, Canonical, Loadable};
 ghost use Rattle.executor.specs.Listing.{Listing, afterAll};
 use value::Mat4;
 use value::Operator;
@@ -74,6 +76,72 @@ fn constant_at(s: &[u8], at: usize) -> f64
     value::float_of(u64_at(s, at))
 }
 
+// The float of a canonical word: one pattern is the NaN's.
+fn read_word(w: u64) -> f64
+    requires { ⌜ Canonical w ⌝ }
+    ensures { λ r. ⌜ r ≡ Ieee.ofBits binary64 w ⌝ }
+{
+    if w == 0x7FF8_0000_0000_0000 {
+        0.0 / 0.0
+    } else {
+        f64::from_bits(w)
+    }
+}
+
+fn load(m: &[u64], at: usize) -> f64
+    requires { ⌜ Loadable (now m) at 1 ⌝ }
+    ensures { λ r. ⌜ r ≡ floatAt (now (m .entry)) at ⌝ }
+{
+    read_word(m[at])
+}
+
+fn load_vec(m: &[u64], at: usize) -> Vec3
+    requires { ⌜ Loadable (now m) at 3 ⌝ }
+    ensures { λ r. ⌜ r ≡ vecAt (now (m .entry)) at ⌝ }
+{
+    Vec3 {
+        x: load(m, at),
+        y: load(m, at + 1),
+        z: load(m, at + 2),
+    }
+}
+
+fn load_row(m: &[u64], at: usize) -> Row
+    requires { ⌜ Loadable (now m) at 4 ⌝ }
+    ensures { λ r. ⌜ r ≡ rowAt (now (m .entry)) at ⌝ }
+{
+    Row {
+        c0: load(m, at),
+        c1: load(m, at + 1),
+        c2: load(m, at + 2),
+        c3: load(m, at + 3),
+    }
+}
+
+fn load_mat(m: &[u64], at: usize) -> Mat4
+    requires { ⌜ Loadable (now m) at 16 ⌝ }
+    ensures { λ r. ⌜ r ≡ matAt (now (m .entry)) at ⌝ }
+{
+    Mat4 {
+        r0: load_row(m, at),
+        r1: load_row(m, at + 4),
+        r2: load_row(m, at + 8),
+        r3: load_row(m, at + 12),
+    }
+}
+
+// Writes a value that is no matrix: small enough to be made part of each place that calls it.
+fn put_short(m: &mut [u64], at: usize, v: Value)
+    requires { ⌜ (at + length (wordsOf v) ≤ length (now m)) × (typeOf v ≤ 2) ⌝ }
+    ensures { λ _. ⌜ now (m .exit) ≡ sets (now (m .entry)) at (wordsOf v) ⌝ }
+{
+    match v {
+        Value::Scalar(a) => value::put(m, at, a),
+        Value::Vector(a) => value::put_vec(m, at, a),
+        Value::Matrix(a) => {}
+    }
+}
+
 fn zero() -> f64
     ensures { λ r. ⌜ r ≡ zero64 ⌝ }
 {
@@ -81,7 +149,7 @@ fn zero() -> f64
 }
 
 fn one_scalar(o: Operator, s: &[u8], at: usize, work: &mut [u64], result: usize) -> Next
-    requires { ⌜ Operands 1 1 (now s) at result (length (now work)) ⌝ }
+    requires { ⌜ Operands 1 1 (now s) at result (now work) ⌝ }
     ensures { λ x. ⌜ Operated o 1 1 (now (s .entry)) at result (now (work .entry)) (now (work .exit)) x ⌝ }
 {
     let next = Next {
@@ -89,14 +157,14 @@ fn one_scalar(o: Operator, s: &[u8], at: usize, work: &mut [u64], result: usize)
         result: result + 1,
     };
     let z = zero();
-    let a = value::get(work, u16_at(s, at));
+    let a = load(work, u16_at(s, at));
     let x = value::step(o, a, z, z, z);
-    value::put_value(work, result, Value::Scalar(x));
+    put_short(work, result, Value::Scalar(x));
     next
 }
 
 fn two_scalars(o: Operator, s: &[u8], at: usize, work: &mut [u64], result: usize) -> Next
-    requires { ⌜ Operands 2 1 (now s) at result (length (now work)) ⌝ }
+    requires { ⌜ Operands 2 1 (now s) at result (now work) ⌝ }
     ensures { λ x. ⌜ Operated o 2 1 (now (s .entry)) at result (now (work .entry)) (now (work .exit)) x ⌝ }
 {
     let p = at + 2;
@@ -105,15 +173,15 @@ fn two_scalars(o: Operator, s: &[u8], at: usize, work: &mut [u64], result: usize
         result: result + 1,
     };
     let z = zero();
-    let a = value::get(work, u16_at(s, at));
-    let b = value::get(work, u16_at(s, p));
+    let a = load(work, u16_at(s, at));
+    let b = load(work, u16_at(s, p));
     let x = value::step(o, a, b, z, z);
-    value::put_value(work, result, Value::Scalar(x));
+    put_short(work, result, Value::Scalar(x));
     next
 }
 
 fn three_scalars(o: Operator, s: &[u8], at: usize, work: &mut [u64], result: usize) -> Next
-    requires { ⌜ Operands 3 1 (now s) at result (length (now work)) ⌝ }
+    requires { ⌜ Operands 3 1 (now s) at result (now work) ⌝ }
     ensures { λ x. ⌜ Operated o 3 1 (now (s .entry)) at result (now (work .entry)) (now (work .exit)) x ⌝ }
 {
     let p = at + 2;
@@ -123,16 +191,16 @@ fn three_scalars(o: Operator, s: &[u8], at: usize, work: &mut [u64], result: usi
         result: result + 1,
     };
     let z = zero();
-    let a = value::get(work, u16_at(s, at));
-    let b = value::get(work, u16_at(s, p));
-    let c = value::get(work, u16_at(s, q));
+    let a = load(work, u16_at(s, at));
+    let b = load(work, u16_at(s, p));
+    let c = load(work, u16_at(s, q));
     let x = value::step(o, a, b, c, z);
-    value::put_value(work, result, Value::Scalar(x));
+    put_short(work, result, Value::Scalar(x));
     next
 }
 
 fn four_scalars(o: Operator, s: &[u8], at: usize, work: &mut [u64], result: usize) -> Next
-    requires { ⌜ Operands 4 1 (now s) at result (length (now work)) ⌝ }
+    requires { ⌜ Operands 4 1 (now s) at result (now work) ⌝ }
     ensures { λ x. ⌜ Operated o 4 1 (now (s .entry)) at result (now (work .entry)) (now (work .exit)) x ⌝ }
 {
     let p = at + 2;
@@ -142,17 +210,17 @@ fn four_scalars(o: Operator, s: &[u8], at: usize, work: &mut [u64], result: usiz
         at: r + 2,
         result: result + 1,
     };
-    let a = value::get(work, u16_at(s, at));
-    let b = value::get(work, u16_at(s, p));
-    let c = value::get(work, u16_at(s, q));
-    let d = value::get(work, u16_at(s, r));
+    let a = load(work, u16_at(s, at));
+    let b = load(work, u16_at(s, p));
+    let c = load(work, u16_at(s, q));
+    let d = load(work, u16_at(s, r));
     let x = value::step(o, a, b, c, d);
-    value::put_value(work, result, Value::Scalar(x));
+    put_short(work, result, Value::Scalar(x));
     next
 }
 
 fn one_vector(o: Operator, s: &[u8], at: usize, work: &mut [u64], result: usize) -> Next
-    requires { ⌜ Operands 1 2 (now s) at result (length (now work)) ⌝ }
+    requires { ⌜ Operands 1 2 (now s) at result (now work) ⌝ }
     ensures { λ x. ⌜ Operated o 1 2 (now (s .entry)) at result (now (work .entry)) (now (work .exit)) x ⌝ }
 {
     let next = Next {
@@ -160,14 +228,14 @@ fn one_vector(o: Operator, s: &[u8], at: usize, work: &mut [u64], result: usize)
         result: result + 3,
     };
     let z = value::zero_vec();
-    let a = value::get_vec(work, u16_at(s, at));
+    let a = load_vec(work, u16_at(s, at));
     let x = value::step_vec(o, a, z, z, z);
-    value::put_value(work, result, Value::Vector(x));
+    put_short(work, result, Value::Vector(x));
     next
 }
 
 fn two_vectors(o: Operator, s: &[u8], at: usize, work: &mut [u64], result: usize) -> Next
-    requires { ⌜ Operands 2 2 (now s) at result (length (now work)) ⌝ }
+    requires { ⌜ Operands 2 2 (now s) at result (now work) ⌝ }
     ensures { λ x. ⌜ Operated o 2 2 (now (s .entry)) at result (now (work .entry)) (now (work .exit)) x ⌝ }
 {
     let p = at + 2;
@@ -176,15 +244,15 @@ fn two_vectors(o: Operator, s: &[u8], at: usize, work: &mut [u64], result: usize
         result: result + 3,
     };
     let z = value::zero_vec();
-    let a = value::get_vec(work, u16_at(s, at));
-    let b = value::get_vec(work, u16_at(s, p));
+    let a = load_vec(work, u16_at(s, at));
+    let b = load_vec(work, u16_at(s, p));
     let x = value::step_vec(o, a, b, z, z);
-    value::put_value(work, result, Value::Vector(x));
+    put_short(work, result, Value::Vector(x));
     next
 }
 
 fn three_vectors(o: Operator, s: &[u8], at: usize, work: &mut [u64], result: usize) -> Next
-    requires { ⌜ Operands 3 2 (now s) at result (length (now work)) ⌝ }
+    requires { ⌜ Operands 3 2 (now s) at result (now work) ⌝ }
     ensures { λ x. ⌜ Operated o 3 2 (now (s .entry)) at result (now (work .entry)) (now (work .exit)) x ⌝ }
 {
     let p = at + 2;
@@ -194,16 +262,16 @@ fn three_vectors(o: Operator, s: &[u8], at: usize, work: &mut [u64], result: usi
         result: result + 3,
     };
     let z = value::zero_vec();
-    let a = value::get_vec(work, u16_at(s, at));
-    let b = value::get_vec(work, u16_at(s, p));
-    let c = value::get_vec(work, u16_at(s, q));
+    let a = load_vec(work, u16_at(s, at));
+    let b = load_vec(work, u16_at(s, p));
+    let c = load_vec(work, u16_at(s, q));
     let x = value::step_vec(o, a, b, c, z);
-    value::put_value(work, result, Value::Vector(x));
+    put_short(work, result, Value::Vector(x));
     next
 }
 
 fn four_vectors(o: Operator, s: &[u8], at: usize, work: &mut [u64], result: usize) -> Next
-    requires { ⌜ Operands 4 2 (now s) at result (length (now work)) ⌝ }
+    requires { ⌜ Operands 4 2 (now s) at result (now work) ⌝ }
     ensures { λ x. ⌜ Operated o 4 2 (now (s .entry)) at result (now (work .entry)) (now (work .exit)) x ⌝ }
 {
     let p = at + 2;
@@ -213,33 +281,18 @@ fn four_vectors(o: Operator, s: &[u8], at: usize, work: &mut [u64], result: usiz
         at: r + 2,
         result: result + 3,
     };
-    let a = value::get_vec(work, u16_at(s, at));
-    let b = value::get_vec(work, u16_at(s, p));
-    let c = value::get_vec(work, u16_at(s, q));
-    let d = value::get_vec(work, u16_at(s, r));
+    let a = load_vec(work, u16_at(s, at));
+    let b = load_vec(work, u16_at(s, p));
+    let c = load_vec(work, u16_at(s, q));
+    let d = load_vec(work, u16_at(s, r));
     let x = value::step_vec(o, a, b, c, d);
-    value::put_value(work, result, Value::Vector(x));
+    put_short(work, result, Value::Vector(x));
     next
 }
 
-fn one_matrix(o: Operator, s: &[u8], at: usize, work: &mut [u64], result: usize) -> Next
-    requires { ⌜ Operands 1 3 (now s) at result (length (now work)) ⌝ }
-    ensures { λ x. ⌜ Operated o 1 3 (now (s .entry)) at result (now (work .entry)) (now (work .exit)) x ⌝ }
-{
-    let next = Next {
-        at: at + 2,
-        result: result + 16,
-    };
-    let z = value::zero_mat();
-    let a = value::get_mat(work, u16_at(s, at));
-    let x = value::step_mat(o, a, z, z, z);
-    value::put_value(work, result, Value::Matrix(x));
-    next
-}
-
-fn two_matrices(o: Operator, s: &[u8], at: usize, work: &mut [u64], result: usize) -> Next
-    requires { ⌜ Operands 2 3 (now s) at result (length (now work)) ⌝ }
-    ensures { λ x. ⌜ Operated o 2 3 (now (s .entry)) at result (now (work .entry)) (now (work .exit)) x ⌝ }
+fn add_matrices(s: &[u8], at: usize, work: &mut [u64], result: usize) -> Next
+    requires { ⌜ Operands 2 3 (now s) at result (now work) ⌝ }
+    ensures { λ x. ⌜ Operated Operator.Add 2 3 (now (s .entry)) at result (now (work .entry)) (now (work .exit)) x ⌝ }
 {
     let p = at + 2;
     let next = Next {
@@ -247,35 +300,133 @@ fn two_matrices(o: Operator, s: &[u8], at: usize, work: &mut [u64], result: usiz
         result: result + 16,
     };
     let z = value::zero_mat();
-    let a = value::get_mat(work, u16_at(s, at));
-    let b = value::get_mat(work, u16_at(s, p));
-    let x = value::step_mat(o, a, b, z, z);
-    value::put_value(work, result, Value::Matrix(x));
+    let a = load_mat(work, u16_at(s, at));
+    let b = load_mat(work, u16_at(s, p));
+    let x = value::step_mat(Operator::Add, a, b, z, z);
+    value::put_mat(work, result, x);
     next
 }
 
-fn three_matrices(o: Operator, s: &[u8], at: usize, work: &mut [u64], result: usize) -> Next
-    requires { ⌜ Operands 3 3 (now s) at result (length (now work)) ⌝ }
-    ensures { λ x. ⌜ Operated o 3 3 (now (s .entry)) at result (now (work .entry)) (now (work .exit)) x ⌝ }
+fn subtract_matrices(s: &[u8], at: usize, work: &mut [u64], result: usize) -> Next
+    requires { ⌜ Operands 2 3 (now s) at result (now work) ⌝ }
+    ensures { λ x. ⌜ Operated Operator.Subtract 2 3 (now (s .entry)) at result (now (work .entry)) (now (work .exit)) x ⌝ }
 {
     let p = at + 2;
-    let q = p + 2;
     let next = Next {
-        at: q + 2,
+        at: p + 2,
         result: result + 16,
     };
     let z = value::zero_mat();
-    let a = value::get_mat(work, u16_at(s, at));
-    let b = value::get_mat(work, u16_at(s, p));
-    let c = value::get_mat(work, u16_at(s, q));
-    let x = value::step_mat(o, a, b, c, z);
-    value::put_value(work, result, Value::Matrix(x));
+    let a = load_mat(work, u16_at(s, at));
+    let b = load_mat(work, u16_at(s, p));
+    let x = value::step_mat(Operator::Subtract, a, b, z, z);
+    value::put_mat(work, result, x);
     next
 }
 
-fn four_matrices(o: Operator, s: &[u8], at: usize, work: &mut [u64], result: usize) -> Next
-    requires { ⌜ Operands 4 3 (now s) at result (length (now work)) ⌝ }
-    ensures { λ x. ⌜ Operated o 4 3 (now (s .entry)) at result (now (work .entry)) (now (work .exit)) x ⌝ }
+fn multiply_matrices(s: &[u8], at: usize, work: &mut [u64], result: usize) -> Next
+    requires { ⌜ Operands 2 3 (now s) at result (now work) ⌝ }
+    ensures { λ x. ⌜ Operated Operator.Multiply 2 3 (now (s .entry)) at result (now (work .entry)) (now (work .exit)) x ⌝ }
+{
+    let p = at + 2;
+    let next = Next {
+        at: p + 2,
+        result: result + 16,
+    };
+    let z = value::zero_mat();
+    let a = load_mat(work, u16_at(s, at));
+    let b = load_mat(work, u16_at(s, p));
+    let x = value::step_mat(Operator::Multiply, a, b, z, z);
+    value::put_mat(work, result, x);
+    next
+}
+
+fn divide_matrices(s: &[u8], at: usize, work: &mut [u64], result: usize) -> Next
+    requires { ⌜ Operands 2 3 (now s) at result (now work) ⌝ }
+    ensures { λ x. ⌜ Operated Operator.Divide 2 3 (now (s .entry)) at result (now (work .entry)) (now (work .exit)) x ⌝ }
+{
+    let p = at + 2;
+    let next = Next {
+        at: p + 2,
+        result: result + 16,
+    };
+    let z = value::zero_mat();
+    let a = load_mat(work, u16_at(s, at));
+    let b = load_mat(work, u16_at(s, p));
+    let x = value::step_mat(Operator::Divide, a, b, z, z);
+    value::put_mat(work, result, x);
+    next
+}
+
+fn minimum_matrices(s: &[u8], at: usize, work: &mut [u64], result: usize) -> Next
+    requires { ⌜ Operands 2 3 (now s) at result (now work) ⌝ }
+    ensures { λ x. ⌜ Operated Operator.Minimum 2 3 (now (s .entry)) at result (now (work .entry)) (now (work .exit)) x ⌝ }
+{
+    let p = at + 2;
+    let next = Next {
+        at: p + 2,
+        result: result + 16,
+    };
+    let z = value::zero_mat();
+    let a = load_mat(work, u16_at(s, at));
+    let b = load_mat(work, u16_at(s, p));
+    let x = value::step_mat(Operator::Minimum, a, b, z, z);
+    value::put_mat(work, result, x);
+    next
+}
+
+fn maximum_matrices(s: &[u8], at: usize, work: &mut [u64], result: usize) -> Next
+    requires { ⌜ Operands 2 3 (now s) at result (now work) ⌝ }
+    ensures { λ x. ⌜ Operated Operator.Maximum 2 3 (now (s .entry)) at result (now (work .entry)) (now (work .exit)) x ⌝ }
+{
+    let p = at + 2;
+    let next = Next {
+        at: p + 2,
+        result: result + 16,
+    };
+    let z = value::zero_mat();
+    let a = load_mat(work, u16_at(s, at));
+    let b = load_mat(work, u16_at(s, p));
+    let x = value::step_mat(Operator::Maximum, a, b, z, z);
+    value::put_mat(work, result, x);
+    next
+}
+
+fn absolute_matrix(s: &[u8], at: usize, work: &mut [u64], result: usize) -> Next
+    requires { ⌜ Operands 1 3 (now s) at result (now work) ⌝ }
+    ensures { λ x. ⌜ Operated Operator.Absolute 1 3 (now (s .entry)) at result (now (work .entry)) (now (work .exit)) x ⌝ }
+{
+    let next = Next {
+        at: at + 2,
+        result: result + 16,
+    };
+    let z = value::zero_mat();
+    let a = load_mat(work, u16_at(s, at));
+    let x = value::step_mat(Operator::Absolute, a, z, z, z);
+    value::put_mat(work, result, x);
+    next
+}
+
+fn remainder_matrices(s: &[u8], at: usize, work: &mut [u64], result: usize) -> Next
+    requires { ⌜ Operands 2 3 (now s) at result (now work) ⌝ }
+    ensures { λ x. ⌜ Operated Operator.Remainder 2 3 (now (s .entry)) at result (now (work .entry)) (now (work .exit)) x ⌝ }
+{
+    let p = at + 2;
+    let next = Next {
+        at: p + 2,
+        result: result + 16,
+    };
+    let z = value::zero_mat();
+    let a = load_mat(work, u16_at(s, at));
+    let b = load_mat(work, u16_at(s, p));
+    let x = value::step_mat(Operator::Remainder, a, b, z, z);
+    value::put_mat(work, result, x);
+    next
+}
+
+fn select_matrices(s: &[u8], at: usize, work: &mut [u64], result: usize) -> Next
+    requires { ⌜ Operands 4 3 (now s) at result (now work) ⌝ }
+    ensures { λ x. ⌜ Operated Operator.Select 4 3 (now (s .entry)) at result (now (work .entry)) (now (work .exit)) x ⌝ }
 {
     let p = at + 2;
     let q = p + 2;
@@ -284,24 +435,43 @@ fn four_matrices(o: Operator, s: &[u8], at: usize, work: &mut [u64], result: usi
         at: r + 2,
         result: result + 16,
     };
-    let a = value::get_mat(work, u16_at(s, at));
-    let b = value::get_mat(work, u16_at(s, p));
-    let c = value::get_mat(work, u16_at(s, q));
-    let d = value::get_mat(work, u16_at(s, r));
-    let x = value::step_mat(o, a, b, c, d);
-    value::put_value(work, result, Value::Matrix(x));
+    let a = load_mat(work, u16_at(s, at));
+    let b = load_mat(work, u16_at(s, p));
+    let c = load_mat(work, u16_at(s, q));
+    let d = load_mat(work, u16_at(s, r));
+    let x = value::step_mat(Operator::Select, a, b, c, d);
+    value::put_mat(work, result, x);
+    next
+}
+
+fn clamp_matrices(s: &[u8], at: usize, work: &mut [u64], result: usize) -> Next
+    requires { ⌜ Operands 3 3 (now s) at result (now work) ⌝ }
+    ensures { λ x. ⌜ Operated Operator.Clamp 3 3 (now (s .entry)) at result (now (work .entry)) (now (work .exit)) x ⌝ }
+{
+    let p = at + 2;
+    let q = p + 2;
+    let next = Next {
+        at: q + 2,
+        result: result + 16,
+    };
+    let z = value::zero_mat();
+    let a = load_mat(work, u16_at(s, at));
+    let b = load_mat(work, u16_at(s, p));
+    let c = load_mat(work, u16_at(s, q));
+    let x = value::step_mat(Operator::Clamp, a, b, c, z);
+    value::put_mat(work, result, x);
     next
 }
 
 fn constant(s: &[u8], at: usize, work: &mut [u64], result: usize)
-    requires { ⌜ Ready 5 0 (now s) at result (length (now work)) ⌝ }
+    requires { ⌜ Ready 5 0 (now s) at result (now work) ⌝ }
     ensures { λ _. ⌜ now (work .exit) ≡ Board.execute (instructionAt 5 0 (now (s .entry)) at result) (now (work .entry)) ⌝ }
 {
-    value::put_value(work, result, Value::Scalar(constant_at(s, at)));
+    put_short(work, result, Value::Scalar(constant_at(s, at)));
 }
 
 fn constvec(s: &[u8], at: usize, work: &mut [u64], result: usize)
-    requires { ⌜ Ready 6 0 (now s) at result (length (now work)) ⌝ }
+    requires { ⌜ Ready 6 0 (now s) at result (now work) ⌝ }
     ensures { λ _. ⌜ now (work .exit) ≡ Board.execute (instructionAt 6 0 (now (s .entry)) at result) (now (work .entry)) ⌝ }
 {
     let y = at + 8;
@@ -311,7 +481,7 @@ fn constvec(s: &[u8], at: usize, work: &mut [u64], result: usize)
         y: constant_at(s, y),
         z: constant_at(s, z),
     };
-    value::put_value(work, result, Value::Vector(v));
+    put_short(work, result, Value::Vector(v));
 }
 
 fn constant_row(s: &[u8], at: usize) -> Row
@@ -330,7 +500,7 @@ fn constant_row(s: &[u8], at: usize) -> Row
 }
 
 fn constmat(s: &[u8], at: usize, work: &mut [u64], result: usize)
-    requires { ⌜ Ready 7 0 (now s) at result (length (now work)) ⌝ }
+    requires { ⌜ Ready 7 0 (now s) at result (now work) ⌝ }
     ensures { λ _. ⌜ now (work .exit) ≡ Board.execute (instructionAt 7 0 (now (s .entry)) at result) (now (work .entry)) ⌝ }
 {
     let m = Mat4 {
@@ -339,57 +509,57 @@ fn constmat(s: &[u8], at: usize, work: &mut [u64], result: usize)
         r2: constant_row(s, at + 64),
         r3: constant_row(s, at + 96),
     };
-    value::put_value(work, result, Value::Matrix(m));
+    value::put_mat(work, result, m);
 }
 
 fn compose_vector(s: &[u8], at: usize, work: &mut [u64], result: usize)
-    requires { ⌜ Ready 8 0 (now s) at result (length (now work)) ⌝ }
+    requires { ⌜ Ready 8 0 (now s) at result (now work) ⌝ }
     ensures { λ _. ⌜ now (work .exit) ≡ Board.execute (instructionAt 8 0 (now (s .entry)) at result) (now (work .entry)) ⌝ }
 {
     let p = at + 2;
     let q = p + 2;
-    let a = value::get(work, u16_at(s, at));
-    let b = value::get(work, u16_at(s, p));
-    let c = value::get(work, u16_at(s, q));
-    value::put_value(work, result, Value::Vector(value::compose_vector(a, b, c)));
+    let a = load(work, u16_at(s, at));
+    let b = load(work, u16_at(s, p));
+    let c = load(work, u16_at(s, q));
+    put_short(work, result, Value::Vector(value::compose_vector(a, b, c)));
 }
 
 fn vector_from_scalar(s: &[u8], at: usize, work: &mut [u64], result: usize)
-    requires { ⌜ Ready 9 0 (now s) at result (length (now work)) ⌝ }
+    requires { ⌜ Ready 9 0 (now s) at result (now work) ⌝ }
     ensures { λ _. ⌜ now (work .exit) ≡ Board.execute (instructionAt 9 0 (now (s .entry)) at result) (now (work .entry)) ⌝ }
 {
-    let a = value::get(work, u16_at(s, at));
-    value::put_value(work, result, Value::Vector(value::vector_from_scalar(a)));
+    let a = load(work, u16_at(s, at));
+    put_short(work, result, Value::Vector(value::vector_from_scalar(a)));
 }
 
 // Its three results are scalars.
 fn decompose_vector(s: &[u8], at: usize, work: &mut [u64], result: usize)
-    requires { ⌜ Ready 10 0 (now s) at result (length (now work)) ⌝ }
+    requires { ⌜ Ready 10 0 (now s) at result (now work) ⌝ }
     ensures { λ _. ⌜ now (work .exit) ≡ Board.execute (instructionAt 10 0 (now (s .entry)) at result) (now (work .entry)) ⌝ }
 {
-    let v = value::get_vec(work, u16_at(s, at));
-    value::put_value(work, result, Value::Scalar(v.x));
-    value::put_value(work, result + 1, Value::Scalar(v.y));
-    value::put_value(work, result + 2, Value::Scalar(v.z));
+    let v = load_vec(work, u16_at(s, at));
+    put_short(work, result, Value::Scalar(v.x));
+    put_short(work, result + 1, Value::Scalar(v.y));
+    put_short(work, result + 2, Value::Scalar(v.z));
 }
 
 fn scalars_row(s: &[u8], at: usize, work: &[u64]) -> Row
-    requires { ⌜ ScalarsReady (now s) at (length (now work)) ⌝ }
+    requires { ⌜ ScalarsReady (now s) at (now work) ⌝ }
     ensures { λ r. ⌜ r ≡ scalarsRow (now (work .entry)) (now (s .entry)) at ⌝ }
 {
     let p = at + 2;
     let q = p + 2;
     let r = q + 2;
     Row {
-        c0: value::get(work, u16_at(s, at)),
-        c1: value::get(work, u16_at(s, p)),
-        c2: value::get(work, u16_at(s, q)),
-        c3: value::get(work, u16_at(s, r)),
+        c0: load(work, u16_at(s, at)),
+        c1: load(work, u16_at(s, p)),
+        c2: load(work, u16_at(s, q)),
+        c3: load(work, u16_at(s, r)),
     }
 }
 
 fn compose_matrix(s: &[u8], at: usize, work: &mut [u64], result: usize)
-    requires { ⌜ Ready 11 0 (now s) at result (length (now work)) ⌝ }
+    requires { ⌜ Ready 11 0 (now s) at result (now work) ⌝ }
     ensures { λ _. ⌜ now (work .exit) ≡ Board.execute (instructionAt 11 0 (now (s .entry)) at result) (now (work .entry)) ⌝ }
 {
     let p = at + 2 + 2 + 2 + 2;
@@ -401,74 +571,74 @@ fn compose_matrix(s: &[u8], at: usize, work: &mut [u64], result: usize)
         r2: scalars_row(s, q, work),
         r3: scalars_row(s, r, work),
     };
-    value::put_value(work, result, Value::Matrix(m));
+    value::put_mat(work, result, m);
 }
 
 fn matrix_from_columns(s: &[u8], at: usize, work: &mut [u64], result: usize)
-    requires { ⌜ Ready 12 0 (now s) at result (length (now work)) ⌝ }
+    requires { ⌜ Ready 12 0 (now s) at result (now work) ⌝ }
     ensures { λ _. ⌜ now (work .exit) ≡ Board.execute (instructionAt 12 0 (now (s .entry)) at result) (now (work .entry)) ⌝ }
 {
     let p = at + 2;
     let q = p + 2;
     let r = q + 2;
-    let a = value::get_vec(work, u16_at(s, at));
-    let b = value::get_vec(work, u16_at(s, p));
-    let c = value::get_vec(work, u16_at(s, q));
-    let d = value::get_vec(work, u16_at(s, r));
-    value::put_value(work, result, Value::Matrix(value::from_columns(a, b, c, d)));
+    let a = load_vec(work, u16_at(s, at));
+    let b = load_vec(work, u16_at(s, p));
+    let c = load_vec(work, u16_at(s, q));
+    let d = load_vec(work, u16_at(s, r));
+    value::put_mat(work, result, value::from_columns(a, b, c, d));
 }
 
 fn matrix_from_rows(s: &[u8], at: usize, work: &mut [u64], result: usize)
-    requires { ⌜ Ready 13 0 (now s) at result (length (now work)) ⌝ }
+    requires { ⌜ Ready 13 0 (now s) at result (now work) ⌝ }
     ensures { λ _. ⌜ now (work .exit) ≡ Board.execute (instructionAt 13 0 (now (s .entry)) at result) (now (work .entry)) ⌝ }
 {
     let p = at + 2;
     let q = p + 2;
     let r = q + 2;
-    let a = value::get_vec(work, u16_at(s, at));
-    let b = value::get_vec(work, u16_at(s, p));
-    let c = value::get_vec(work, u16_at(s, q));
-    let d = value::get_vec(work, u16_at(s, r));
-    value::put_value(work, result, Value::Matrix(value::from_rows(a, b, c, d)));
+    let a = load_vec(work, u16_at(s, at));
+    let b = load_vec(work, u16_at(s, p));
+    let c = load_vec(work, u16_at(s, q));
+    let d = load_vec(work, u16_at(s, r));
+    value::put_mat(work, result, value::from_rows(a, b, c, d));
 }
 
 fn dot(s: &[u8], at: usize, work: &mut [u64], result: usize)
-    requires { ⌜ Ready 14 0 (now s) at result (length (now work)) ⌝ }
+    requires { ⌜ Ready 14 0 (now s) at result (now work) ⌝ }
     ensures { λ _. ⌜ now (work .exit) ≡ Board.execute (instructionAt 14 0 (now (s .entry)) at result) (now (work .entry)) ⌝ }
 {
-    let a = value::get_vec(work, u16_at(s, at));
-    let b = value::get_vec(work, u16_at(s, at + 2));
-    value::put_value(work, result, Value::Scalar(value::dot(a, b)));
+    let a = load_vec(work, u16_at(s, at));
+    let b = load_vec(work, u16_at(s, at + 2));
+    put_short(work, result, Value::Scalar(value::dot(a, b)));
 }
 
 fn cross(s: &[u8], at: usize, work: &mut [u64], result: usize)
-    requires { ⌜ Ready 15 0 (now s) at result (length (now work)) ⌝ }
+    requires { ⌜ Ready 15 0 (now s) at result (now work) ⌝ }
     ensures { λ _. ⌜ now (work .exit) ≡ Board.execute (instructionAt 15 0 (now (s .entry)) at result) (now (work .entry)) ⌝ }
 {
-    let a = value::get_vec(work, u16_at(s, at));
-    let b = value::get_vec(work, u16_at(s, at + 2));
-    value::put_value(work, result, Value::Vector(value::cross(a, b)));
+    let a = load_vec(work, u16_at(s, at));
+    let b = load_vec(work, u16_at(s, at + 2));
+    put_short(work, result, Value::Vector(value::cross(a, b)));
 }
 
 fn matvec(s: &[u8], at: usize, work: &mut [u64], result: usize)
-    requires { ⌜ Ready 16 0 (now s) at result (length (now work)) ⌝ }
+    requires { ⌜ Ready 16 0 (now s) at result (now work) ⌝ }
     ensures { λ _. ⌜ now (work .exit) ≡ Board.execute (instructionAt 16 0 (now (s .entry)) at result) (now (work .entry)) ⌝ }
 {
-    let a = value::get_mat(work, u16_at(s, at));
-    let b = value::get_vec(work, u16_at(s, at + 2));
-    value::put_value(work, result, Value::Vector(value::matvec(a, b)));
+    let a = load_mat(work, u16_at(s, at));
+    let b = load_vec(work, u16_at(s, at + 2));
+    put_short(work, result, Value::Vector(value::matvec(a, b)));
 }
 
 fn transpose(s: &[u8], at: usize, work: &mut [u64], result: usize)
-    requires { ⌜ Ready 17 0 (now s) at result (length (now work)) ⌝ }
+    requires { ⌜ Ready 17 0 (now s) at result (now work) ⌝ }
     ensures { λ _. ⌜ now (work .exit) ≡ Board.execute (instructionAt 17 0 (now (s .entry)) at result) (now (work .entry)) ⌝ }
 {
-    let a = value::get_mat(work, u16_at(s, at));
-    value::put_value(work, result, Value::Matrix(value::transpose(a)));
+    let a = load_mat(work, u16_at(s, at));
+    value::put_mat(work, result, value::transpose(a));
 }
 
 fn execute_plain(k: u8, s: &[u8], at: usize, work: &mut [u64], result: usize) -> Next
-    requires { ⌜ Executable k 0 (now s) at result (length (now work)) ⌝ }
+    requires { ⌜ Executable k 0 (now s) at result (now work) ⌝ }
     ensures { λ x. ⌜ Executed k 0 (now (s .entry)) at result (now (work .entry)) (now (work .exit)) x ⌝ }
 {
     match k {
@@ -567,7 +737,7 @@ fn execute_plain(k: u8, s: &[u8], at: usize, work: &mut [u64], result: usize) ->
 }
 
 fn execute_scalars(k: u8, s: &[u8], at: usize, work: &mut [u64], result: usize) -> Next
-    requires { ⌜ Executable k 1 (now s) at result (length (now work)) ⌝ }
+    requires { ⌜ Executable k 1 (now s) at result (now work) ⌝ }
     ensures { λ x. ⌜ Executed k 1 (now (s .entry)) at result (now (work .entry)) (now (work .exit)) x ⌝ }
 {
     match k {
@@ -585,7 +755,7 @@ fn execute_scalars(k: u8, s: &[u8], at: usize, work: &mut [u64], result: usize) 
 }
 
 fn execute_vectors(k: u8, s: &[u8], at: usize, work: &mut [u64], result: usize) -> Next
-    requires { ⌜ Executable k 2 (now s) at result (length (now work)) ⌝ }
+    requires { ⌜ Executable k 2 (now s) at result (now work) ⌝ }
     ensures { λ x. ⌜ Executed k 2 (now (s .entry)) at result (now (work .entry)) (now (work .exit)) x ⌝ }
 {
     match k {
@@ -603,26 +773,26 @@ fn execute_vectors(k: u8, s: &[u8], at: usize, work: &mut [u64], result: usize) 
 }
 
 fn execute_matrices(k: u8, s: &[u8], at: usize, work: &mut [u64], result: usize) -> Next
-    requires { ⌜ Executable k 3 (now s) at result (length (now work)) ⌝ }
+    requires { ⌜ Executable k 3 (now s) at result (now work) ⌝ }
     ensures { λ x. ⌜ Executed k 3 (now (s .entry)) at result (now (work .entry)) (now (work .exit)) x ⌝ }
 {
     match k {
-        1 => two_matrices(Operator::Add, s, at, work, result),
-        2 => two_matrices(Operator::Subtract, s, at, work, result),
-        3 => two_matrices(Operator::Multiply, s, at, work, result),
-        4 => two_matrices(Operator::Divide, s, at, work, result),
-        18 => two_matrices(Operator::Minimum, s, at, work, result),
-        19 => two_matrices(Operator::Maximum, s, at, work, result),
-        20 => one_matrix(Operator::Absolute, s, at, work, result),
-        21 => two_matrices(Operator::Remainder, s, at, work, result),
-        22 => four_matrices(Operator::Select, s, at, work, result),
-        _ => three_matrices(Operator::Clamp, s, at, work, result),
+        1 => add_matrices(s, at, work, result),
+        2 => subtract_matrices(s, at, work, result),
+        3 => multiply_matrices(s, at, work, result),
+        4 => divide_matrices(s, at, work, result),
+        18 => minimum_matrices(s, at, work, result),
+        19 => maximum_matrices(s, at, work, result),
+        20 => absolute_matrix(s, at, work, result),
+        21 => remainder_matrices(s, at, work, result),
+        22 => select_matrices(s, at, work, result),
+        _ => clamp_matrices(s, at, work, result),
     }
 }
 
 // The instruction whose kind byte stands at `at`.
 pub fn execute(s: &[u8], at: usize, work: &mut [u64], result: usize) -> Next
-    requires { ⌜ Executable (byte (now s) at) (byte (now s) (at + 1)) (now s) (at + 2) result (length (now work)) ⌝ }
+    requires { ⌜ Executable (byte (now s) at) (byte (now s) (at + 1)) (now s) (at + 2) result (now work) ⌝ }
     ensures { λ x. ⌜ Executed (byte (now (s .entry)) at) (byte (now (s .entry)) (at + 1)) (now (s .entry)) (at + 2) result (now (work .entry)) (now (work .exit)) x ⌝ }
 {
     let k = s[at];
@@ -638,7 +808,7 @@ pub fn execute(s: &[u8], at: usize, work: &mut [u64], result: usize) -> Next
 
 // All instructions, from the byte 12 and the word `first` on.
 pub fn execute_all(s: &[u8], count: usize, first: usize, work: &mut [u64])
-    requires { ⌜ Listing (now s) count first (length (now work)) ⌝ }
+    requires { ⌜ Listing (now s) count first (now work) ⌝ }
     ensures { λ _. ⌜ now (work .exit) ≡ afterAll (readInstructions count (now (s .entry)) 12 first) (now (work .entry)) ⌝ }
 {
     let mut at = 12;

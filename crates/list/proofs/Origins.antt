@@ -97,7 +97,7 @@ three-code = (omega arith, omega arith)
 code : (t : ℕ) → leb 1 t && leb t 3 ≡ true → TypeCode t
 code t e = let (a, b) = and-inv (leb 1 t) (leb t 3) e in (leb-true 1 t a, leb-true t 3 b)
 
-takes-codes : (k : Kind) (t : ℕ) → typeFits (portsOf k) t ≡ true → Each TypeCode (takes k t)
+pub takes-codes : (k : Kind) (t : ℕ) → typeFits (portsOf k) t ≡ true → Each TypeCode (takes k t)
 takes-codes unknown t e = tt
 takes-codes addition t e = let c = code t e in (c, (c, tt))
 takes-codes subtraction t e = let c = code t e in (c, (c, tt))

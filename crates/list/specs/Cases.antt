@@ -19,7 +19,7 @@ use Rattle.list.specs.Board.{execute}
 use Rattle.list.specs.Compile.{opened}
 use Rattle.list.specs.Code.{encode, decode, guard, then}
 use Rattle.list.specs.Answers.{Buffers, compilable, codeOf, ran}
-use Rattle.list.specs.Listing.{functionLine, listing}
+use Rattle.list.specs.Listing.{decimal, functionLine, listing}
 
 -- ---- tables and codes
 
@@ -122,6 +122,6 @@ cases =
     ∷ []
 
 pub settled : Each Holds cases
-unfolding verdict table need _>>=_ _>>_ via nodeMeans meaningOf results operationsOf resultWordsOf schedule opened encode decode guard then execute ran functionLine listing Ieee.add Ieee.mul Ieee.ofBits Ieee.toBits
+unfolding verdict table need _>>=_ _>>_ via nodeMeans meaningOf results operationsOf resultWordsOf schedule opened encode decode guard then execute ran decimal functionLine listing Ieee.add Ieee.mul Ieee.ofBits Ieee.toBits
 settled =
     ((refl, refl), (refl, (refl, (refl, (refl, (refl, (refl, (refl, (refl, (refl, ((refl, refl), ((refl, refl), ((refl, refl), ((refl, refl), tt))))))))))))))

@@ -18,7 +18,7 @@ digits zero n rest = rest
 digits (suc k) n rest = cond (ltb n 10) ((48 + n) ∷ rest) (digits k (n / 10) ((48 + n % 10) ∷ rest))
 
 -- a number below 10 to the 20
-abbrev pub decimal : ℕ → List ℕ
+unfoldable pub decimal : ℕ → List ℕ
 decimal n = digits 20 n []
 
 abbrev pub newline : List ℕ

@@ -10,7 +10,8 @@ use lib.Dec.{leb, eqb}
 use lib.ListN.{length}
 use lib.Seq.{sets, length-sets}
 use Rattle.value.specs.Values.{wordAt, argumentWord, every}
-use Rattle.value.specs.Typed.{Each}
+use Rattle.value.specs.Typed.{Word, Each}
+use Rattle.value.proofs.Laws.{same-word}
 use Rattle.graph.specs.Outcome.{Outcome, ok, fault, _>>=_, _>>_, need, orElse}
 use Rattle.graph.specs.Bytes.{byte, u16}
 use Rattle.graph.proofs.Loops.{and-inv, and-both}
@@ -23,7 +24,9 @@ use Rattle.runner.specs.declared.Checked.{Checked}
 use Rattle.runner.specs.declared.Checked.the-variants.{Formed, Malformed}
 use Rattle.runner.specs.declared.Ran.{Ran}
 use Rattle.runner.specs.declared.Ran.the-variants.{Done, Refused}
+use Rattle.executor.specs.Execution.{Canonical, CanonicalBefore}
 use Rattle.executor.specs.Listing.{afterAll, Listing}
+use Rattle.executor.proofs.Canonical.{after-sets}
 use Rattle.executor.proofs.Loop.{words-grow}
 use Rattle.runner.specs.Checks.{countsOf, checkedOf}
 use Rattle.runner.specs.Runs.{answerOf, workAfter, outAfter, Answered, memoryOf, outputsOf, OutputsReady}
@@ -197,8 +200,25 @@ module _ (s arguments work out : List ℕ) {c : Counts} (d : Decoded s c) {first
       ∙ ap (λ (x : List ℕ). sets out 0 (map (wordAt x) (d .list .outputs))) memory-is
       ∙ ap (λ (x : Option BoardList). outputsOf x arguments work out) (sym (d .is))
 
-pub listing : (s : List ℕ) (c : Counts) (size : ℕ) → Decoded s c → c .words ≤ size → Listing s (c .instructions) (c .arguments) size
-listing s c size d h = let w = d .same-words in record { listed = d .listed; reads = d .reads; room = omega arith }
+-- the arguments are canonical words
+
+each-canonical : (xs : List ℕ) → every argumentWord xs ≡ true → ((i : ℕ) → Word (wordAt xs i)) → Each Canonical xs
+each-canonical [] e f = tt
+each-canonical (x ∷ xs) e f =
+    let (a, b) = and-inv (argumentWord x) (every argumentWord xs) e in
+    (same-word x (f 0, a), each-canonical xs b (λ i. f (suc i)))
+
+pub copied : {m : List ℕ} (work arguments : List ℕ) {n : ℕ} → m ≡ sets work 0 arguments → length arguments ≡ n → n ≤ length work
+    → every argumentWord arguments ≡ true → ((i : ℕ) → Word (wordAt arguments i)) → CanonicalBefore n m
+copied {m} work arguments {n} e l r a f =
+    let z : 0 + length arguments ≡ n = omega arith in
+    subst (λ (x : List ℕ). CanonicalBefore n x) (sym e)
+    (subst (λ (k : ℕ). CanonicalBefore k (sets work 0 arguments)) z
+    (after-sets arguments work 0 (each-canonical arguments a f) (omega arith) (λ i h. absurd (omega arith))))
+
+pub listing : (s : List ℕ) (c : Counts) (m : List ℕ) → Decoded s c → c .words ≤ length m → CanonicalBefore (c .arguments) m
+    → Listing s (c .instructions) (c .arguments) m
+listing s c m d h k = let w = d .same-words in record { listed = d .listed; reads = d .reads; room = omega arith; canonical = k }
 
 each-less : (xs : List ℕ) (m n : ℕ) → m ≤ n → Each (λ a. a < m) xs → Each (λ a. a < n) xs
 each-less [] m n h e = tt

@@ -2,9 +2,11 @@
 use Prim.Native.Nat.{ℕ, _+_, _*_, _≤_, _<_}
 use mathlib.Core.Path.{_≡_}
 use mathlib.Core.List.{List}
+use mathlib.Core.Bool.{true}
 use mathlib.Core.Option.{Option, none, some}
 use lib.ListN.{length}
 use lib.Seq.{sets}
+use Rattle.value.specs.Values.{argumentWord, every}
 use Rattle.value.specs.Typed.{Each}
 use Rattle.graph.specs.Outcome.{Outcome, ok, fault}
 use Rattle.list.specs.Board.{BoardList, run}
@@ -39,10 +41,11 @@ pub record Answered (g : Outcome Buffers) (work out work′ out′ : List ℕ) (
 
 -- ---- a run of a code that was checked
 
--- with these counts, on so many arguments and buffers of these lengths
-pub record Runnable (s : List ℕ) (c : Counts) (arguments work out : ℕ) : Type 0 where
+-- with these counts, on these arguments and buffers of these lengths
+pub record Runnable (s : List ℕ) (c : Counts) (arguments : List ℕ) (work out : ℕ) : Type 0 where
   pub formed : checkedOf (decode s) ≡ Formed c
-  pub arguments-all : arguments ≡ c .arguments
+  pub arguments-all : length arguments ≡ c .arguments
+  pub allowed : every argumentWord arguments ≡ true
   pub work-room : c .words ≤ work
   pub out-room : c .outputs ≤ out
 

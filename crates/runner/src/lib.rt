@@ -305,7 +305,7 @@ fn copy_outputs(s: &[u8], from: usize, count: usize, work: &[u64], out: &mut [u6
     }
 }
 
-// Runs a code that was checked, with its counts, on as many arguments, where both buffers are long enough.
+// Runs a code that was checked, with its counts, on as many finite arguments, where both buffers are long enough.
 pub fn run_checked(
     code: &[u8],
     counts: Counts,
@@ -313,7 +313,7 @@ pub fn run_checked(
     work: &mut [u64],
     out: &mut [u64],
 )
-    requires { ⌜ Runnable (now code) counts (length (now arguments)) (length (now work)) (length (now out)) ⌝ }
+    requires { ⌜ Runnable (now code) counts (now arguments) (length (now work)) (length (now out)) ⌝ }
     ensures { λ _. ⌜ (now (work .exit) ≡ memoryOf (decode (now (code .entry))) (now (arguments .entry)) (now (work .entry))) × (now (out .exit) ≡ outputsOf (decode (now (code .entry))) (now (arguments .entry)) (now (work .entry)) (now (out .entry))) ⌝ }
 {
     let outputs = counts.outputs;

@@ -58,17 +58,6 @@ pub fn compare_around(
     Some(code)
 }
 
-/// An id that often stands in the graph.
-pub fn some_id(random: &mut Random, graph: &Graph) -> u16 {
-    match random.below(12) {
-        0 => random.word() as u16,
-        1 => 0,
-        // The last function calls most.
-        2..=5 => graph.functions.last().expect("a function").id,
-        _ => random.pick(&graph.functions).id,
-    }
-}
-
 pub fn fixed(report: &mut Report) {
     let a = shapes::case_a().to_bytes();
     let code = [

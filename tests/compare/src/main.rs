@@ -8,7 +8,7 @@ mod compile;
 #[cfg(feature = "evaluate")]
 mod evaluate;
 mod lister;
-#[cfg(feature = "compile")]
+#[cfg(any(feature = "compile", feature = "run"))]
 mod marked;
 mod options;
 mod report;
@@ -18,6 +18,7 @@ mod run;
 use std::process::ExitCode;
 use std::time::Instant;
 
+use generate::graph::Graph;
 use generate::random::Random;
 use generate::tables::{damaged_table, random_graph};
 
@@ -78,17 +79,19 @@ fn compare(options: &Options) -> bool {
     report.differences == 0 && complete
 }
 
-/// A random table and a damaged one: verdicts.
-#[cfg(not(feature = "compile"))]
-fn random_table(report: &mut Report, random: &mut Random, _: &Options) {
-    let graph = random_graph(random);
-    check::compare(report, &graph.to_bytes());
-    check::compare(report, &damaged_table(random, &graph));
+/// An id of the graph, mostly.
+fn some_id(random: &mut Random, graph: &Graph) -> u16 {
+    match random.below(12) {
+        0 => random.word() as u16,
+        1 => 0,
+        // The last function calls most.
+        2..=5 => graph.functions.last().expect("a function").id,
+        _ => random.pick(&graph.functions).id,
+    }
 }
 
-/// A random table and a damaged one: verdicts, codes, runs, evaluations.
-#[cfg(feature = "compile")]
-#[cfg_attr(not(feature = "evaluate"), allow(unused_variables))]
+/// A random table and a damaged one: verdicts, codes, runs, evaluations, as far as the library has them.
+#[allow(unused_variables)]
 fn random_table(report: &mut Report, random: &mut Random, options: &Options) {
     let graph = random_graph(random);
     let table = graph.to_bytes();
@@ -96,17 +99,19 @@ fn random_table(report: &mut Report, random: &mut Random, options: &Options) {
     check::compare(report, &table);
     check::compare(report, &damaged);
 
-    let id = compile::some_id(random, &graph);
-    let id_damaged = compile::some_id(random, &graph);
-    let code = compile::compare_around(report, random, &table, id);
-    compile::compare_around(report, random, &damaged, id_damaged);
-
+    let id = some_id(random, &graph);
+    let id_damaged = some_id(random, &graph);
+    #[cfg(feature = "compile")]
+    {
+        compile::compare_around(report, random, &table, id);
+        compile::compare_around(report, random, &damaged, id_damaged);
+    }
     #[cfg(feature = "run")]
     {
-        if let Some(code) = &code {
-            run::compiled(report, random, &table, id, code);
-            run::compiled(report, random, &table, id, code);
-            run::damaged_compiled(report, random, code);
+        if let Ok(code) = independent::compile(&table, id, usize::MAX) {
+            run::compiled(report, random, &table, id, &code);
+            run::compiled(report, random, &table, id, &code);
+            run::damaged_compiled(report, random, &code);
         }
         run::list(report, random);
     }

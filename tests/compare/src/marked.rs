@@ -13,6 +13,7 @@ pub struct Marked<T> {
     length: usize,
 }
 
+#[cfg(feature = "compile")]
 impl Marked<u8> {
     pub fn bytes(length: usize) -> Marked<u8> {
         let all = (0..length + 2 * GUARD)
@@ -57,6 +58,7 @@ impl<T: Copy> Marked<T> {
     }
 
     /// The same buffer with these at its front.
+    #[cfg(feature = "compile")]
     pub fn with_front(mut self, front: &[T]) -> Marked<T> {
         self.all[GUARD..GUARD + front.len()].copy_from_slice(front);
         self

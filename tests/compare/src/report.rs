@@ -1,12 +1,12 @@
 //! What was compared, how often each refusal was met, and every difference.
 
 use std::fmt::Debug;
-#[cfg(feature = "compile")]
+#[cfg(any(feature = "compile", feature = "run"))]
 use std::fmt::LowerHex;
 
 use independent::Refusal;
 
-#[cfg(feature = "compile")]
+#[cfg(any(feature = "compile", feature = "run"))]
 use crate::marked::Marked;
 
 /// What is compared.
@@ -88,7 +88,7 @@ impl Report {
     }
 
     /// Holds a buffer after a call, with its guards.
-    #[cfg(feature = "compile")]
+    #[cfg(any(feature = "compile", feature = "run"))]
     pub fn same_buffer<T: Copy + LowerHex + PartialEq>(
         &mut self,
         what: &str,

@@ -1,5 +1,6 @@
 -- `executor::compose_vector` carries its kind out.
 use borrow.Author.Needs.{needs}
+use native.Mathlib.Omega.{arith}
 use Rattle.value.specs.Results.{results}
 use Rattle.list.specs.Board.{execute}
 use Rattle.executor.proofs.compose_vector.Statement.{statement}
@@ -9,13 +10,13 @@ returns : tie.Need-returns
 unfolding execute results
 returns c =
     rw (
-      c .before .before .put-value .ensures,
+      c .before .before .put-short .ensures,
       c .before .before .before .compose-vector .ensures,
-      c .before .before .before .before .before .get3 .ensures,
+      c .before .before .before .before .before .load3 .ensures,
       c .before .before .before .before .before .before .u16-at3 .ensures .0,
-      c .before .before .before .before .before .before .before .before .get2 .ensures,
+      c .before .before .before .before .before .before .before .before .load2 .ensures,
       c .before .before .before .before .before .before .before .before .before .u16-at2 .ensures .0,
-      c .before .before .before .before .before .before .before .before .before .before .before .get .ensures,
+      c .before .before .before .before .before .before .before .before .before .before .before .load .ensures,
       c .before .before .before .before .before .before .before .before .before .before .before .before .u16-at .ensures .0,
     )
 
@@ -23,4 +24,4 @@ pub compose-vector-spec : {M : Type 1} → statement M
 compose-vector-spec =
     tie.close
     (tie.spec
-    (λ c. search needs) (λ c. search needs) (λ c κs. search needs) (λ c κs. search needs) (λ c κs. search needs) (λ c κs. search needs) (λ c κs. search needs) (λ c κs. search needs) (λ c κs. search needs) (λ c κs. search needs) (λ c. search needs) returns)
+    (λ c. search needs) (λ c. search needs) (λ c κs. search needs) (λ c κs. record { end = c .before .before .before .before .args .result; within = omega (arith, c .before .before .before .before .pre); room = omega (arith, c .before .before .before .before .pre .room); canonical = c .before .before .before .before .pre .canonical }) (λ c κs. search needs) (λ c κs. record { end = c .before .before .before .before .before .before .before .args .result; within = omega (arith, c .before .before .before .before .before .before .before .pre); room = omega (arith, c .before .before .before .before .before .before .before .pre .room); canonical = c .before .before .before .before .before .before .before .pre .canonical }) (λ c κs. search needs) (λ c κs. record { end = c .before .before .before .before .before .before .before .before .before .before .args .result; within = omega (arith, c .before .before .before .before .before .before .before .before .before .before .pre); room = omega (arith, c .before .before .before .before .before .before .before .before .before .before .pre .room); canonical = c .before .before .before .before .before .before .before .before .before .before .pre .canonical }) (λ c κs. search needs) (λ c κs. search needs) (λ c. search needs) returns)

@@ -8,7 +8,7 @@ use Rattle.executor.proofs.constant.Tie as tie
 
 returns : tie.Need-returns
 unfolding execute results
-returns c = rw (add-zero (c .before .before .before .before .before .before .before .args .at), c .before .before .put-value .ensures, c .before .before .before .constant-at .ensures)
+returns c = rw (add-zero (c .before .before .before .before .before .before .before .args .at), c .before .before .put-short .ensures, c .before .before .before .constant-at .ensures)
 
 pub constant-spec : {M : Type 1} → statement M
 constant-spec =

@@ -10,7 +10,7 @@ returns : tie.Need-returns
 unfolding execute results
 returns c =
     rw
-    (add-zero (c .before .before .before .before .before .before .before .before .before .args .at), c .before .before .put-value .ensures, c .before .before .before .before .constant-at3 .ensures, c .before .before .before .before .before .constant-at2 .ensures, c .before .before .before .before .before .before .constant-at .ensures)
+    (add-zero (c .before .before .before .before .before .before .before .before .before .args .at), c .before .before .put-short .ensures, c .before .before .before .before .constant-at3 .ensures, c .before .before .before .before .before .constant-at2 .ensures, c .before .before .before .before .before .before .constant-at .ensures)
 
 pub constvec-spec : {M : Type 1} → statement M
 constvec-spec =

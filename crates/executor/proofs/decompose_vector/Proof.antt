@@ -1,5 +1,6 @@
 -- `executor::decompose_vector` carries its kind out.
 use borrow.Author.Needs.{needs}
+use native.Mathlib.Omega.{arith}
 use mathlib.Core.Path.{_∙_, ap}
 use denote.Ref.{now}
 use Rattle.value.specs.Values.{vecAt}
@@ -10,11 +11,11 @@ use Rattle.executor.proofs.decompose_vector.Tie as tie
 returns : tie.Need-returns
 returns c =
     let a = c .before .before .before .before .before .before .before .before .before .before .before .before .before .before .before .before .before .args in
-    of-components (now (a .s)) (now (a .work)) (a .at) (a .result) (c .before .before .before .before .before .before .before .before .before .before .put-value .ensures) (c .before .before .before .before .before .before .put-value2 .ensures) (c .before .before .put-value3 .ensures)
-    (c .before .before .before .before .before .before .before .before .before .before .before .before .get-vec .ensures ∙ ap (vecAt (now (a .work))) (c .before .before .before .before .before .before .before .before .before .before .before .before .before .u16-at .ensures .0))
+    of-components (now (a .s)) (now (a .work)) (a .at) (a .result) (c .before .before .before .before .before .before .before .before .before .before .put-short .ensures) (c .before .before .before .before .before .before .put-short2 .ensures) (c .before .before .put-short3 .ensures)
+    (c .before .before .before .before .before .before .before .before .before .before .before .before .load-vec .ensures ∙ ap (vecAt (now (a .work))) (c .before .before .before .before .before .before .before .before .before .before .before .before .before .u16-at .ensures .0))
 
 pub decompose-vector-spec : {M : Type 1} → statement M
 decompose-vector-spec =
     tie.close
     (tie.spec
-    (λ c κs. search needs) (λ c κs. search needs) (λ c κs. search needs) (λ c. search needs) (λ c κs. search needs) (λ c. search needs) (λ c κs. search needs) (λ c. search needs) returns)
+    (λ c κs. search needs) (λ c κs. record { end = c .before .before .before .before .args .result; within = omega (arith, c .before .before .before .before .pre); room = omega (arith, c .before .before .before .before .pre .room); canonical = c .before .before .before .before .pre .canonical }) (λ c κs. search needs) (λ c. search needs) (λ c κs. search needs) (λ c. search needs) (λ c κs. search needs) (λ c. search needs) returns)

@@ -1,5 +1,6 @@
 -- `executor::dot` carries its kind out.
 use borrow.Author.Needs.{needs}
+use native.Mathlib.Omega.{arith}
 use Rattle.value.specs.Results.{results}
 use Rattle.list.specs.Board.{execute}
 use Rattle.executor.proofs.dot.Statement.{statement}
@@ -9,11 +10,11 @@ returns : tie.Need-returns
 unfolding execute results
 returns c =
     rw (
-      c .before .before .put-value .ensures,
+      c .before .before .put-short .ensures,
       c .before .before .before .dot .ensures,
-      c .before .before .before .before .before .get-vec2 .ensures,
+      c .before .before .before .before .before .load-vec2 .ensures,
       c .before .before .before .before .before .before .u16-at2 .ensures .0,
-      c .before .before .before .before .before .before .before .before .get-vec .ensures,
+      c .before .before .before .before .before .before .before .before .load-vec .ensures,
       c .before .before .before .before .before .before .before .before .before .u16-at .ensures .0,
     )
 
@@ -21,4 +22,4 @@ pub dot-spec : {M : Type 1} → statement M
 dot-spec =
     tie.close
     (tie.spec
-    (λ c κs. search needs) (λ c κs. search needs) (λ c. search needs) (λ c κs. search needs) (λ c κs. search needs) (λ c κs. search needs) (λ c κs. search needs) (λ c. search needs) returns)
+    (λ c κs. search needs) (λ c κs. record { end = c .before .before .before .before .args .result; within = omega (arith, c .before .before .before .before .pre); room = omega (arith, c .before .before .before .before .pre .room); canonical = c .before .before .before .before .pre .canonical }) (λ c. search needs) (λ c κs. search needs) (λ c κs. record { end = c .before .before .before .before .before .before .before .args .result; within = omega (arith, c .before .before .before .before .before .before .before .pre); room = omega (arith, c .before .before .before .before .before .before .before .pre .room); canonical = c .before .before .before .before .before .before .before .pre .canonical }) (λ c κs. search needs) (λ c κs. search needs) (λ c. search needs) returns)

@@ -10,15 +10,15 @@ unfolding operate
 returns c =
     record {
       words = rw (
-        c .before .before .put-value .ensures,
+        c .before .before .put-short .ensures,
         c .before .before .before .before .step .ensures,
-        c .before .before .before .before .before .get4 .ensures,
+        c .before .before .before .before .before .load4 .ensures,
         c .before .before .before .before .before .before .u16-at4 .ensures .0,
-        c .before .before .before .before .before .before .before .before .get3 .ensures,
+        c .before .before .before .before .before .before .before .before .load3 .ensures,
         c .before .before .before .before .before .before .before .before .before .u16-at3 .ensures .0,
-        c .before .before .before .before .before .before .before .before .before .before .before .get2 .ensures,
+        c .before .before .before .before .before .before .before .before .before .before .before .load2 .ensures,
         c .before .before .before .before .before .before .before .before .before .before .before .before .u16-at2 .ensures .0,
-        c .before .before .before .before .before .before .before .before .before .before .before .before .before .before .get .ensures,
+        c .before .before .before .before .before .before .before .before .before .before .before .before .before .before .load .ensures,
         c .before .before .before .before .before .before .before .before .before .before .before .before .before .before .before .u16-at .ensures .0,
       );
       next-at = omega arith;
@@ -29,4 +29,4 @@ pub four-scalars-spec : {M : Type 1} → statement M
 four-scalars-spec =
     tie.close
     (tie.spec
-    (λ c. search needs) (λ c. search needs) (λ c. search needs) (λ c. search needs) (λ c. search needs) (λ c κs. search needs) (λ c κs. search needs) (λ c κs. search needs) (λ c κs. search needs) (λ c κs. search needs) (λ c κs. search needs) (λ c κs. search needs) (λ c κs. search needs) (λ c κs. search needs) (λ c κs. search needs) (λ c. search needs) returns)
+    (λ c. search needs) (λ c. search needs) (λ c. search needs) (λ c. search needs) (λ c. search needs) (λ c κs. omega (arith, c .before .before .before .pre .fits)) (λ c κs. record { end = c .before .before .before .before .args .result; within = omega (arith, c .before .before .before .before .pre); room = omega (arith, c .before .before .before .before .pre .room); canonical = c .before .before .before .before .pre .canonical }) (λ c κs. omega (arith, c .before .before .before .before .before .before .pre .fits)) (λ c κs. record { end = c .before .before .before .before .before .before .before .args .result; within = omega (arith, c .before .before .before .before .before .before .before .pre); room = omega (arith, c .before .before .before .before .before .before .before .pre .room); canonical = c .before .before .before .before .before .before .before .pre .canonical }) (λ c κs. omega (arith, c .before .before .before .before .before .before .before .before .before .pre .fits)) (λ c κs. record { end = c .before .before .before .before .before .before .before .before .before .before .args .result; within = omega (arith, c .before .before .before .before .before .before .before .before .before .before .pre); room = omega (arith, c .before .before .before .before .before .before .before .before .before .before .pre .room); canonical = c .before .before .before .before .before .before .before .before .before .before .pre .canonical }) (λ c κs. omega (arith, c .before .before .before .before .before .before .before .before .before .before .before .before .pre .fits)) (λ c κs. record { end = c .before .before .before .before .before .before .before .before .before .before .before .before .before .args .result; within = omega (arith, c .before .before .before .before .before .before .before .before .before .before .before .before .before .pre); room = omega (arith, c .before .before .before .before .before .before .before .before .before .before .before .before .before .pre .room); canonical = c .before .before .before .before .before .before .before .before .before .before .before .before .before .pre .canonical }) (λ c κs. search needs) (λ c κs. (omega (arith, c .before .before .before .before .before .before .before .before .before .before .before .before .before .before .before .before .pre .room), omega arith)) (λ c. search needs) returns)

@@ -10,15 +10,15 @@ unfolding operate
 returns c =
     record {
       words = rw (
-        c .before .before .put-value .ensures,
+        c .before .before .put-short .ensures,
         c .before .before .before .before .step-vec .ensures,
-        c .before .before .before .before .before .get-vec4 .ensures,
+        c .before .before .before .before .before .load-vec4 .ensures,
         c .before .before .before .before .before .before .u16-at4 .ensures .0,
-        c .before .before .before .before .before .before .before .before .get-vec3 .ensures,
+        c .before .before .before .before .before .before .before .before .load-vec3 .ensures,
         c .before .before .before .before .before .before .before .before .before .u16-at3 .ensures .0,
-        c .before .before .before .before .before .before .before .before .before .before .before .get-vec2 .ensures,
+        c .before .before .before .before .before .before .before .before .before .before .before .load-vec2 .ensures,
         c .before .before .before .before .before .before .before .before .before .before .before .before .u16-at2 .ensures .0,
-        c .before .before .before .before .before .before .before .before .before .before .before .before .before .before .get-vec .ensures,
+        c .before .before .before .before .before .before .before .before .before .before .before .before .before .before .load-vec .ensures,
         c .before .before .before .before .before .before .before .before .before .before .before .before .before .before .before .u16-at .ensures .0,
       );
       next-at = omega arith;
@@ -29,4 +29,4 @@ pub four-vectors-spec : {M : Type 1} → statement M
 four-vectors-spec =
     tie.close
     (tie.spec
-    (λ c. search needs) (λ c. search needs) (λ c. search needs) (λ c. search needs) (λ c. search needs) (λ c κs. omega (arith, c .before .before .before .pre .fits)) (λ c κs. omega (arith, c .before .before .before .before .pre)) (λ c κs. omega (arith, c .before .before .before .before .before .before .pre .fits)) (λ c κs. omega (arith, c .before .before .before .before .before .before .before .pre)) (λ c κs. omega (arith, c .before .before .before .before .before .before .before .before .before .pre .fits)) (λ c κs. omega (arith, c .before .before .before .before .before .before .before .before .before .before .pre)) (λ c κs. omega (arith, c .before .before .before .before .before .before .before .before .before .before .before .before .pre .fits)) (λ c κs. omega (arith, c .before .before .before .before .before .before .before .before .before .before .before .before .before .pre)) (λ c κs. search needs) (λ c κs. omega (arith, c .before .before .before .before .before .before .before .before .before .before .before .before .before .before .before .before .pre .room)) (λ c. search needs) returns)
+    (λ c. search needs) (λ c. search needs) (λ c. search needs) (λ c. search needs) (λ c. search needs) (λ c κs. omega (arith, c .before .before .before .pre .fits)) (λ c κs. record { end = c .before .before .before .before .args .result; within = omega (arith, c .before .before .before .before .pre); room = omega (arith, c .before .before .before .before .pre .room); canonical = c .before .before .before .before .pre .canonical }) (λ c κs. omega (arith, c .before .before .before .before .before .before .pre .fits)) (λ c κs. record { end = c .before .before .before .before .before .before .before .args .result; within = omega (arith, c .before .before .before .before .before .before .before .pre); room = omega (arith, c .before .before .before .before .before .before .before .pre .room); canonical = c .before .before .before .before .before .before .before .pre .canonical }) (λ c κs. omega (arith, c .before .before .before .before .before .before .before .before .before .pre .fits)) (λ c κs. record { end = c .before .before .before .before .before .before .before .before .before .before .args .result; within = omega (arith, c .before .before .before .before .before .before .before .before .before .before .pre); room = omega (arith, c .before .before .before .before .before .before .before .before .before .before .pre .room); canonical = c .before .before .before .before .before .before .before .before .before .before .pre .canonical }) (λ c κs. omega (arith, c .before .before .before .before .before .before .before .before .before .before .before .before .pre .fits)) (λ c κs. record { end = c .before .before .before .before .before .before .before .before .before .before .before .before .before .args .result; within = omega (arith, c .before .before .before .before .before .before .before .before .before .before .before .before .before .pre); room = omega (arith, c .before .before .before .before .before .before .before .before .before .before .before .before .before .pre .room); canonical = c .before .before .before .before .before .before .before .before .before .before .before .before .before .pre .canonical }) (λ c κs. search needs) (λ c κs. (omega (arith, c .before .before .before .before .before .before .before .before .before .before .before .before .before .before .before .before .pre .room), omega arith)) (λ c. search needs) returns)

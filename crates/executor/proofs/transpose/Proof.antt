@@ -1,5 +1,6 @@
 -- `executor::transpose` carries its kind out.
 use borrow.Author.Needs.{needs}
+use native.Mathlib.Omega.{arith}
 use Rattle.value.specs.Results.{results}
 use Rattle.list.specs.Board.{execute}
 use Rattle.executor.proofs.transpose.Statement.{statement}
@@ -9,10 +10,10 @@ returns : tie.Need-returns
 unfolding execute results
 returns c =
     rw
-    (c .before .before .put-value .ensures, c .before .before .before .transpose .ensures, c .before .before .before .before .before .get-mat .ensures, c .before .before .before .before .before .before .u16-at .ensures .0)
+    (c .before .before .put-mat .ensures, c .before .before .before .transpose .ensures, c .before .before .before .before .before .load-mat .ensures, c .before .before .before .before .before .before .u16-at .ensures .0)
 
 pub transpose-spec : {M : Type 1} → statement M
 transpose-spec =
     tie.close
     (tie.spec
-    (λ c κs. search needs) (λ c κs. search needs) (λ c κs. search needs) (λ c κs. search needs) (λ c. search needs) returns)
+    (λ c κs. search needs) (λ c κs. record { end = c .before .before .before .before .args .result; within = omega (arith, c .before .before .before .before .pre); room = omega (arith, c .before .before .before .before .pre .room); canonical = c .before .before .before .before .pre .canonical }) (λ c κs. search needs) (λ c κs. search needs) (λ c. search needs) returns)

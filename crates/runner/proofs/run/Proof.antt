@@ -57,6 +57,7 @@ run-checked-requires c κs =
     record {
       formed = sym (c .before .before .before .before .before .before .before .before .before .before .before .before .before .check-code .ensures) ∙ c .before .before .before .before .before .before .before .before .before .before .before .counts .given .1;
       arguments-all = c .before .before .before .before .before .before .before .before .if1 .left;
+      allowed = sym (c .before .before .before .before .before .before .before .arguments-allowed .ensures) ∙ not-false _ (c .before .before .before .before .before .before .if2 .left);
       work-room = c .before .before .before .before .if3 .left;
       out-room = c .before .before .if4 .left;
     }

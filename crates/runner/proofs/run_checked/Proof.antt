@@ -4,7 +4,7 @@ use mathlib.Core.Path.{ap, _∙_}
 use native.Mathlib.Omega.{arith}
 use denote.Ref.{now}
 use lib.ListN.{length}
-use Rattle.runner.proofs.Decoding.{decoded, listing, outputs-ready, length-after, length-copy, ran-memory, ran-outputs}
+use Rattle.runner.proofs.Decoding.{decoded, copied, listing, outputs-ready, length-after, length-copy, ran-memory, ran-outputs}
 use Rattle.runner.proofs.run_checked.Statement.{statement}
 use Rattle.runner.proofs.run_checked.Tie as tie
 
@@ -32,7 +32,8 @@ execute-all-requires c κs =
     let h = c .before .before .before .before .before .before .before .before .before .pre in
     let d = decoded _ _ (h .formed) in
     let l = length-copy (now (a .work)) (now (a .arguments)) (c .before .before .before .copy .ensures) in
-    listing _ _ _ d (omega (arith, h .work-room, l))
+    let k = copied (now (a .work)) (now (a .arguments)) (c .before .before .before .copy .ensures) (h .arguments-all) (omega (arith, d .first, h .work-room)) (h .allowed) (λ i. omega (arith, c .before .before .before .before .before .before .before .shared-slice-known2 .given i)) in
+    listing _ _ _ d (omega (arith, h .work-room, l)) k
 
 copy-outputs-requires : tie.Need-copy-outputs-requires
 copy-outputs-requires c κs =

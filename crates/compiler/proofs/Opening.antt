@@ -1,0 +1,142 @@
+-- Opening goes by addresses alone, and a call opens the function at its callee's position.
+use Prim.Native.Nat.{ℕ, zero, suc, _+_, _≤_, _<_}
+use mathlib.Core.Path.{_≡_, refl, sym, ap, _∙_, subst}
+use mathlib.Core.Bool.{Bool, true, false, cond}
+use mathlib.Core.List.{List, [], _∷_, map}
+use mathlib.Core.Logic.{_⊎_, inl, inr, ⊎-elim}
+use native.Mathlib.Omega.{arith}
+use lib.Dec.{eqb}
+use lib.ListN.{length, getD, replicate, length-replicate, getD-replicate, List·getD-eq-default}
+use lib.Seq.{sets}
+use Rattle.ports.specs.declared.Ports.{Ports}
+use Rattle.ports.specs.Kinds.{kindOf}
+use Rattle.ports.specs.Ports.{portsOf}
+use Rattle.graph.specs.Bytes.{byte, u16}
+use Rattle.graph.specs.Graph.{Ref, Payload, consts, refs, calls, Node, Output, Function}
+use Rattle.graph.specs.Look.{readsOf, reads, outputRefs}
+use Rattle.graph.specs.Read.{references}
+use Rattle.graph.specs.Schedule.{schedule}
+use Rattle.graph.proofs.Formed.{refs-length}
+use Rattle.reader.specs.Layout.{nodeAt, functionAt, functionPlace, earlier}
+use Rattle.list.specs.Compile.{Written, portsAt, address, Opened, Open, single, openNode, Body, also, behind, openNodes, openFunction, opened}
+use Rattle.compiler.specs.Position.{placeOf, functionIn, before, positionOf, calling}
+use Rattle.compiler.specs.Emit.{addressesIn, openWith, nodeOpened, functionOpened}
+use Rattle.compiler.proofs.Writing.{sets-in, sets-above}
+use Rattle.compiler.proofs.Nodes.{call-payload, call-reads}
+use Rattle.compiler.proofs.Positions.{at-position, no-position}
+use Rattle.compiler.proofs.Single.{addresses-length}
+
+-- ---- addresses that are the same at every port
+
+abbrev pub Same : List ℕ → List ℕ → Type 0
+Same xs ys = (p : ℕ) → getD xs p 0 ≡ getD ys p 0
+
+pub map-same : (f g : Ref → ℕ) → ((r : Ref) → f r ≡ g r) → (rs : List Ref) → map f rs ≡ map g rs
+map-same f g h [] = refl
+map-same f g h (r ∷ rs) = ap (λ (x : ℕ). x ∷ map f rs) (h r) ∙ ap (λ (xs : List ℕ). g r ∷ xs) (map-same f g h rs)
+
+node-same : (go : Open) (f g : Ref → ℕ) → ((r : Ref) → f r ≡ g r) → (next : ℕ) (n : Node) (p : Payload) → openNode go f next n p ≡ openNode go g next n p
+node-same go f g h next n (consts ws) = refl
+node-same go f g h next n (refs rs) = ap (λ (xs : List ℕ). single n xs [] next) (map-same f g h rs)
+node-same go f g h next n (calls c rs) = ap (λ (xs : List ℕ). go c xs next) (map-same f g h rs)
+
+abbrev ported : List ℕ → Body → Opened
+ported ps b = record { code = b .code; next = b .next; ports = ps }
+
+module _ (xs ys : List ℕ) (h : Same xs ys) where
+  address-same : (w : List Written) (r : Ref) → address xs w r ≡ address ys w r
+  address-same w r = pickOne (eqb (r .node) 0)
+    where
+      pickOne : (b : Bool) → getD (cond b xs (portsAt (r .node) w)) (r .port) 0 ≡ getD (cond b ys (portsAt (r .node) w)) (r .port) 0
+      pickOne true = h (r .port)
+      pickOne false = refl
+
+  nodes-same : (go : Open) (ns : List Node) (w : List Written) (next : ℕ) → openNodes go xs ns w next ≡ openNodes go ys ns w next
+  nodes-same go [] w next = refl
+  nodes-same go (n ∷ ns) w next =
+      let o = openNode go (address ys w) next n (n .payload) in
+      ap (λ (o : Opened). behind o (openNodes go xs ns (also n o w) (o .next))) (node-same go (address xs w) (address ys w) (address-same w) next n (n .payload))
+      ∙ ap (behind o) (nodes-same go ns (also n o w) (o .next))
+
+  pub function-same : (go : Open) (f : Function) (next : ℕ) → openFunction go f xs next ≡ openFunction go f ys next
+  function-same go f next =
+      let b = openNodes go ys (schedule (f .nodes)) [] next in
+      ap (λ (b : Body). ported (map (address xs (b .written)) (outputRefs (f .outputs))) b) (nodes-same go (schedule (f .nodes)) [] next)
+      ∙ ap (λ (ps : List ℕ). ported ps b) (map-same (address xs (b .written)) (address ys (b .written)) (address-same (b .written)) (outputRefs (f .outputs)))
+
+cmp : (a b : ℕ) → (a < b) ⊎ (b ≤ a)
+cmp a zero = inr (omega arith)
+cmp zero (suc b) = inl (omega arith)
+cmp (suc a) (suc b) = ⊎-elim (λ l. inl (omega arith)) (λ l. inr (omega arith)) (cmp a b)
+
+-- a list laid into zeros
+pub padded : (n : ℕ) (xs : List ℕ) → length xs ≤ n → Same xs (sets (replicate n 0) 0 xs)
+padded n xs h p = ⊎-elim below above (cmp p (length xs))
+  where
+    zeros : _≡_ {A = ℕ} (getD (replicate n 0) p 0) 0
+    zeros = ⊎-elim (λ l. getD-replicate n p 0 0 l) (λ l. List·getD-eq-default (replicate n 0) 0 (rw length-replicate l)) (cmp p n)
+
+    below : p < length xs → getD xs p 0 ≡ getD (sets (replicate n 0) 0 xs) p 0
+    below l =
+        let e : p ≡ 0 + p = omega arith in
+        sym (ap (λ (q : ℕ). getD (sets (replicate n 0) 0 xs) q 0) e ∙ sets-in xs (replicate n 0) 0 p l (rw length-replicate (omega arith)))
+
+    above : length xs ≤ p → getD xs p 0 ≡ getD (sets (replicate n 0) 0 xs) p 0
+    above l = List·getD-eq-default xs 0 l ∙ sym (sets-above xs (replicate n 0) 0 p (omega arith) ∙ zeros)
+
+-- ---- the addresses of what a node reads
+
+pub open-with : (go : Open) (from : Ref → ℕ) (next : ℕ) (n : Node) (p : Payload) (xs : List ℕ) → map from (readsOf p) ≡ xs → openNode go from next n p ≡ openWith go xs next n p
+open-with go from next n (consts ws) xs e = refl
+open-with go from next n (refs rs) xs e = ap (λ (ys : List ℕ). single n ys [] next) e
+open-with go from next n (calls c rs) xs e = ap (λ (ys : List ℕ). go c ys next) e
+
+-- ---- the callee
+
+abbrev pub nothing : ℕ → Opened
+nothing next = record { code = []; next = next; ports = [] }
+
+module _ (s : List ℕ) (ins : List ℕ) (next : ℕ) where
+  opened-nil : (c : ℕ) → opened [] c ins next ≡ nothing next
+  unfolding opened
+  opened-nil c = refl
+
+  opened-one : (m c : ℕ) → opened (before s (suc m)) c ins next ≡ cond (eqb (u16 s (placeOf s m)) c) (functionOpened s m ins next) (opened (before s m) c ins next)
+  unfolding opened earlier functionOpened functionAt
+  opened-one m c = refl
+
+  pub opened-at : (k c : ℕ) → k ≤ 16 → positionOf s k c < k → opened (before s k) c ins next ≡ functionOpened s (positionOf s k c) ins next
+  opened-at k c b h =
+      at-position s (λ early d. opened early d ins next) (λ m. functionOpened s m ins next) (nothing next) opened-nil opened-one k c b h
+
+  pub opened-none : (k c : ℕ) → k ≤ positionOf s k c → opened (before s k) c ins next ≡ nothing next
+  opened-none k c h =
+      no-position s (λ early d. opened early d ins next) (λ m. functionOpened s m ins next) (nothing next) opened-nil opened-one k c h
+
+module _ (s spots : List ℕ) (k p spot : ℕ) (ins : List ℕ) (first next kind : ℕ) (row : Ports) (ek : kind ≡ byte s (p + 2)) (er : row ≡ portsOf (kindOf kind))
+    (f : calling (row .form) ≡ true) (n c : ℕ) (en : n ≡ byte s (p + 4 + 2)) (ec : c ≡ u16 s (p + 4)) where
+  pub count-is : length (reads (nodeAt s p)) ≡ n
+  count-is = ap (λ (y : Payload). length (readsOf y)) (call-payload s p kind row ek er f) ∙ refs-length (byte s (p + 4 + 2)) s (p + 4 + 3) ∙ sym en
+
+  abbrev given : List ℕ
+  given = addressesIn spots ins first spot n
+
+  opened-here : nodeOpened s spots k p spot ins first next ≡ opened (before s k) c given next
+  unfolding nodeOpened
+  opened-here =
+      ap (λ (m : ℕ). openWith (opened (before s k)) (addressesIn spots ins first spot m) next (nodeAt s p) (nodeAt s p .payload)) count-is
+      ∙ ap (openWith (opened (before s k)) given next (nodeAt s p)) (call-payload s p kind row ek er f)
+      ∙ ap (λ (d : ℕ). opened (before s k) d given next) (sym ec)
+
+  module _ (args : List ℕ) (ea : args ≡ sets (replicate 8 0) 0 given) (few : n ≤ 8) (g : ℕ) (eg : g ≡ positionOf s k c) where
+    pub callee-is : k ≤ 16 → g < k → nodeOpened s spots k p spot ins first next ≡ functionOpened s g args next
+    unfolding functionOpened
+    callee-is b lt =
+        let l : length given ≡ n = addresses-length spots ins first spot n in
+        opened-here
+        ∙ opened-at s given next k c b (subst (λ (q : ℕ). q < k) eg lt)
+        ∙ ap (λ (q : ℕ). functionOpened s q given next) (sym eg)
+        ∙ function-same given args (subst (λ (ys : List ℕ). Same given ys) (sym ea) (padded 8 given (omega arith))) (opened (before s g)) (functionIn s g) next
+
+    pub callee-none : k ≤ g → nodeOpened s spots k p spot ins first next ≡ nothing next
+    callee-none le = opened-here ∙ opened-none s given next k c (subst (λ (q : ℕ). k ≤ q) eg le)

@@ -1,0 +1,196 @@
+-- The code of a node that is no call.
+use Prim.Native.Nat.{ℕ, zero, suc, _+_, _-_, _*_, _%_, _/_, _≤_, _<_}
+use mathlib.Core.Path.{_≡_, refl, sym, ap, _∙_, subst}
+use mathlib.Core.Bool.{Bool, true, false}
+use mathlib.Core.List.{List, [], _∷_, _++_, append-nil}
+use native.Mathlib.Omega.{arith}
+use native.Mathlib.Nat.{add-zero}
+use lib.Dec.{eqb}
+use lib.ListN.{length, set, length-append, length-set}
+use lib.Seq.{sets, length-sets}
+use borrow.Author.Tests.{eqb-true}
+use Rattle.ports.specs.declared.Form.{Form}
+use Rattle.ports.specs.declared.Form.the-variants.{Absent, Constant, References, Call}
+use Rattle.ports.specs.declared.Ports.{Ports}
+use Rattle.ports.specs.Kinds.{Kind, kindOf}
+use Rattle.ports.specs.Ports.{widths, gives, portsOf, arity, formOf, constantIn, constantWords}
+use Rattle.ports.specs.Ports as PortList
+use Rattle.ports.proofs.Laws.{words-given}
+use Rattle.graph.specs.Bytes.{byte, u64}
+use Rattle.graph.specs.Graph.{Payload, Node}
+use Rattle.graph.specs.Look.{reads}
+use Rattle.graph.specs.Read.{references, constants}
+use Rattle.graph.proofs.Formed.{refs-length}
+use Rattle.reader.specs.Layout.{kindAt, payloadAt, nodeAt}
+use Rattle.list.specs.Compile.{Opened, Open, opened}
+use Rattle.list.specs.Code.{bytesOf, allBytes, instructionsCode}
+use Rattle.compiler.specs.Position.{before, calling}
+use Rattle.compiler.specs.Emit.{copied, addressesIn, openWith, nodeOpened, Room, Emits}
+use Rattle.compiler.proofs.Writing.{sets-append}
+use Rattle.compiler.proofs.Rows.{operandsBy, Narrow}
+use Rattle.compiler.proofs.Nodes.{row-is, row-narrow, form-is, plain-reads}
+
+-- ---- bytes
+
+pub copied-length : (n : ℕ) (s : List ℕ) (at : ℕ) → length (copied n s at) ≡ n
+unfolding copied
+copied-length zero s at = refl
+copied-length (suc n) s at = ap suc (copied-length n s (at + 1))
+
+pub addresses-length : (spots ins : List ℕ) (first c n : ℕ) → length (addressesIn spots ins first c n) ≡ n
+unfolding addressesIn
+addresses-length spots ins first c zero = refl
+addresses-length spots ins first c (suc n) = ap suc (addresses-length spots ins first (c + 1) n)
+
+bytes-length : (xs : List ℕ) → length (allBytes 2 xs) ≡ 2 * length xs
+bytes-length [] = refl
+bytes-length (x ∷ xs) = let e : length (allBytes 2 xs) ≡ 2 * length xs = bytes-length xs in omega arith
+
+copied-append : (n m : ℕ) (s : List ℕ) (at : ℕ) → copied (n + m) s at ≡ copied n s at ++ copied m s (at + n)
+unfolding copied
+copied-append zero m s at = let z : 0 + m ≡ m = omega arith in rw (z, add-zero)
+copied-append (suc n) m s at =
+    let e : at + 1 + n ≡ at + suc n = omega arith in
+    let f : suc n + m ≡ suc (n + m) = omega arith in
+    rw f
+    (ap (λ (xs : List ℕ). byte s at ∷ xs) (copied-append n m s (at + 1) ∙ ap (λ (q : ℕ). copied n s (at + 1) ++ copied m s q) e))
+
+module _ (s : List ℕ) (small : (q : ℕ) → byte s q < 256) where
+  -- n bytes from `at`, the lowest first
+  abbrev little : ℕ → ℕ → ℕ
+  little zero at = 0
+  little (suc n) at = byte s at + 256 * little n (at + 1)
+
+  -- the bytes of a number that was read are those that it was read from
+  bytes-back : (n at : ℕ) → bytesOf n (little n at) ≡ copied n s at
+  unfolding copied
+  bytes-back zero at = refl
+  bytes-back (suc n) at =
+      let b : byte s at < 256 = small at in
+      let l = little n (at + 1) in
+      let low : (byte s at + 256 * l) % 256 ≡ byte s at = omega arith in
+      let high : (byte s at + 256 * l) / 256 ≡ l = omega arith in
+      rw (low, high) (ap (λ (xs : List ℕ). byte s at ∷ xs) (bytes-back n (at + 1)))
+
+  word-little : (at : ℕ) → u64 s at ≡ little 8 at
+  word-little at =
+      let e2 : at + 1 + 1 ≡ at + 2 = omega arith in
+      let e3 : at + 2 + 1 ≡ at + 3 = omega arith in
+      let e4 : at + 3 + 1 ≡ at + 4 = omega arith in
+      let e5 : at + 4 + 1 ≡ at + 5 = omega arith in
+      let e6 : at + 5 + 1 ≡ at + 6 = omega arith in
+      let e7 : at + 6 + 1 ≡ at + 7 = omega arith in
+      rw (e2, e3, e4, e5, e6, e7) (omega arith)
+
+  pub constants-copied : (n at : ℕ) → allBytes 8 (constants n s at) ≡ copied (8 * n) s at
+  unfolding copied
+  constants-copied zero at = refl
+  constants-copied (suc n) at =
+      let e : 8 * suc n ≡ 8 + 8 * n = omega arith in
+      ap (λ (w : ℕ). bytesOf 8 w ++ allBytes 8 (constants n s (at + 8))) (word-little at)
+      ∙ ap (λ (xs : List ℕ). xs ++ allBytes 8 (constants n s (at + 8))) (bytes-back 8 at)
+      ∙ ap (λ (xs : List ℕ). copied 8 s at ++ xs) (constants-copied n (at + 8))
+      ∙ sym (ap (λ (q : ℕ). copied q s at) e ∙ copied-append 8 (8 * n) s at)
+
+-- ---- the node at p
+
+module _ (s spots : List ℕ) (k p c : ℕ) (ins : List ℕ) (first next : ℕ) (small : (q : ℕ) → byte s q < 256) where
+  abbrev go : Open
+  go = opened (before s k)
+
+  abbrev word : Kind
+  word = kindAt s p
+
+  at-form : (f : Form) → formOf word ≡ f
+      → nodeOpened s spots k p c ins first next
+      ≡ openWith go (addressesIn spots ins first c (length (reads (nodeAt s p)))) next (nodeAt s p) (payloadAt f word s (p + 4))
+  unfolding nodeOpened nodeAt
+  at-form f e = ap (λ (g : Form). openWith go (addressesIn spots ins first c (length (reads (nodeAt s p)))) next (nodeAt s p) (payloadAt g word s (p + 4))) e
+
+  text-by : (f : Form) → formOf word ≡ f → calling f ≡ false → (xs : List ℕ) → (operandsBy f (length xs) ≡ true)
+      → instructionsCode (openWith go xs next (nodeAt s p) (payloadAt f word s (p + 4)) .code)
+      ≡ byte s (p + 2) ∷ byte s (p + 3) ∷ allBytes 2 xs ++ copied (8 * constantIn f (portsOf word .words)) s (p + 4)
+  unfolding nodeAt copied
+  text-by Absent e q xs h = ap (λ (ys : List ℕ). byte s (p + 2) ∷ byte s (p + 3) ∷ ys) (append-nil (allBytes 2 xs ++ []))
+  text-by Constant e q [] h =
+      let w : constantWords word ≡ portsOf word .words = ap (λ (g : Form). constantIn g (portsOf word .words)) e in
+      ap (λ (ys : List ℕ). byte s (p + 2) ∷ byte s (p + 3) ∷ ys)
+      (append-nil (allBytes 8 (constants (constantWords word) s (p + 4)))
+      ∙ constants-copied s small (constantWords word) (p + 4)
+      ∙ ap (λ (m : ℕ). copied (8 * m) s (p + 4)) w)
+  text-by Constant e q (x ∷ xs) h = let z : suc (length xs) ≡ 0 = eqb-true (suc (length xs)) 0 h in absurd (omega arith)
+  text-by References e q xs h = ap (λ (ys : List ℕ). byte s (p + 2) ∷ byte s (p + 3) ∷ ys) (append-nil (allBytes 2 xs ++ []))
+  text-by Call e q xs h = let z : _≡_ {A = ℕ} 0 1 = cc in absurd (omega arith)
+
+  next-by : (f : Form) → calling f ≡ false → (xs : List ℕ)
+      → openWith go xs next (nodeAt s p) (payloadAt f word s (p + 4)) .next ≡ next + widths (gives word (byte s (p + 3)))
+  unfolding nodeAt
+  next-by Absent q xs = refl
+  next-by Constant q xs = refl
+  next-by References q xs = refl
+  next-by Call q xs = let z : _≡_ {A = ℕ} 0 1 = cc in absurd (omega arith)
+
+  module _ (kind ty : ℕ) (row : Ports) (ek : kind ≡ byte s (p + 2)) (et : ty ≡ byte s (p + 3)) (er : row ≡ portsOf (kindOf kind)) (plain : calling (formOf word) ≡ false)
+      (n v w : ℕ) (en : n ≡ row .operands) (ev : v ≡ constantIn (row .form) (row .words)) (ew : w ≡ PortList.resultWords row ty) where
+    -- the code of the node, as it was read
+    pub record Taken : Type 0 where
+      pub count : length (reads (nodeAt s p)) ≡ n
+      pub few : n ≤ 16
+      pub text : instructionsCode (nodeOpened s spots k p c ins first next .code) ≡ kind ∷ ty ∷ allBytes 2 (addressesIn spots ins first c n) ++ copied (8 * v) s (p + 4)
+      pub size : length (instructionsCode (nodeOpened s spots k p c ins first next .code)) ≡ 2 + 2 * n + 8 * v
+      pub words : nodeOpened s spots k p c ins first next .next ≡ next + w
+
+    pub taken : Taken
+    taken =
+        let r : row ≡ portsOf word = row-is s p kind row ek er in
+        let f : calling (row .form) ≡ false = ap calling (form-is s p kind row ek er) ∙ plain in
+        let count : length (reads (nodeAt s p)) ≡ n = ap length (plain-reads s p kind row ek er f n en .refs) ∙ refs-length n s (p + 4) in
+        let xs = addressesIn spots ins first c n in
+        let l : length xs ≡ n = addresses-length spots ins first c n in
+        let by : operandsBy (formOf word) (length xs) ≡ true =
+        ap (operandsBy (formOf word)) (l ∙ en)
+        ∙ ap (λ (g : Form). operandsBy g (row .operands)) (sym (form-is s p kind row ek er)) ∙ row-narrow s p kind row ek er .by-form in
+        let same : nodeOpened s spots k p c ins first next ≡ openWith go xs next (nodeAt s p) (payloadAt (formOf word) word s (p + 4)) =
+        at-form (formOf word) refl ∙ ap (λ (m : ℕ). openWith go (addressesIn spots ins first c m) next (nodeAt s p) (payloadAt (formOf word) word s (p + 4))) count in
+        let fv : v ≡ constantIn (formOf word) (portsOf word .words) = ev ∙ ap (λ (y : Ports). constantIn (y .form) (y .words)) r in
+        let fw : w ≡ widths (gives word (byte s (p + 3))) =
+        ew ∙ ap (λ (y : Ports). PortList.resultWords y ty) r ∙ ap (λ (t : ℕ). PortList.resultWords (portsOf word) t) et ∙ words-given word (byte s (p + 3)) in
+        let text : instructionsCode (nodeOpened s spots k p c ins first next .code) ≡ kind ∷ ty ∷ allBytes 2 xs ++ copied (8 * v) s (p + 4) =
+        ap (λ (o : Opened). instructionsCode (o .code)) same
+        ∙ text-by (formOf word) refl plain xs by
+        ∙ ap (λ (m : ℕ). byte s (p + 2) ∷ byte s (p + 3) ∷ allBytes 2 xs ++ copied (8 * m) s (p + 4)) (sym fv)
+        ∙ ap (λ (x : ℕ). x ∷ byte s (p + 3) ∷ allBytes 2 xs ++ copied (8 * v) s (p + 4)) (sym ek)
+        ∙ ap (λ (x : ℕ). kind ∷ x ∷ allBytes 2 xs ++ copied (8 * v) s (p + 4)) (sym et) in
+        record {
+          count = count;
+          few = let a = row-narrow s p kind row ek er .operands in omega arith;
+          text = text;
+          size =
+              ap length text
+              ∙ (let a : length (allBytes 2 xs ++ copied (8 * v) s (p + 4)) ≡ length (allBytes 2 xs) + length (copied (8 * v) s (p + 4)) =
+              length-append (allBytes 2 xs) (copied (8 * v) s (p + 4)) in
+              let b : length (allBytes 2 xs) ≡ 2 * length xs = bytes-length xs in
+              let d : length (copied (8 * v) s (p + 4)) ≡ 8 * v = copied-length (8 * v) s (p + 4) in
+              omega arith);
+          words = ap (λ (o : Opened). o .next) same ∙ next-by (formOf word) plain xs ∙ ap (λ (x : ℕ). next + x) (sym fw);
+        }
+
+-- ---- the stores, one after another
+
+pub head-length : (code : List ℕ) (at k t : ℕ) → length (set (set code at k) (at + 1) t) ≡ length code
+head-length code at k t = length-set (set code at k) (at + 1) t ∙ length-set code at k
+
+pub head-then : (code : List ℕ) (at k t n : ℕ) (xs ys : List ℕ) → length xs ≡ n
+    → sets (sets (set (set code at k) (at + 1) t) (at + 2) xs) (at + 2 + n) ys ≡ sets code at (k ∷ t ∷ xs ++ ys)
+head-then code at k t n xs ys e =
+    let a : at + 1 ≡ suc at = omega arith in
+    let b : at + 2 ≡ suc (suc at) = omega arith in
+    ap (λ (m : ℕ). sets (sets (set (set code at k) (at + 1) t) (at + 2) xs) (at + 2 + m) ys) (sym e)
+    ∙ sym (sets-append xs ys (set (set code at k) (at + 1) t) (at + 2))
+    ∙ rw (a, b)
+
+pub operands-length : (spots ins : List ℕ) (first c n : ℕ) → length (allBytes 2 (addressesIn spots ins first c n)) ≡ 2 * n
+operands-length spots ins first c n =
+    let a : length (allBytes 2 (addressesIn spots ins first c n)) ≡ 2 * length (addressesIn spots ins first c n) = bytes-length (addressesIn spots ins first c n) in
+    let b : length (addressesIn spots ins first c n) ≡ n = addresses-length spots ins first c n in
+    omega arith

@@ -1,0 +1,107 @@
+use borrow.Author.Needs.{needs}
+use mathlib.Core.Path.{_≡_, refl, sym, ap, _∙_, subst}
+use mathlib.Core.List.{List}
+use Prim.Native.Nat.{ℕ, _+_, _*_, _≤_, _<_}
+use native.Mathlib.Omega.{arith}
+use lib.ListN.{length, length-set}
+use lib.Seq.{sets, length-sets}
+use Rattle.compiler.specs.Emit.{copied, addressesIn}
+use Rattle.list.specs.Code.{allBytes}
+use Rattle.compiler.proofs.Single.{Taken, taken, head-length, head-then, operands-length}
+use Rattle.compiler.proofs.emit_single.Statement.{statement}
+use Rattle.compiler.proofs.emit_single.Tie as tie
+
+-- the node as it was read
+node : (c : tie.After-result-words) →
+    let a = c .before .before .before .before .before .before .before .before .args in
+    Taken (a .t .now) (a .spots .now) (a .k) (a .p) (a .spot) (a .ins .now) (a .first) (a .next) (λ q. omega (arith, c .before .before .before .before .before .before .before .shared-slice-known .given q))
+    (c .before .before .before .before .before .byte-at .result) (c .before .before .before .before .byte-at2 .result) (c .before .before .before .ports-of .result) (c .before .before .before .before .before .byte-at .ensures) (c .before .before .before .before .byte-at2 .ensures) (c .before .before .before .ports-of .ensures) (c .before .before .before .before .before .before .before .before .pre .0 .1)
+    (c .before .before .wide .result) (c .before .constant-words .result) (c .result-words .result) (c .before .before .wide .ensures .0) (c .before .constant-words .ensures .0) (c .result-words .ensures .0)
+node c =
+    let a = c .before .before .before .before .before .before .before .before .args in
+    taken (a .t .now) (a .spots .now) (a .k) (a .p) (a .spot) (a .ins .now) (a .first) (a .next) (λ q. omega (arith, c .before .before .before .before .before .before .before .shared-slice-known .given q))
+    (c .before .before .before .before .before .byte-at .result) (c .before .before .before .before .byte-at2 .result) (c .before .before .before .ports-of .result) (c .before .before .before .before .before .byte-at .ensures) (c .before .before .before .before .byte-at2 .ensures) (c .before .before .before .ports-of .ensures) (c .before .before .before .before .before .before .before .before .pre .0 .1)
+    (c .before .before .wide .result) (c .before .constant-words .result) (c .result-words .result) (c .before .before .wide .ensures .0) (c .before .constant-words .ensures .0) (c .result-words .ensures .0)
+
+-- the room for the whole
+fits : (c : tie.After-result-words) →
+    let a = c .before .before .before .before .before .before .before .before .args in
+    (a .at + (2 + 2 * c .before .before .wide .result + 8 * c .before .constant-words .result) ≤ length (a .code .now))
+    × (a .at + (2 + 2 * c .before .before .wide .result + 8 * c .before .constant-words .result) < 18446744073709551616)
+fits c = let x = node c .size in let y = c .before .before .before .before .before .before .before .before .pre .1 .1 .room in (omega arith, omega arith)
+
+slice-write-code : tie.Need-slice-write-code
+slice-write-code c = let (x, x') = fits (c) in omega arith
+
+slice-write-code-2 : tie.Need-slice-write-code-2
+slice-write-code-2 c = let (x, x') = fits (c) in simp length-set (omega arith)
+
+operands-requires : tie.Need-operands-requires
+operands-requires c κs =
+    let (x, x') = fits (c .before) in
+    let y = node (c .before) .count in
+    let z = c .before .before .before .before .before .before .before .before .before .pre .1 .0 .2 in
+    (c .before .before .before .before .before .before .before .before .before .pre .1 .0 .0, c .before .before .before .before .before .before .before .before .before .pre .1 .0 .1, omega arith, simp length-set (omega arith))
+
+add-copy-2 : tie.Need-add-copy-2
+add-copy-2 c = let (x, x') = fits (c .before .before .before .before .before) in omega arith
+
+add-copy-3 : tie.Need-add-copy-3
+add-copy-3 c = let (x, x') = fits (c .before .before .before .before .before) in omega arith
+
+copy-requires : tie.Need-copy-requires
+copy-requires c κs =
+    let (x, x') = fits (c .before .before .before .before .before) in
+    let a = c .before .before .before .before .before .before .before .before .before .before .before .before .before .args in
+    let v = c .before .before .before .before .before .before .constant-words .ensures .1 in
+    let near = c .before .before .before .before .before .before .before .before .before .before .before .before .before .pre .0 .0 in
+    let same = c .before .before .before .operands .kept .1 .1 .1 .1 .1 .0 ∙ head-length (a .code .now) (a .at) (c .before .before .before .before .before .before .before .before .before .before .byte-at .result) (c .before .before .before .before .before .before .before .before .before .byte-at2 .result) in
+    (omega arith, omega arith)
+
+add-t18 : tie.Need-add-t18
+add-t18 c = let (x, x') = fits (c .before .before .before .before .before .before .before .before) in omega arith
+
+add-t27 : tie.Need-add-t27
+add-t27 c = let (x, x') = fits (c .before .before .before .before .before .before .before .before) in omega arith
+
+add-t26 : tie.Need-add-t26
+add-t26 c = let (x, x') = fits (c .before .before .before .before .before .before .before .before) in omega arith
+
+add-t29 : tie.Need-add-t29
+add-t29 c = let x = node (c .before .before .before .before .before .before .before .before) .words in let y = c .before .before .before .before .before .before .before .before .before .before .before .before .before .before .before .before .pre .1 .1 .words in omega arith
+
+add-t30 : tie.Need-add-t30
+add-t30 c = let x = node (c .before .before .before .before .before .before .before .before) .count in let y = c .before .before .before .before .before .before .before .before .before .before .before .before .before .before .before .before .pre .1 .0 .2 in omega arith
+
+same-length : tie.Need-same-length
+same-length c =
+    let a = c .before .before .before .before .before .before .before .before .before .before .before .before .before .before .before .before .args in
+    c .before .before .copy .kept .1 .1 .1 .0 ∙ c .before .before .before .before .before .before .operands .kept .1 .1 .1 .1 .1 .0 ∙ head-length (a .code .now) (a .at) (c .before .before .before .before .before .before .before .before .before .before .before .before .before .byte-at .result) (c .before .before .before .before .before .before .before .before .before .before .before .before .byte-at2 .result)
+
+returns : tie.Need-returns
+returns c =
+    let a = c .before .before .before .before .before .before .before .before .before .before .before .before .before .before .before .before .args in
+    let d = node (c .before .before .before .before .before .before .before .before) in
+    let n = c .before .before .before .before .before .before .before .before .before .before .wide .result in
+    let v = c .before .before .before .before .before .before .before .before .before .constant-words .result in
+    let xs = allBytes 2 (addressesIn (a .spots .now) (a .ins .now) (a .first) (a .spot) n) in
+    let ys = copied (8 * v) (a .t .now) (a .p + 4) in (
+      record {
+        written =
+            c .before .before .copy .ensures
+            ∙ ap (λ (l : List ℕ). sets l (a .at + 2 + 2 * n) ys) (c .before .before .before .before .before .before .operands .ensures)
+            ∙ head-then (a .code .now) (a .at) (c .before .before .before .before .before .before .before .before .before .before .before .before .before .byte-at .result) (c .before .before .before .before .before .before .before .before .before .before .before .before .byte-at2 .result) (2 * n) xs ys (operands-length (a .spots .now) (a .ins .now) (a .first) (a .spot) n)
+            ∙ ap (λ (l : List ℕ). sets (a .code .now) (a .at) l) (sym (d .text));
+        end = let x = d .size in omega arith;
+        words = sym (d .words);
+      },
+      ap (λ (m : ℕ). a .spot + m) (sym (d .count)),
+    )
+
+pub emit-single-spec : {M : Type 1} → statement M
+emit-single-spec =
+    tie.close
+    (tie.spec (λ c. search needs) (λ c κs. search needs) (λ c. search needs) (λ c κs. search needs) (λ c κs. search needs)
+    (λ c κs. search needs) (λ c κs. search needs) (λ c. search needs) (λ c κs. search needs) slice-write-code (λ c. search needs)
+    slice-write-code-2 (λ c. search needs) operands-requires (λ c. search needs) add-copy-2 (λ c. search needs) add-copy-3 copy-requires
+    add-t18 (λ c. search needs) add-t27 add-t26 add-t29 add-t30 same-length returns)

@@ -1,0 +1,35 @@
+-- `executor::subtract_matrices`: the operands at their addresses, the step, the result.
+use borrow.Author.Needs.{needs}
+use native.Mathlib.Omega.{arith}
+use mathlib.Core.Path.{_∙_, ap}
+use denote.Ref.{now}
+use lib.Seq.{sets}
+use Rattle.value.specs.declared.Mat4.{Mat4}
+use Rattle.value.specs.declared.Value.the-variants.{Matrix}
+use Rattle.value.specs.Values.{wordsOf, matAt}
+use Rattle.value.specs.declared.Operator.the-variants.{Subtract}
+use Rattle.executor.proofs.Stored.{operate-two}
+use Rattle.executor.proofs.subtract_matrices.Statement.{statement}
+use Rattle.executor.proofs.subtract_matrices.Tie as tie
+
+returns : tie.Need-returns
+returns c =
+    let a = c .before .before .before .before .before .before .before .before .before .before .before .before .before .before .args in
+    let m = now (a .work) in
+    record {
+      words =
+          c .before .before .put-mat .ensures ∙ ap (λ (x : Mat4). sets m (a .result) (wordsOf (Matrix x))) (c .before .before .before .before .step-mat .ensures)
+          ∙ operate-two Subtract (now (a .s)) m (a .at) (a .result)
+          (c .before .before .before .before .before .before .before .before .load-mat .ensures ∙ ap (matAt m) (c .before .before .before .before .before .before .before .before .before .u16-at .ensures .0))
+          (c .before .before .before .before .before .load-mat2 .ensures ∙ ap (matAt m) (c .before .before .before .before .before .before .u16-at2 .ensures .0))
+          (c .before .before .before .before .before .before .before .before .before .before .before .zero-mat .ensures)
+          (c .before .before .before .before .before .before .before .before .before .before .before .zero-mat .ensures);
+      next-at = omega arith;
+      next-result = omega arith;
+    }
+
+pub subtract-matrices-spec : {M : Type 1} → statement M
+subtract-matrices-spec =
+    tie.close
+    (tie.spec
+    (λ c. search needs) (λ c. search needs) (λ c. search needs) (λ c κs. search needs) (λ c κs. omega (arith, c .before .before .before .before .pre .fits)) (λ c κs. record { end = c .before .before .before .before .before .args .result; within = omega (arith, c .before .before .before .before .before .pre); room = omega (arith, c .before .before .before .before .before .pre .room); canonical = c .before .before .before .before .before .pre .canonical }) (λ c κs. omega (arith, c .before .before .before .before .before .before .before .pre .fits)) (λ c κs. record { end = c .before .before .before .before .before .before .before .before .args .result; within = omega (arith, c .before .before .before .before .before .before .before .before .pre); room = omega (arith, c .before .before .before .before .before .before .before .before .pre .room); canonical = c .before .before .before .before .before .before .before .before .pre .canonical }) (λ c κs. search needs) (λ c κs. omega (arith, c .before .before .before .before .before .before .before .before .before .before .before .pre .room)) (λ c. search needs) returns)

@@ -1,0 +1,23 @@
+-- `listing::put_field`: the word, then the number.
+use borrow.Author.Needs.{needs}
+use denote.Ref.{now}
+use Rattle.list.specs.Listing.{decimal}
+use Rattle.listing.proofs.Text.{then, room-first, room-rest}
+use Rattle.listing.proofs.put_field.Statement.{statement}
+use Rattle.listing.proofs.put_field.Tie as tie
+
+put-bytes-requires : tie.Need-put-bytes-requires
+put-bytes-requires c κs =
+    let s = c .before .before in
+    room-first (now (s .args .word)) (decimal (s .args .n)) (s .args .at) (s .pre)
+
+put-decimal-requires : tie.Need-put-decimal-requires
+put-decimal-requires c κs =
+    let s = c .before .before .before .before in
+    room-rest (decimal (s .args .n)) (c .before .put-bytes .ensures) (s .pre)
+
+returns : tie.Need-returns
+returns c = then (c .before .before .put-bytes .ensures) (c .put-decimal .ensures)
+
+pub put-field-spec : {M : Type 1} → statement M
+put-field-spec = tie.close (tie.spec put-bytes-requires put-decimal-requires returns)

@@ -1,0 +1,35 @@
+-- What is written into the text, and the two halves of a function's line by its numbers.
+use Prim.Native.Nat.{ℕ, _+_}
+use mathlib.Core.Path.{_≡_}
+use mathlib.Core.Bool.{Bool, _&&_, cond}
+use mathlib.Core.List.{List, _++_}
+use lib.Dec.{leb}
+use lib.ListN.{length}
+use lib.Seq.{sets}
+use Rattle.graph.specs.Bytes.{byte, u16}
+use Rattle.list.specs.Code.{operationLimit, wordLimit}
+use Rattle.list.specs.Listing.{decimal, newline, functionText, inputsText, outputsText, nodesText, operationsText, wordsText, codeText, noneText, limited}
+
+-- bytes written from a place on, and nothing else; r is the place behind them
+pub record Put (entry : List ℕ) (at : ℕ) (bytes exit : List ℕ) (r : ℕ) : Type 0 where
+  pub written : exit ≡ sets entry at bytes
+  pub end : r ≡ at + length bytes
+
+-- the id of a function and the counts of its head
+unfoldable pub headText : ℕ → ℕ → ℕ → ℕ → List ℕ
+headText id inputs outputs nodes =
+    (functionText ++ decimal id) ++ (inputsText ++ decimal inputs) ++ (outputsText ++ decimal outputs) ++ (nodesText ++ decimal nodes)
+
+abbrev pub within : ℕ → ℕ → Bool
+within operations words = leb operations operationLimit && leb words wordLimit
+
+-- operations, words and the code's length
+unfoldable pub countsText : ℕ → ℕ → ℕ → List ℕ
+countsText operations words code =
+    (operationsText ++ limited operationLimit operations) ++ (wordsText ++ limited wordLimit words)
+    ++ (codeText ++ cond (within operations words) (decimal code) noneText)
+    ++ newline
+
+-- the line of the function whose head stands at p
+unfoldable pub lineAt : List ℕ → ℕ → ℕ → ℕ → ℕ → List ℕ
+lineAt s p operations words code = headText (u16 s p) (byte s (p + 2)) (byte s (p + 3)) (u16 s (p + 4)) ++ countsText operations words code

@@ -1,0 +1,229 @@
+// The lister's text.
+ghost use mathlib.Core.Path.{_≡_};
+ghost use mathlib.Core.Bool.{cond};
+ghost use mathlib.Core.List.{List, _++_};
+ghost use Prim.Native.Nat.{_+_, _<_, _≤_};
+ghost use lib.ListN.{length, drop};
+ghost use lib.Seq.{sets};
+ghost use Rattle.list.specs.Listing.{decimal, newline, refusedText, atText, functionLines, listing};
+ghost use Rattle.graph.specs.Bytes.{byte, u16};
+ghost use Rattle.graph.specs.Outcome.{ok, fault};
+ghost use Rattle.graph.specs.Judge.{verdict};
+ghost use Rattle.reader.specs.Layout.{earlier};
+ghost use Rattle.listing.specs.Lines as Lines;
+ghost use Rattle.listing.specs.Lines.{Put, headText, countsText, lineAt};
+use checker::Verdict;
+
+// ---- bytes and numbers
+
+// The bytes s from `at` on; the answer is the place behind them.
+fn put_bytes(text: &mut [u8; 2048], at: usize, s: &[u8]) -> usize
+    requires { ⌜ at + length (now s) ≤ 2048 ⌝ }
+    ensures { λ r. ⌜ Put (now (text .entry)) at (now (s .entry)) (now (text .exit)) r ⌝ }
+{
+    let mut i = 0;
+    while i < s.len() {
+        text[at + i] = s[i];
+        i += 1;
+    }
+    at + i
+}
+
+// The digits of n, as the last bytes; the answer is the place of the first digit.
+fn fill_digits(digits: &mut [u8; 20], n: usize) -> usize
+    requires { ⌜ length (now digits) ≡ 20 ⌝ }
+    ensures { λ r. ⌜ (drop r (now (digits .exit)) ≡ decimal n) × (length (now (digits .exit)) ≡ 20) × (r < 20) ⌝ }
+{
+    let mut m = n;
+    let mut i = 20;
+    while 10 <= m {
+        i -= 1;
+        digits[i] = (48 + m % 10) as u8;
+        m = m / 10;
+    }
+    i -= 1;
+    digits[i] = (48 + m) as u8;
+    i
+}
+
+fn put_decimal(text: &mut [u8; 2048], at: usize, n: usize) -> usize
+    requires { ⌜ at + length (decimal n) ≤ 2048 ⌝ }
+    ensures { λ r. ⌜ Put (now (text .entry)) at (decimal n) (now (text .exit)) r ⌝ }
+{
+    let mut digits = [0u8; 20];
+    let first = fill_digits(&mut digits, n);
+    put_bytes(text, at, &digits[first..])
+}
+
+// A word and a number.
+fn put_field(text: &mut [u8; 2048], at: usize, word: &[u8], n: usize) -> usize
+    requires { ⌜ at + length (now word ++ decimal n) ≤ 2048 ⌝ }
+    ensures { λ r. ⌜ Put (now (text .entry)) at (now (word .entry) ++ decimal n) (now (text .exit)) r ⌝ }
+{
+    let here = put_bytes(text, at, word);
+    put_decimal(text, here, n)
+}
+
+// A word and a number, or other bytes where it is not to be shown.
+fn put_count(
+    text: &mut [u8; 2048],
+    at: usize,
+    word: &[u8],
+    shown: bool,
+    n: usize,
+    other: &[u8],
+) -> usize
+    requires { ⌜ at + length (now word ++ cond shown (decimal n) (now other)) ≤ 2048 ⌝ }
+    ensures { λ r. ⌜ Put (now (text .entry)) at (now (word .entry) ++ cond shown (decimal n) (now (other .entry))) (now (text .exit)) r ⌝ }
+{
+    let here = put_bytes(text, at, word);
+    if shown {
+        put_decimal(text, here, n)
+    } else {
+        put_bytes(text, here, other)
+    }
+}
+
+// ---- lines
+
+// The line of a refusal.
+fn put_refused(text: &mut [u8; 2048], number: u8, place: usize) -> usize
+    ensures { λ r. ⌜ Put (now (text .entry)) 0 (refusedText ++ decimal number ++ atText ++ decimal place ++ newline) (now (text .exit)) r × (r ≤ 2048) ⌝ }
+{
+    let number = number as usize;
+    let middle = put_field(text, 0, b"refused ", number);
+    let end = put_field(text, middle, b" at ", place);
+    put_bytes(text, end, b"\n")
+}
+
+// The first half of a function's line.
+fn put_head(
+    text: &mut [u8; 2048],
+    at: usize,
+    id: usize,
+    inputs: usize,
+    outputs: usize,
+    nodes: usize,
+) -> usize
+    requires { ⌜ at + length (headText id inputs outputs nodes) ≤ 2048 ⌝ }
+    ensures { λ r. ⌜ Put (now (text .entry)) at (headText id inputs outputs nodes) (now (text .exit)) r ⌝ }
+{
+    let a = put_field(text, at, b"function ", id);
+    let b = put_field(text, a, b" inputs ", inputs);
+    let c = put_field(text, b, b" outputs ", outputs);
+    put_field(text, c, b" nodes ", nodes)
+}
+
+fn within(operations: usize, words: usize) -> bool
+    ensures { λ r. ⌜ r ≡ Lines.within operations words ⌝ }
+{
+    if operations <= 4096 {
+        words <= 8192
+    } else {
+        false
+    }
+}
+
+// The second half.
+fn put_counts(
+    text: &mut [u8; 2048],
+    at: usize,
+    operations: usize,
+    words: usize,
+    code: usize,
+) -> usize
+    requires { ⌜ at + length (countsText operations words code) ≤ 2048 ⌝ }
+    ensures { λ r. ⌜ Put (now (text .entry)) at (countsText operations words code) (now (text .exit)) r ⌝ }
+{
+    let a = put_count(
+        text,
+        at,
+        b" operations ",
+        operations <= 4096,
+        operations,
+        b"over",
+    );
+    let b = put_count(text, a, b" words ", words <= 8192, words, b"over");
+    let c = put_count(text, b, b" code ", within(operations, words), code, b"none");
+    put_bytes(text, c, b"\n")
+}
+
+// ---- functions
+
+fn wide(x: u8) -> usize
+    ensures { λ r. ⌜ (r ≡ x) × (r < 256) ⌝ }
+{
+    x as usize
+}
+
+// A byte of the table; behind its end 0.
+fn byte_at(table: &[u8], at: usize) -> usize
+    ensures { λ r. ⌜ (r ≡ byte (now (table .entry)) at) × (r < 256) ⌝ }
+{
+    if at < table.len() { wide(table[at]) } else { 0 }
+}
+
+fn u16_at(table: &[u8], at: usize) -> usize
+    requires { ⌜ at < 0x1_0000_0000 ⌝ }
+    ensures { λ r. ⌜ (r ≡ u16 (now (table .entry)) at) × (r < 65536) ⌝ }
+{
+    byte_at(table, at) + byte_at(table, at + 1) * 256
+}
+
+// The line of the function whose head stands at p.
+fn put_function(
+    text: &mut [u8; 2048],
+    at: usize,
+    table: &[u8],
+    p: usize,
+    operations: usize,
+    words: usize,
+    code: usize,
+) -> usize
+    requires { ⌜ (at + 103 ≤ 2048) × (p < 65536) ⌝ }
+    ensures { λ r. ⌜ Put (now (text .entry)) at (lineAt (now (table .entry)) p operations words code) (now (text .exit)) r × (r ≤ at + 103) ⌝ }
+{
+    let id = u16_at(table, p);
+    let inputs = byte_at(table, p + 2);
+    let outputs = byte_at(table, p + 3);
+    let nodes = u16_at(table, p + 4);
+    let middle = put_head(text, at, id, inputs, outputs, nodes);
+    put_counts(text, middle, operations, words, code)
+}
+
+// The lines of the first `count` functions.
+fn put_functions(text: &mut [u8; 2048], at: usize, table: &[u8], count: usize) -> usize
+    requires { ⌜ (verdict (now table) ≡ ok count) × (at ≤ 30) ⌝ }
+    ensures { λ r. ⌜ Put (now (text .entry)) at (functionLines (earlier 8 (now (table .entry)) count)) (now (text .exit)) r × (r ≤ 2048) ⌝ }
+{
+    let mut here = at;
+    let mut k = 0;
+    while k < count {
+        let m = sizes::measure(table, count, k);
+        here = put_function(text, here, table, m.place, m.operations, m.words, m.code);
+        k += 1;
+    }
+    here
+}
+
+// The text of an accepted table with so many functions.
+fn list_accepted(table: &[u8], count: usize, text: &mut [u8; 2048]) -> usize
+    requires { ⌜ verdict (now table) ≡ ok count ⌝ }
+    ensures { λ r. ⌜ Put (now (text .entry)) 0 (listing (now (table .entry))) (now (text .exit)) r × (r ≤ 2048) ⌝ }
+{
+    let middle = put_field(text, 0, b"accepted ", count);
+    let end = put_bytes(text, middle, b"\n");
+    put_functions(text, end, table, count)
+}
+
+// The text for a table, from the first byte on; the answer is its length.
+pub fn list_table(table: &[u8], text: &mut [u8; 2048]) -> usize
+    ensures written { λ r. ⌜ now (text .exit) ≡ sets (now (text .entry)) 0 (listing (now (table .entry))) ⌝ }
+    ensures { λ r. ⌜ (r ≡ length (listing (now (table .entry)))) × (r ≤ 2048) ⌝ }
+{
+    let verdict = checker::check(table);
+    match verdict {
+        Verdict::Accepted(count) => list_accepted(table, count, text),
+        Verdict::Refused(number, place) => put_refused(text, number, place),
+    }
+}

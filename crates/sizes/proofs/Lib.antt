@@ -1,0 +1,10 @@
+pub mod Rows
+pub mod Nodes
+pub mod Positions
+pub mod Summing
+pub mod CodeSizes
+pub mod CodeLimits
+pub mod Accepted
+pub mod Widths
+pub mod Measuring
+pub mod Choosing

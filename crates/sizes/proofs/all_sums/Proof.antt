@@ -1,0 +1,40 @@
+use borrow.Author.Needs.{needs}
+use Prim.Native.Nat.{_-_, _≤_}
+use native.Mathlib.Omega.{arith}
+use Rattle.sizes.proofs.Measuring.{AllMeasured, none-summed, one-more}
+use Rattle.sizes.proofs.all_sums.Statement.{statement}
+use Rattle.sizes.proofs.all_sums.Tie as tie
+
+abbrev Inv-loop : tie.InvT-loop
+Inv-loop t starts n ops₀ words₀ counts₀ sizes₀ k₀ ops words counts sizes k = (k ≤ n) × AllMeasured t ops words counts sizes k
+
+abbrev μ-loop : tie.MeasureT-loop
+μ-loop t starts n ops₀ words₀ counts₀ sizes₀ k₀ ops words counts sizes k = n - k
+
+loop-holds : tie.Need-loop-holds Inv-loop μ-loop
+loop-holds c = let a = c .before .args in (omega arith, none-summed (a .t .now) (a .ops .now) (a .words .now) (a .counts .now) (a .sizes .now) (c .before .pre .1))
+
+function-sums-requires : tie.Need-function-sums-requires Inv-loop μ-loop
+function-sums-requires c κs =
+    let b = c .before .before .before .before .before .before .before in
+    let l = c .before .before .before .before .before .loop in
+    let t = c .before .before .before .before .loop-test .taken in
+    let n = b .pre .0 .0 in
+    ((omega arith, b .pre .0 .1 (l .k) t, λ j h. b .pre .0 .2 j (omega arith)), l .inv .1 .sums)
+
+loop-again : tie.Need-loop-again Inv-loop μ-loop
+loop-again c =
+    let b = c .before .before .before .before .before .before .before .before in
+    let l = c .before .before .before .before .before .before .loop in
+    let t = c .before .before .before .before .before .loop-test .taken in
+    let n = b .pre .0 .0 in
+    let (eo, ew, ec, eb) = c .function-sums .ensures in
+    (omega arith, one-more (b .args .t .now) (l .ops) (l .words) (l .counts) (l .sizes) _ _ _ _ (l .k) (l .inv .1) (omega arith) eo ew ec eb)
+
+returns : tie.Need-returns Inv-loop μ-loop
+returns c j h = let i = c .before .loop .inv .0 in let e = c .loop-test .left in c .before .loop .inv .1 .sums j (omega arith)
+
+pub all-sums-spec : {M : Type 1} → statement M
+all-sums-spec =
+    tie.close
+    (tie.spec Inv-loop μ-loop loop-holds function-sums-requires (λ c. search needs) (λ c. search needs) loop-again returns)

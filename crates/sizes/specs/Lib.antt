@@ -1,0 +1,4 @@
+pub mod CodeSums
+pub mod Position
+pub mod Capped
+pub mod Answers
