@@ -8,14 +8,14 @@ use native.Mathlib.Omega.{arith}
 use native.Mathlib.Nat.{not-suc-le-zero}
 use native.Mathlib.Numerals.{add-one}
 use lib.Dec.{leb, eqb}
-use lib.ListN.{length, getD}
+use lib.ListN.{length, getD, List·getD-map}
 use borrow.Author.Tests.{leb-true, leb-false, eq-eqb, ne-eqb}
 use Rattle.ports.specs.declared.Form.{Form}
 use Rattle.ports.specs.declared.Form.the-variants.{Absent, Constant, References, Call}
 use Rattle.ports.specs.declared.Ports.{Ports}
 use Rattle.ports.specs.Kinds.{Kind, kindOf}
-use Rattle.ports.specs.Ports.{absent, portsOf, arity, constantIn, constantWords, formOf, exists, typeFits, legal}
-use Rattle.ports.proofs.Laws.{no-kind}
+use Rattle.ports.specs.Ports.{absent, portsOf, rows, arity, constantIn, constantWords, formOf, exists, typeFits, legal}
+use Rattle.ports.proofs.Laws.{no-kind, row-of}
 use Rattle.graph.specs.Outcome.{Outcome, ok, fault}
 use Rattle.graph.specs.Bytes.{byte, u16}
 use Rattle.graph.specs.Graph.{Payload, Node, Output, Function}
@@ -24,6 +24,7 @@ use Rattle.graph.specs.Read.{version1, inRange, inputs, outputs, Part, payload,
 use Rattle.graph.proofs.Loops.{and-inv}
 use Rattle.graph.proofs.Steps.{took, passed}
 use Rattle.reader.specs.Layout.{kindAt, payloadEnd, nodeAt, nodeEnd, nodesAt, nodePlace, inputCount, outputCount, nodeCount, outputsPlace, nodesPlace, functionAt, functionEnd, functionPlace, earlier}
+use Rattle.reader.specs.Sizes.{sizeBy, nodeSize, nodeSizes}
 use Rattle.reader.specs.Find.{ReadsNode, ReadsNodes, ReadsFunction, nodeFound, functionFound}
 use Rattle.reader.specs.declared.Found.the-variants.{At, Nothing}
 use Rattle.reader.proofs.Standing.{node-read, nodes-read, function-read}
@@ -92,29 +93,57 @@ kind-below s at r = let f : 25 ≤ byte s (at + 2) → ⊥ = illegal (byte s (at
     pickOne true q f = absurd (f (leb-true _ _ q))
     pickOne false q f = leb-false _ _ q
 
--- where it ends, by its kind's row
-module _ (s : List ℕ) (at : ℕ) (row : Ports) (e : row ≡ portsOf (kindAt s at)) where
-  pub form-is : (h : Form) → row .form ≡ h → formOf (kindAt s at) ≡ h
-  form-is h q = ap (λ (r : Ports). r .form) (sym e) ∙ q
+-- where it ends, by the size of its kind
+same-form : (s : List ℕ) (at : ℕ) (h : Form) → formOf (kindAt s at) ≡ h → payloadEnd h (kindAt s at) s (at + 4) ≡ nodeEnd s at
+unfolding nodeEnd
+same-form s at h q = ap (λ (f : Form). payloadEnd f (kindAt s at) s (at + 4)) (sym q)
 
-  end-form : (h : Form) → row .form ≡ h → payloadEnd h (kindAt s at) s (at + 4) ≡ nodeEnd s at
-  unfolding nodeEnd
-  end-form h q = ap (λ (f : Form). payloadEnd f (kindAt s at) s (at + 4)) (sym (form-is h q))
+pub form-is : (s : List ℕ) (at : ℕ) (row : Ports) → row ≡ portsOf (kindAt s at) → (h : Form) → row .form ≡ h → formOf (kindAt s at) ≡ h
+form-is s at row e h q = ap (λ (r : Ports). r .form) (sym e) ∙ q
 
-  pub end-absent : row .form ≡ Absent → at + 4 ≡ nodeEnd s at
-  end-absent q = end-form Absent q
+pub end-references : (s : List ℕ) (at : ℕ) (row : Ports) → row ≡ portsOf (kindAt s at) → row .form ≡ References → at + 4 + 3 * row .operands ≡ nodeEnd s at
+end-references s at row e q = ap (λ (r : Ports). at + 4 + 3 * r .operands) e ∙ same-form s at References (form-is s at row e References q)
 
-  words-is : row .form ≡ Constant → row .words ≡ constantWords (kindAt s at)
-  words-is q = ap (λ (r : Ports). r .words) e ∙ ap (λ (f : Form). constantIn f (portsOf (kindAt s at) .words)) (sym (form-is Constant q))
+pub end-call : (s : List ℕ) (at : ℕ) (row : Ports) → row ≡ portsOf (kindAt s at) → row .form ≡ Call → at + 4 + 3 + 3 * byte s (at + 4 + 2) ≡ nodeEnd s at
+end-call s at row e q = same-form s at Call (form-is s at row e Call q)
 
-  pub end-constant : row .form ≡ Constant → at + 4 + 8 * row .words ≡ nodeEnd s at
-  end-constant q = ap (λ (n : ℕ). at + 4 + 8 * n) (words-is q) ∙ end-form Constant q
+module _ (s : List ℕ) (at n : ℕ) (e : n ≡ nodeSize (portsOf (kindAt s at))) where
+  -- a call
+  pub zero-call : n ≡ 0 → formOf (kindAt s at) ≡ Call
+  zero-call z = pickOne (formOf (kindAt s at)) refl (sym e ∙ z)
+    where
+      pickOne : (h : Form) → formOf (kindAt s at) ≡ h → sizeBy h (portsOf (kindAt s at)) ≡ 0 → formOf (kindAt s at) ≡ Call
+      pickOne Absent q w = absurd (omega (arith, w))
+      pickOne Constant q w = absurd (omega (arith, w))
+      pickOne References q w = absurd (omega (arith, w))
+      pickOne Call q w = q
 
-  pub end-references : row .form ≡ References → at + 4 + 3 * row .operands ≡ nodeEnd s at
-  end-references q = ap (λ (r : Ports). at + 4 + 3 * r .operands) e ∙ end-form References q
+  pub end-zero : n ≡ 0 → at + 4 + 3 + 3 * byte s (at + 4 + 2) ≡ nodeEnd s at
+  end-zero z = same-form s at Call (zero-call z)
 
-  pub end-call : row .form ≡ Call → at + 4 + 3 + 3 * byte s (at + 4 + 2) ≡ nodeEnd s at
-  end-call q = end-form Call q
+  -- the others
+  pub end-size : (n ≡ 0 → ⊥) → at + n ≡ nodeEnd s at
+  end-size d = pickOne (formOf (kindAt s at)) refl e
+    where
+      pickOne : (h : Form) → formOf (kindAt s at) ≡ h → n ≡ sizeBy h (portsOf (kindAt s at)) → at + n ≡ nodeEnd s at
+      pickOne Absent q w = let a = same-form s at Absent q in omega (arith, a, w)
+      pickOne Constant q w =
+          let c : constantWords (kindAt s at) ≡ portsOf (kindAt s at) .words = ap (λ (f : Form). constantIn f (portsOf (kindAt s at) .words)) q in
+          let a : at + 4 + 8 * constantWords (kindAt s at) ≡ nodeEnd s at = same-form s at Constant q in
+          omega (arith, a, w, c)
+      pickOne References q w =
+          let a : at + 4 + 3 * arity (kindAt s at) ≡ nodeEnd s at = same-form s at References q in
+          omega (arith, a, w)
+      pickOne Call q w = absurd (d w)
+
+any-default : (xs : List ℕ) (i a b : ℕ) → i < length xs → getD xs i a ≡ getD xs i b
+any-default [] i a b h = absurd (not-suc-le-zero h)
+any-default (x ∷ xs) zero a b h = refl
+any-default (x ∷ xs) (suc i) a b h = any-default xs i a b (omega arith)
+
+-- the sizes by numbers and by kinds
+pub size-of : (k : ℕ) → k < 25 → getD nodeSizes k 0 ≡ nodeSize (portsOf (kindOf k))
+size-of k h = any-default nodeSizes k 0 4 h ∙ List·getD-map nodeSize rows k absent ∙ ap nodeSize (row-of k)
 
 -- ---- several nodes
 

@@ -1,7 +1,7 @@
 // The records of a graph table, read at a place, and the lookups.
 ghost use mathlib.Core.Path.{_≡_};
 ghost use Prim.Native.Nat.{_+_, _*_, _<_, _≤_};
-ghost use lib.ListN.{length};
+ghost use lib.ListN.{length, getD};
 ghost use lib.Ieee as Ieee;
 ghost use lib.Ieee.{binary64};
 ghost use Rattle.ports.specs.Kinds.{kindOf};
@@ -12,6 +12,7 @@ ghost use Rattle.value.specs.Values.{constantWord, every, valueOf};
 ghost use Rattle.graph.specs.Bytes.{u16, u64};
 ghost use Rattle.graph.specs.Read.{version1, constants, inputs, outputs, inRange, payload, node, nodes, function, functions, parse};
 ghost use Rattle.reader.specs.Layout.{kindAt, nodeEnd, nodesAt, nodePlace, earlier};
+ghost use Rattle.reader.specs.Sizes.{nodeSize, nodeSizes};
 ghost use Rattle.reader.specs.Find.{ReadsNode, ReadsNodes, Started, nodeFound, functionFound};
 ghost use Rattle.reader.specs.Records.{recordAt, rowAt, matrixAt, vectorAt, payloadRead, nodeRead, seen, next, behind};
 use ports::Form;
@@ -464,17 +465,59 @@ fn size(x: u8) -> usize
     x as usize
 }
 
-// Where the node at `at` ends, by its kind's row.
-fn end_by(s: &[u8], at: usize, row: Ports) -> usize
-    requires { ⌜ ReadsNode (now s) at × (row ≡ portsOf (kindAt (now s) at)) ⌝ }
+// The bytes of a node of each kind, as the port list has them. 0 stands for a call: its argument count tells them.
+const SIZES: [u8; 25] = [
+    4,
+    10,
+    10,
+    10,
+    10,
+    12,
+    28,
+    132,
+    13,
+    7,
+    7,
+    52,
+    16,
+    16,
+    10,
+    10,
+    10,
+    7,
+    10,
+    10,
+    7,
+    10,
+    16,
+    13,
+    0,
+];
+
+// Held in a local, they are not built anew at each use.
+fn node_sizes() -> [u8; 25]
+    ensures { λ r. ⌜ r ≡ nodeSizes ⌝ }
+{
+    SIZES
+}
+
+fn node_size(kind: u8) -> u8
+    requires { ⌜ kind < 25 ⌝ }
+    ensures { λ r. ⌜ r ≡ getD nodeSizes kind 0 ⌝ }
+{
+    let k = size(kind);
+    SIZES[k]
+}
+
+// Where the node at `at` ends, by the size of its kind.
+fn end_by(s: &[u8], at: usize, bytes: u8) -> usize
+    requires { ⌜ ReadsNode (now s) at × (bytes ≡ nodeSize (portsOf (kindAt (now s) at))) ⌝ }
     ensures { λ r. ⌜ r ≡ nodeEnd (now (s .entry)) at ⌝ }
 {
-    let form = row.form;
-    match form {
-        Form::Absent => at + 4,
-        Form::Constant => at + 4 + 8 * size(row.words),
-        Form::References => at + 4 + 3 * size(row.operands),
-        Form::Call => at + 4 + 3 + 3 * size(s[at + 4 + 2]),
+    if bytes == 0 {
+        at + 4 + 3 + 3 * size(s[at + 4 + 2])
+    } else {
+        at + size(bytes)
     }
 }
 
@@ -483,7 +526,7 @@ pub fn node_end(s: &[u8], at: usize) -> usize
     requires { ⌜ ReadsNode (now s) at ⌝ }
     ensures { λ r. ⌜ r ≡ nodeEnd (now (s .entry)) at ⌝ }
 {
-    end_by(s, at, ports::ports_of(s[at + 2]))
+    end_by(s, at, node_size(s[at + 2]))
 }
 
 // Where a node is found: its index among those looked through, and its place.
@@ -492,19 +535,12 @@ pub enum Found {
     Nothing,
 }
 
-// The port list's rows. Held in a local, they are not built anew at each use.
-fn port_rows() -> [Ports; 25]
-    ensures { λ r. ⌜ r ≡ PortList.rows ⌝ }
-{
-    ports::PORTS
-}
-
 // The first with the id among the `count` nodes from the place `first` on. It walks the table's bytes.
 pub fn find_node(s: &[u8], first: usize, count: usize, id: u16) -> Found
     requires { ⌜ ReadsNodes count (now s) first ⌝ }
     ensures { λ r. ⌜ r ≡ nodeFound 0 id (nodesAt count (now (s .entry)) first) ⌝ }
 {
-    let rows = port_rows();
+    let sizes = node_sizes();
     let mut at = first;
     let mut i = 0;
     while i < count {
@@ -512,8 +548,8 @@ pub fn find_node(s: &[u8], first: usize, count: usize, id: u16) -> Found
             return Found::At(i, at);
         }
         let k = size(s[at + 2]);
-        let row = rows[k];
-        at = end_by(s, at, row);
+        let bytes = sizes[k];
+        at = end_by(s, at, bytes);
         i += 1;
     }
     Found::Nothing

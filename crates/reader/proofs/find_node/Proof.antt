@@ -4,13 +4,11 @@ use mathlib.Core.Path.{_≡_, refl, ap, sym, _∙_, subst}
 use mathlib.Core.List.{List}
 use native.Mathlib.Omega.{arith}
 use lib.ListN.{length, getD}
-use Rattle.ports.specs.Ports.{absent, rows, portsOf}
-use Rattle.ports.specs.declared.Ports.{Ports}
-use Rattle.ports.proofs.Laws.{row-of}
+use Rattle.reader.specs.Sizes.{nodeSize, nodeSizes}
 use Rattle.graph.specs.Bytes.{byte, u16}
 use Rattle.reader.specs.Layout.{nodesAt, nodeEnd, kindAt}
 use Rattle.reader.specs.Find.{ReadsNode, ReadsNodes, nodeFound}
-use Rattle.reader.proofs.Passed.{head-fits, kind-below, first-reads, rest-reads, node-hit, node-miss}
+use Rattle.reader.proofs.Passed.{head-fits, kind-below, size-of, first-reads, rest-reads, node-hit, node-miss}
 use Rattle.reader.proofs.find_node.Statement.{statement}
 use Rattle.reader.proofs.find_node.Tie as tie
 
@@ -49,7 +47,7 @@ returns c =
     let a = d .before .before .before .before .args in
     sym (l .inv .2 ∙ node-hit (a .s .now) (a .id) (a .count - l .i) (l .at) (l .i) (left d) (sym (c .before .u16-at .ensures) ∙ c .if1 .taken))
 
--- the kind's row
+-- the kind is one of the list
 below : (c : tie.After-size Inv-loop μ-loop) → c .size .result < 25
 below c =
     let d = c .before .before .before .before in
@@ -59,19 +57,19 @@ below c =
 
 end-by-requires : tie.Need-end-by-requires Inv-loop μ-loop
 end-by-requires c κs =
-    let z = c .before in
+    let z = c in
     let d = z .before .before .before .before in
     let a = d .before .before .before .before .args in
-    let p = d .before .before .port-rows in (
+    let p = d .before .before .node-sizes in (
       here d,
-      ap (λ (rs : List Ports). getD rs (z .size .result) absent) (p .ensures)
-          ∙ ap (λ (k : ℕ). getD rows k absent) (z .size .ensures .0)
-          ∙ row-of (byte (a .s .now) (d .before .loop .at + 2)),
+      ap (λ (ns : List ℕ). getD ns (z .size .result) 0) (p .ensures)
+          ∙ ap (λ (k : ℕ). getD nodeSizes k 0) (z .size .ensures .0)
+          ∙ size-of (byte (a .s .now) (d .before .loop .at + 2)) (kind-below (a .s .now) (d .before .loop .at) (here d)),
     )
 
 loop-again : tie.Need-loop-again Inv-loop μ-loop
 loop-again c =
-    let z = c .before .before in
+    let z = c .before in
     let d = z .before .before .before .before in
     let l = d .before .loop in
     let a = d .before .before .before .before .args in
@@ -109,9 +107,8 @@ find-node-spec =
     (λ c. omega (arith, head (c .before .before .before)))
     (λ c κs. search needs)
     (λ c. omega (arith, below c))
-    (λ c. omega (arith, below c))
     end-by-requires
-    (λ c. omega (arith, c .before .before .before .before .before .before .loop-test .taken))
-    (λ c. omega (arith, c .before .before .before .before .before .before .loop-test .taken))
+    (λ c. omega (arith, c .before .before .before .before .before .loop-test .taken))
+    (λ c. omega (arith, c .before .before .before .before .before .loop-test .taken))
     loop-again
     returns-2)
