@@ -29,7 +29,7 @@ use Rattle.list.specs.Code.{addresses}
 use Rattle.list.proofs.Decoded.{addresses-length}
 use Rattle.list.proofs.Memory.{sets-below}
 use Rattle.list.proofs.Origins.{takes-codes}
-use Rattle.executor.specs.Execution.{Canonical, CanonicalBefore, instructionAt, wordsGiven, Executable}
+use Rattle.executor.specs.Execution.{Canonical, CanonicalBefore, Loadable, instructionAt, wordsGiven, Ready, Executable, Operands}
 
 -- ---- one word
 
@@ -123,3 +123,15 @@ after-execute k t s at result m h =
     let r : result + wordsGiven k t ≤ length m = h .ready .room in
     subst (λ (n : ℕ). CanonicalBefore (result + n) (sets m result (allWords rs))) l
     (after-sets (allWords rs) m result (values-words (gives (kindOf k) t) rs g) (omega arith) (h .ready .canonical))
+
+-- ---- operands stand before the result, where all words are canonical
+
+pub of-operands : {n t : ℕ} {s : List ℕ} {at result : ℕ} {m : List ℕ} → Operands n t s at result m → {a w : ℕ} → a + w ≤ result → Loadable m a w
+of-operands {result = result} {m = m} h e =
+    let r : result + _ ≤ length m = h .room in
+    record { end = result; within = e; room = omega arith; canonical = h .canonical }
+
+pub of-ready : {k t : ℕ} {s : List ℕ} {at result : ℕ} {m : List ℕ} → Ready k t s at result m → {a w : ℕ} → a + w ≤ result → Loadable m a w
+of-ready {result = result} {m = m} h e =
+    let r : result + _ ≤ length m = h .room in
+    record { end = result; within = e; room = omega arith; canonical = h .canonical }

@@ -69,4 +69,6 @@ pub compose-matrix-spec : {M : Type 1} → statement M
 compose-matrix-spec =
     tie.close
     (tie.spec
-    (λ c. search needs) (λ c. search needs) (λ c. search needs) (λ c. search needs) (λ c. search needs) (λ c. search needs) (λ c. search needs) (λ c. search needs) (λ c. search needs) (λ c. search needs) (λ c. search needs) (λ c. search needs) scalars-row-requires scalars-row-requires-2 scalars-row-requires-3 scalars-row-requires-4 (λ c κs. search needs) (λ c. search needs) returns)
+    (λ c. search needs) (λ c. search needs) (λ c. search needs) (λ c. search needs) (λ c. search needs) (λ c. search needs) (λ c. search needs)
+    (λ c. search needs) (λ c. search needs) (λ c. search needs) (λ c. search needs) (λ c. search needs) scalars-row-requires scalars-row-requires-2
+    scalars-row-requires-3 scalars-row-requires-4 (λ c κs. search needs) (λ c. search needs) returns)

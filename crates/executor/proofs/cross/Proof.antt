@@ -1,6 +1,7 @@
 -- `executor::cross` carries its kind out.
 use borrow.Author.Needs.{needs}
 use native.Mathlib.Omega.{arith}
+use Rattle.executor.proofs.Canonical.{of-ready}
 use Rattle.value.specs.Results.{results}
 use Rattle.list.specs.Board.{execute}
 use Rattle.executor.proofs.cross.Statement.{statement}
@@ -22,4 +23,8 @@ pub cross-spec : {M : Type 1} → statement M
 cross-spec =
     tie.close
     (tie.spec
-    (λ c κs. search needs) (λ c κs. record { end = c .before .before .before .before .args .result; within = omega (arith, c .before .before .before .before .pre); room = omega (arith, c .before .before .before .before .pre .room); canonical = c .before .before .before .before .pre .canonical }) (λ c. search needs) (λ c κs. search needs) (λ c κs. record { end = c .before .before .before .before .before .before .before .args .result; within = omega (arith, c .before .before .before .before .before .before .before .pre); room = omega (arith, c .before .before .before .before .before .before .before .pre .room); canonical = c .before .before .before .before .before .before .before .pre .canonical }) (λ c κs. search needs) (λ c κs. search needs) (λ c. search needs) returns)
+    (λ c κs. search needs)
+    (λ c κs. of-ready (c .before .before .before .before .pre) (omega (arith, c .before .before .before .before .pre .operands))) (λ c. search needs)
+    (λ c κs. search needs)
+    (λ c κs. of-ready (c .before .before .before .before .before .before .before .pre) (omega (arith, c .before .before .before .before .before .before .before .pre .operands)))
+    (λ c κs. search needs) (λ c κs. search needs) (λ c. search needs) returns)

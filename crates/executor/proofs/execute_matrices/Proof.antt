@@ -68,4 +68,8 @@ pub execute-matrices-spec : {M : Type 1} → statement M
 execute-matrices-spec =
     tie.close
     (tie.spec
-    add-matrices-requires subtract-matrices-requires multiply-matrices-requires divide-matrices-requires minimum-matrices-requires maximum-matrices-requires absolute-matrix-requires remainder-matrices-requires select-matrices-requires clamp-matrices-requires (λ c. search needs) returns (λ c. search needs) returns-2 (λ c. search needs) returns-3 (λ c. search needs) returns-4 (λ c. search needs) returns-5 (λ c. search needs) returns-6 (λ c. search needs) returns-7 (λ c. search needs) returns-8 (λ c. search needs) returns-9 (λ c. search needs) returns-10)
+    add-matrices-requires subtract-matrices-requires multiply-matrices-requires divide-matrices-requires minimum-matrices-requires
+    maximum-matrices-requires absolute-matrix-requires remainder-matrices-requires select-matrices-requires clamp-matrices-requires
+    (λ c. search needs) returns (λ c. search needs) returns-2 (λ c. search needs) returns-3 (λ c. search needs) returns-4 (λ c. search needs)
+    returns-5 (λ c. search needs) returns-6 (λ c. search needs) returns-7 (λ c. search needs) returns-8 (λ c. search needs) returns-9
+    (λ c. search needs) returns-10)

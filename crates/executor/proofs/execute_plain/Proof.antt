@@ -87,4 +87,12 @@ pub execute-plain-spec : {M : Type 1} → statement M
 execute-plain-spec =
     tie.close
     (tie.spec
-    constant-requires (λ c. search needs) (λ c. search needs) constvec-requires (λ c. search needs) (λ c. search needs) constmat-requires (λ c. search needs) (λ c. search needs) compose-vector-requires (λ c. search needs) (λ c. search needs) vector-from-scalar-requires (λ c. search needs) (λ c. search needs) decompose-vector-requires (λ c. search needs) (λ c. search needs) compose-matrix-requires (λ c. search needs) (λ c. search needs) matrix-from-columns-requires (λ c. search needs) (λ c. search needs) matrix-from-rows-requires (λ c. search needs) (λ c. search needs) dot-requires (λ c. search needs) (λ c. search needs) cross-requires (λ c. search needs) (λ c. search needs) matvec-requires (λ c. search needs) (λ c. search needs) transpose-requires (λ c. search needs) (λ c. search needs) (λ c. search needs) returns (λ c. search needs) returns-2 (λ c. search needs) returns-3 (λ c. search needs) returns-4 (λ c. search needs) returns-5 (λ c. search needs) returns-6 (λ c. search needs) returns-7 (λ c. search needs) returns-8 (λ c. search needs) returns-9 (λ c. search needs) returns-10 (λ c. search needs) returns-11 (λ c. search needs) returns-12 (λ c. search needs) returns-13)
+    constant-requires (λ c. search needs) (λ c. search needs) constvec-requires (λ c. search needs) (λ c. search needs) constmat-requires
+    (λ c. search needs) (λ c. search needs) compose-vector-requires (λ c. search needs) (λ c. search needs) vector-from-scalar-requires
+    (λ c. search needs) (λ c. search needs) decompose-vector-requires (λ c. search needs) (λ c. search needs) compose-matrix-requires
+    (λ c. search needs) (λ c. search needs) matrix-from-columns-requires (λ c. search needs) (λ c. search needs) matrix-from-rows-requires
+    (λ c. search needs) (λ c. search needs) dot-requires (λ c. search needs) (λ c. search needs) cross-requires (λ c. search needs)
+    (λ c. search needs) matvec-requires (λ c. search needs) (λ c. search needs) transpose-requires (λ c. search needs) (λ c. search needs)
+    (λ c. search needs) returns (λ c. search needs) returns-2 (λ c. search needs) returns-3 (λ c. search needs) returns-4 (λ c. search needs)
+    returns-5 (λ c. search needs) returns-6 (λ c. search needs) returns-7 (λ c. search needs) returns-8 (λ c. search needs) returns-9
+    (λ c. search needs) returns-10 (λ c. search needs) returns-11 (λ c. search needs) returns-12 (λ c. search needs) returns-13)

@@ -68,4 +68,7 @@ pub execute-scalars-spec : {M : Type 1} → statement M
 execute-scalars-spec =
     tie.close
     (tie.spec
-    two-scalars-requires two-scalars-requires-2 two-scalars-requires-3 two-scalars-requires-4 two-scalars-requires-5 two-scalars-requires-6 one-scalar-requires two-scalars-requires-7 four-scalars-requires three-scalars-requires (λ c. search needs) returns (λ c. search needs) returns-2 (λ c. search needs) returns-3 (λ c. search needs) returns-4 (λ c. search needs) returns-5 (λ c. search needs) returns-6 (λ c. search needs) returns-7 (λ c. search needs) returns-8 (λ c. search needs) returns-9 (λ c. search needs) returns-10)
+    two-scalars-requires two-scalars-requires-2 two-scalars-requires-3 two-scalars-requires-4 two-scalars-requires-5 two-scalars-requires-6
+    one-scalar-requires two-scalars-requires-7 four-scalars-requires three-scalars-requires (λ c. search needs) returns (λ c. search needs) returns-2
+    (λ c. search needs) returns-3 (λ c. search needs) returns-4 (λ c. search needs) returns-5 (λ c. search needs) returns-6 (λ c. search needs)
+    returns-7 (λ c. search needs) returns-8 (λ c. search needs) returns-9 (λ c. search needs) returns-10)

@@ -68,4 +68,7 @@ pub execute-vectors-spec : {M : Type 1} → statement M
 execute-vectors-spec =
     tie.close
     (tie.spec
-    two-vectors-requires two-vectors-requires-2 two-vectors-requires-3 two-vectors-requires-4 two-vectors-requires-5 two-vectors-requires-6 one-vector-requires two-vectors-requires-7 four-vectors-requires three-vectors-requires (λ c. search needs) returns (λ c. search needs) returns-2 (λ c. search needs) returns-3 (λ c. search needs) returns-4 (λ c. search needs) returns-5 (λ c. search needs) returns-6 (λ c. search needs) returns-7 (λ c. search needs) returns-8 (λ c. search needs) returns-9 (λ c. search needs) returns-10)
+    two-vectors-requires two-vectors-requires-2 two-vectors-requires-3 two-vectors-requires-4 two-vectors-requires-5 two-vectors-requires-6
+    one-vector-requires two-vectors-requires-7 four-vectors-requires three-vectors-requires (λ c. search needs) returns (λ c. search needs) returns-2
+    (λ c. search needs) returns-3 (λ c. search needs) returns-4 (λ c. search needs) returns-5 (λ c. search needs) returns-6 (λ c. search needs)
+    returns-7 (λ c. search needs) returns-8 (λ c. search needs) returns-9 (λ c. search needs) returns-10)

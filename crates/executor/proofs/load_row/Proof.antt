@@ -11,4 +11,11 @@ pub load-row-spec : {M : Type 1} → statement M
 load-row-spec =
     tie.close
     (tie.spec
-    (λ c κs. record { end = c .before .pre .end; within = omega (arith, c .before .pre .within); room = c .before .pre .room; canonical = c .before .pre .canonical }) (λ c. search needs) (λ c κs. record { end = c .before .before .pre .end; within = omega (arith, c .before .before .pre .within); room = c .before .before .pre .room; canonical = c .before .before .pre .canonical }) (λ c. search needs) (λ c κs. record { end = c .before .before .before .pre .end; within = omega (arith, c .before .before .before .pre .within); room = c .before .before .before .pre .room; canonical = c .before .before .before .pre .canonical }) (λ c. search needs) (λ c κs. record { end = c .before .before .before .before .pre .end; within = omega (arith, c .before .before .before .before .pre .within); room = c .before .before .before .before .pre .room; canonical = c .before .before .before .before .pre .canonical }) returns)
+    (λ c κs. record { end = c .before .pre .end; within = omega (arith, c .before .pre .within); room = c .before .pre .room; canonical = c .before .pre .canonical })
+    (λ c. search needs)
+    (λ c κs. record { end = c .before .before .pre .end; within = omega (arith, c .before .before .pre .within); room = c .before .before .pre .room; canonical = c .before .before .pre .canonical })
+    (λ c. search needs)
+    (λ c κs. record { end = c .before .before .before .pre .end; within = omega (arith, c .before .before .before .pre .within); room = c .before .before .before .pre .room; canonical = c .before .before .before .pre .canonical })
+    (λ c. search needs)
+    (λ c κs. record { end = c .before .before .before .before .pre .end; within = omega (arith, c .before .before .before .before .pre .within); room = c .before .before .before .before .pre .room; canonical = c .before .before .before .before .pre .canonical })
+    returns)

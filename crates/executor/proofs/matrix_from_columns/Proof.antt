@@ -7,6 +7,7 @@ use lib.Seq.{sets}
 use Rattle.value.specs.declared.Mat4.{Mat4}
 use Rattle.value.specs.declared.Value.the-variants.{Matrix}
 use Rattle.value.specs.Values.{wordsOf, vecAt}
+use Rattle.executor.proofs.Canonical.{of-ready}
 use Rattle.executor.proofs.Stored.{of-columns}
 use Rattle.executor.proofs.matrix_from_columns.Statement.{statement}
 use Rattle.executor.proofs.matrix_from_columns.Tie as tie
@@ -29,4 +30,12 @@ pub matrix-from-columns-spec : {M : Type 1} → statement M
 matrix-from-columns-spec =
     tie.close
     (tie.spec
-    (λ c. search needs) (λ c. search needs) (λ c. search needs) (λ c κs. search needs) (λ c κs. record { end = c .before .before .before .before .args .result; within = omega (arith, c .before .before .before .before .pre); room = omega (arith, c .before .before .before .before .pre .room); canonical = c .before .before .before .before .pre .canonical }) (λ c κs. search needs) (λ c κs. record { end = c .before .before .before .before .before .before .before .args .result; within = omega (arith, c .before .before .before .before .before .before .before .pre); room = omega (arith, c .before .before .before .before .before .before .before .pre .room); canonical = c .before .before .before .before .before .before .before .pre .canonical }) (λ c κs. search needs) (λ c κs. record { end = c .before .before .before .before .before .before .before .before .before .before .args .result; within = omega (arith, c .before .before .before .before .before .before .before .before .before .before .pre); room = omega (arith, c .before .before .before .before .before .before .before .before .before .before .pre .room); canonical = c .before .before .before .before .before .before .before .before .before .before .pre .canonical }) (λ c κs. search needs) (λ c κs. record { end = c .before .before .before .before .before .before .before .before .before .before .before .before .before .args .result; within = omega (arith, c .before .before .before .before .before .before .before .before .before .before .before .before .before .pre); room = omega (arith, c .before .before .before .before .before .before .before .before .before .before .before .before .before .pre .room); canonical = c .before .before .before .before .before .before .before .before .before .before .before .before .before .pre .canonical }) (λ c κs. search needs) put-mat-requires (λ c. search needs) returns)
+    (λ c. search needs) (λ c. search needs) (λ c. search needs) (λ c κs. search needs)
+    (λ c κs. of-ready (c .before .before .before .before .pre) (omega (arith, c .before .before .before .before .pre .operands)))
+    (λ c κs. search needs)
+    (λ c κs. of-ready (c .before .before .before .before .before .before .before .pre) (omega (arith, c .before .before .before .before .before .before .before .pre .operands)))
+    (λ c κs. search needs)
+    (λ c κs. of-ready (c .before .before .before .before .before .before .before .before .before .before .pre) (omega (arith, c .before .before .before .before .before .before .before .before .before .before .pre .operands)))
+    (λ c κs. search needs)
+    (λ c κs. of-ready (c .before .before .before .before .before .before .before .before .before .before .before .before .before .pre) (omega (arith, c .before .before .before .before .before .before .before .before .before .before .before .before .before .pre .operands)))
+    (λ c κs. search needs) put-mat-requires (λ c. search needs) returns)

@@ -1,6 +1,7 @@
 -- `executor::maximum_matrices`: the operands at their addresses, the step, the result.
 use borrow.Author.Needs.{needs}
 use native.Mathlib.Omega.{arith}
+use Rattle.executor.proofs.Canonical.{of-operands}
 use mathlib.Core.Path.{_∙_, ap}
 use denote.Ref.{now}
 use lib.Seq.{sets}
@@ -32,4 +33,11 @@ pub maximum-matrices-spec : {M : Type 1} → statement M
 maximum-matrices-spec =
     tie.close
     (tie.spec
-    (λ c. search needs) (λ c. search needs) (λ c. search needs) (λ c κs. search needs) (λ c κs. omega (arith, c .before .before .before .before .pre .fits)) (λ c κs. record { end = c .before .before .before .before .before .args .result; within = omega (arith, c .before .before .before .before .before .pre); room = omega (arith, c .before .before .before .before .before .pre .room); canonical = c .before .before .before .before .before .pre .canonical }) (λ c κs. omega (arith, c .before .before .before .before .before .before .before .pre .fits)) (λ c κs. record { end = c .before .before .before .before .before .before .before .before .args .result; within = omega (arith, c .before .before .before .before .before .before .before .before .pre); room = omega (arith, c .before .before .before .before .before .before .before .before .pre .room); canonical = c .before .before .before .before .before .before .before .before .pre .canonical }) (λ c κs. search needs) (λ c κs. omega (arith, c .before .before .before .before .before .before .before .before .before .before .before .pre .room)) (λ c. search needs) returns)
+    (λ c. search needs) (λ c. search needs) (λ c. search needs) (λ c κs. search needs)
+    (λ c κs. omega (arith, c .before .before .before .before .pre .fits))
+    (λ c κs. of-operands (c .before .before .before .before .before .pre) (omega (arith, c .before .before .before .before .before .pre .operands)))
+    (λ c κs. omega (arith, c .before .before .before .before .before .before .before .pre .fits))
+    (λ c κs. of-operands (c .before .before .before .before .before .before .before .before .pre) (omega (arith, c .before .before .before .before .before .before .before .before .pre .operands)))
+    (λ c κs. search needs)
+    (λ c κs. omega (arith, c .before .before .before .before .before .before .before .before .before .before .before .pre .room)) (λ c. search needs)
+    returns)

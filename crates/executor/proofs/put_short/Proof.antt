@@ -26,4 +26,5 @@ pub put-short-spec : {M : Type 1} → statement M
 put-short-spec =
     tie.close
     (tie.spec
-    (λ c. search needs) put-requires (λ c. search needs) put-vec-requires (λ c. search needs) (λ c. search needs) returns (λ c. search needs) returns-2 returns-3)
+    (λ c. search needs) put-requires (λ c. search needs) put-vec-requires (λ c. search needs) (λ c. search needs) returns (λ c. search needs)
+    returns-2 returns-3)

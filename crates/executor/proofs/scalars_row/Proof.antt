@@ -21,4 +21,12 @@ pub scalars-row-spec : {M : Type 1} → statement M
 scalars-row-spec =
     tie.close
     (tie.spec
-    (λ c. search needs) (λ c. search needs) (λ c. search needs) (λ c κs. omega (arith, c .before .before .pre .fits)) (λ c κs. record { end = c .before .before .before .pre .end; within = omega (arith, c .before .before .before .pre .operands); room = c .before .before .before .pre .room; canonical = c .before .before .before .pre .canonical }) (λ c κs. omega (arith, c .before .before .before .before .pre .fits)) (λ c κs. record { end = c .before .before .before .before .before .pre .end; within = omega (arith, c .before .before .before .before .before .pre .operands); room = c .before .before .before .before .before .pre .room; canonical = c .before .before .before .before .before .pre .canonical }) (λ c κs. omega (arith, c .before .before .before .before .before .before .pre .fits)) (λ c κs. record { end = c .before .before .before .before .before .before .before .pre .end; within = omega (arith, c .before .before .before .before .before .before .before .pre .operands); room = c .before .before .before .before .before .before .before .pre .room; canonical = c .before .before .before .before .before .before .before .pre .canonical }) (λ c κs. omega (arith, c .before .before .before .before .before .before .before .before .pre .fits)) (λ c κs. record { end = c .before .before .before .before .before .before .before .before .before .pre .end; within = omega (arith, c .before .before .before .before .before .before .before .before .before .pre .operands); room = c .before .before .before .before .before .before .before .before .before .pre .room; canonical = c .before .before .before .before .before .before .before .before .before .pre .canonical }) returns)
+    (λ c. search needs) (λ c. search needs) (λ c. search needs) (λ c κs. omega (arith, c .before .before .pre .fits))
+    (λ c κs. record { end = c .before .before .before .pre .end; within = omega (arith, c .before .before .before .pre .operands); room = c .before .before .before .pre .room; canonical = c .before .before .before .pre .canonical })
+    (λ c κs. omega (arith, c .before .before .before .before .pre .fits))
+    (λ c κs. record { end = c .before .before .before .before .before .pre .end; within = omega (arith, c .before .before .before .before .before .pre .operands); room = c .before .before .before .before .before .pre .room; canonical = c .before .before .before .before .before .pre .canonical })
+    (λ c κs. omega (arith, c .before .before .before .before .before .before .pre .fits))
+    (λ c κs. record { end = c .before .before .before .before .before .before .before .pre .end; within = omega (arith, c .before .before .before .before .before .before .before .pre .operands); room = c .before .before .before .before .before .before .before .pre .room; canonical = c .before .before .before .before .before .before .before .pre .canonical })
+    (λ c κs. omega (arith, c .before .before .before .before .before .before .before .before .pre .fits))
+    (λ c κs. record { end = c .before .before .before .before .before .before .before .before .before .pre .end; within = omega (arith, c .before .before .before .before .before .before .before .before .before .pre .operands); room = c .before .before .before .before .before .before .before .before .before .pre .room; canonical = c .before .before .before .before .before .before .before .before .before .pre .canonical })
+    returns)

@@ -1,6 +1,7 @@
 -- `executor::two_vectors`: the operands at their addresses, the step, the result.
 use borrow.Author.Needs.{needs}
 use native.Mathlib.Omega.{arith}
+use Rattle.executor.proofs.Canonical.{of-operands}
 use Rattle.executor.specs.Execution.{operate}
 use Rattle.executor.proofs.two_vectors.Statement.{statement}
 use Rattle.executor.proofs.two_vectors.Tie as tie
@@ -26,4 +27,11 @@ pub two-vectors-spec : {M : Type 1} → statement M
 two-vectors-spec =
     tie.close
     (tie.spec
-    (λ c. search needs) (λ c. search needs) (λ c. search needs) (λ c κs. search needs) (λ c κs. omega (arith, c .before .before .before .before .pre .fits)) (λ c κs. record { end = c .before .before .before .before .before .args .result; within = omega (arith, c .before .before .before .before .before .pre); room = omega (arith, c .before .before .before .before .before .pre .room); canonical = c .before .before .before .before .before .pre .canonical }) (λ c κs. omega (arith, c .before .before .before .before .before .before .before .pre .fits)) (λ c κs. record { end = c .before .before .before .before .before .before .before .before .args .result; within = omega (arith, c .before .before .before .before .before .before .before .before .pre); room = omega (arith, c .before .before .before .before .before .before .before .before .pre .room); canonical = c .before .before .before .before .before .before .before .before .pre .canonical }) (λ c κs. search needs) (λ c κs. (omega (arith, c .before .before .before .before .before .before .before .before .before .before .before .pre .room), omega arith)) (λ c. search needs) returns)
+    (λ c. search needs) (λ c. search needs) (λ c. search needs) (λ c κs. search needs)
+    (λ c κs. omega (arith, c .before .before .before .before .pre .fits))
+    (λ c κs. of-operands (c .before .before .before .before .before .pre) (omega (arith, c .before .before .before .before .before .pre .operands)))
+    (λ c κs. omega (arith, c .before .before .before .before .before .before .before .pre .fits))
+    (λ c κs. of-operands (c .before .before .before .before .before .before .before .before .pre) (omega (arith, c .before .before .before .before .before .before .before .before .pre .operands)))
+    (λ c κs. search needs)
+    (λ c κs. (omega (arith, c .before .before .before .before .before .before .before .before .before .before .before .pre .room), omega arith))
+    (λ c. search needs) returns)

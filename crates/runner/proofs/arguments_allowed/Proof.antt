@@ -55,5 +55,4 @@ pub arguments-allowed-spec : {M : Type 1} → statement M
 arguments-allowed-spec =
     tie.close
     (tie.spec
-    Inv-loop μ-loop loop-holds mul-argument-word shared-slice-read-argument-word (λ c κs. search needs) returns add-i loop-less
-    loop-again returns-2)
+    Inv-loop μ-loop loop-holds mul-argument-word shared-slice-read-argument-word (λ c κs. search needs) returns add-i loop-less loop-again returns-2)

@@ -110,6 +110,5 @@ pub check-code-spec : {M : Type 1} → statement M
 check-code-spec =
     tie.close
     (tie.spec
-    returns (λ c κs. search needs) returns-2 (λ c κs. search needs) (λ c κs. search needs) returns-3
-    (λ c κs. search needs) (λ c. search needs) (λ c. search needs) returns-4 returns-5 sub-if5 (λ c. search needs)
-    returns-6 outputs-less-requires returns-7 returns-8)
+    returns (λ c κs. search needs) returns-2 (λ c κs. search needs) (λ c κs. search needs) returns-3 (λ c κs. search needs) (λ c. search needs)
+    (λ c. search needs) returns-4 returns-5 sub-if5 (λ c. search needs) returns-6 outputs-less-requires returns-7 returns-8)

@@ -89,5 +89,5 @@ pub check-instructions-spec : {M : Type 1} → statement M
 check-instructions-spec =
     tie.close
     (tie.spec
-    Inv-loop μ-loop loop-holds sub-if1 returns byte-at-requires returns-2 mul-row array-copy-out-row check-instruction-requires (λ c. search needs) (λ c. search needs) returns-3
-    sub-left loop-less loop-again returns-4)
+    Inv-loop μ-loop loop-holds sub-if1 returns byte-at-requires returns-2 mul-row array-copy-out-row check-instruction-requires (λ c. search needs)
+    (λ c. search needs) returns-3 sub-left loop-less loop-again returns-4)

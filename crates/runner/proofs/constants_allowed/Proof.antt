@@ -57,5 +57,4 @@ pub constants-allowed-spec : {M : Type 1} → statement M
 constants-allowed-spec =
     tie.close
     (tie.spec
-    Inv-loop μ-loop loop-holds u64-at-requires (λ c κs. search needs) returns add-at sub-left loop-less loop-again
-    returns-2)
+    Inv-loop μ-loop loop-holds u64-at-requires (λ c κs. search needs) returns add-at sub-left loop-less loop-again returns-2)

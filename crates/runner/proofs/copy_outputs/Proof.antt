@@ -79,5 +79,5 @@ pub copy-outputs-spec : {M : Type 1} → statement M
 copy-outputs-spec =
     tie.close
     (tie.spec
-    Inv-loop μ-loop loop-holds mul-u16-at add-u16-at u16-at-requires mul-out shared-slice-read-out mul-out-2
-    slice-write-out add-i loop-less loop-again same-length returns)
+    Inv-loop μ-loop loop-holds mul-u16-at add-u16-at u16-at-requires mul-out shared-slice-read-out mul-out-2 slice-write-out add-i loop-less
+    loop-again same-length returns)

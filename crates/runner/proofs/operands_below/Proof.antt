@@ -61,5 +61,4 @@ pub operands-below-spec : {M : Type 1} → statement M
 operands-below-spec =
     tie.close
     (tie.spec
-    Inv-loop μ-loop (λ c κs. search needs) loop-holds u16-at-requires add-if1 returns add-at sub-left loop-less
-    loop-again returns-2)
+    Inv-loop μ-loop (λ c κs. search needs) loop-holds u16-at-requires add-if1 returns add-at sub-left loop-less loop-again returns-2)

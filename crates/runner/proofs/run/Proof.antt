@@ -77,4 +77,5 @@ pub run-spec : {M : Type 1} → statement M
 run-spec =
     tie.close
     (tie.spec
-    (λ c κs. search needs) (λ c. search needs) (λ c. search needs) returns returns-2 (λ c κs. search needs) returns-3 returns-4 returns-5 run-checked-requires (λ c. search needs) (λ c. search needs) returns-6)
+    (λ c κs. search needs) (λ c. search needs) (λ c. search needs) returns returns-2 (λ c κs. search needs) returns-3 returns-4 returns-5
+    run-checked-requires (λ c. search needs) (λ c. search needs) returns-6)
