@@ -7,7 +7,7 @@ use native.Mathlib.Omega.{arith}
 use borrow.Author.Tests.{ltb-true, ltb-false}
 use lib.Dec.{T, ltb}
 use lib.Ieee as Ieee
-use lib.Ieee.{nan, binary64, nanBits, toBits}
+use lib.Ieee.{nan, inf, fin, binary64, nanBits, toBits}
 use lib.Ieee.Bits.{nanBits-above}
 use lib.ListN.{length, set, length-set}
 use lib.Seq.{sets, getD-set-same}
@@ -49,6 +49,13 @@ regular w c d = pick (ltb 0x7FF0_0000_0000_0000 (w % 0x8000_0000_0000_0000)) ref
         let e : Ieee.ofBits binary64 w ≡ nan = nan-read w (ltb-true _ _ q) in
         absurd (d (sym c ∙ ap (toBits binary64) e ∙ nan-word))
     pick false q = subst (λ (b : Bool). T (not b)) (sym (nanBits-above binary64 w ∙ q)) tt
+
+-- fmod by zero
+pub remainder-nan : (x : Ieee.Float) → Ieee.rem binary64 x (Ieee.ofBits binary64 0) ≡ nan
+unfolding Ieee.rem Ieee.ofBits
+remainder-nan nan = refl
+remainder-nan (inf s) = refl
+remainder-nan (fin s m e) = refl
 
 -- ---- the words of values
 

@@ -13,9 +13,9 @@ returns c =
     rw (
       c .before .before .put-short .ensures,
       c .before .before .before .cross .ensures,
-      c .before .before .before .before .before .load-vec2 .ensures,
+      c .before .before .before .before .before .load-apart2 .ensures,
       c .before .before .before .before .before .before .u16-at2 .ensures .0,
-      c .before .before .before .before .before .before .before .before .load-vec .ensures,
+      c .before .before .before .before .before .before .before .before .load-apart .ensures,
       c .before .before .before .before .before .before .before .before .before .u16-at .ensures .0,
     )
 

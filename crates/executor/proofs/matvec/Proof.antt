@@ -13,7 +13,7 @@ returns c =
     rw (
       c .before .before .put-short .ensures,
       c .before .before .before .matvec .ensures,
-      c .before .before .before .before .before .load-vec .ensures,
+      c .before .before .before .before .before .load-apart .ensures,
       c .before .before .before .before .before .before .u16-at2 .ensures .0,
       c .before .before .before .before .before .before .before .before .load-mat .ensures,
       c .before .before .before .before .before .before .before .before .before .u16-at .ensures .0,
