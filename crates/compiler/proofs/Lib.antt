@@ -10,3 +10,5 @@ pub mod Loops
 pub mod Single
 pub mod Opening
 pub mod Emission
+pub mod Filling
+pub mod Laying

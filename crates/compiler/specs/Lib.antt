@@ -2,3 +2,4 @@ pub mod Static
 pub mod Position
 pub mod Capped
 pub mod Emit
+pub mod Spotting

@@ -1,20 +1,27 @@
 // The compiler: from a table and a function to the board list.
 ghost use mathlib.Core.Path.{_≡_};
+ghost use mathlib.Core.List.{map};
+ghost use mathlib.Core.Option.{some};
 ghost use mathlib.Core.Bool.{true, false};
 ghost use Prim.Native.Nat.{ℕ, suc, _+_, _*_, _<_, _≤_, _^_, min};
-ghost use lib.ListN.{length, getD, set};
+ghost use lib.ListN.{length, getD, set, replicate};
 ghost use lib.Seq.{sets};
 ghost use Rattle.ports.specs.Kinds.{kindOf};
 ghost use Rattle.ports.specs.Ports.{portsOf, formOf, constantIn};
 ghost use Rattle.graph.specs.Bytes.{byte, u16};
 ghost use Rattle.graph.specs.Look.{reads};
+ghost use Rattle.graph.specs.Read.{reference};
+ghost use Rattle.topology.specs.Resolve as Resolve;
+ghost use Rattle.reader.specs.Find.{ReadsNodes};
+ghost use Rattle.compiler.specs.Spotting.{Places, Slots, WordsHeld, portCode, readCodes, throughCode, throughCodes, resultCodes, nodeCodes, AllOuts};
 ghost use Rattle.list.specs.Code.{bytesOf, allBytes};
-ghost use Rattle.reader.specs.Layout.{kindAt, nodeAt, nodeEnd, nodePlace, nodesPlace, nodeCount};
+ghost use Rattle.reader.specs.Layout.{kindAt, nodeAt, nodesAt, nodeEnd, nodePlace, nodesPlace, nodeCount};
 ghost use Rattle.compiler.specs.Position.{placeOf, positionOf, Starts, calling, ReadsOf, NodeFit, NodesFit, Fit, AllFit};
-ghost use Rattle.compiler.specs.Capped.{operationsAt, wordsAt, instructionsAt, bytesAt, operationCap, wordCap, byteCap, Caps, AllSummed};
-ghost use Rattle.compiler.specs.Emit.{copied, spotRoom, Small, addressOf, addressesIn, nodeOpened, functionOpened, Room, Emits, AllLaid};
+ghost use Rattle.compiler.specs.Capped.{operationsAt, wordsAt, instructionsAt, bytesAt, addsWords, operationCap, wordCap, byteCap, Caps, AllSummed};
+ghost use Rattle.compiler.specs.Emit.{copied, spotRoom, addressOf, addressesIn, nodeOpened, functionOpened, Room, Emits, AllLaid};
 use ports::Form;
 use ports::Ports;
+use reader::Found;
 
 // ---- numbers
 
@@ -297,13 +304,13 @@ fn function_sums(
 
 // The address of a spot.
 fn address(ins: &[u16; 8], first: usize, e: usize) -> u16
-    requires { ⌜ (first ≤ 8192) × (e ≤ 16384) ⌝ }
+    requires { ⌜ (first ≤ 8192) × (e < 65536) ⌝ }
     ensures { λ r. ⌜ r ≡ addressOf (now (ins .entry)) first e ⌝ }
 {
     if e < 8 {
         ins[e]
     } else {
-        (first + (e - 8)) as u16
+        ((first + (e - 8)) % 65536) as u16
     }
 }
 
@@ -317,7 +324,7 @@ fn operands(
     code: &mut [u8],
     at: usize,
 )
-    requires { ⌜ (first ≤ 8192) × Small (now spots) × (spot + n ≤ spotRoom) × (at + 2 * n ≤ length (now code)) ⌝ }
+    requires { ⌜ (first ≤ 8192) × (spot + n ≤ spotRoom) × (at + 2 * n ≤ length (now code)) ⌝ }
     ensures { λ _. ⌜ now (code .exit) ≡ sets (now (code .entry)) at (allBytes 2 (addressesIn (now (spots .entry)) (now (ins .entry)) first spot n)) ⌝ }
 {
     let mut j = 0;
@@ -337,7 +344,7 @@ fn arguments(
     first: usize,
     args: &mut [u16; 8],
 )
-    requires { ⌜ (first ≤ 8192) × Small (now spots) × (spot + n ≤ spotRoom) × (n ≤ 8) ⌝ }
+    requires { ⌜ (first ≤ 8192) × (spot + n ≤ spotRoom) × (n ≤ 8) ⌝ }
     ensures { λ _. ⌜ now (args .exit) ≡ sets (now (args .entry)) 0 (addressesIn (now (spots .entry)) (now (ins .entry)) first spot n) ⌝ }
 {
     let mut j = 0;
@@ -368,7 +375,7 @@ fn emit_single(
     next: usize,
 ) -> Reached
     requires { ⌜ (p < 65536) × (calling (formOf (kindAt (now t) p)) ≡ false) ⌝ }
-    requires { ⌜ (first ≤ 8192) × Small (now spots) × (spot + length (reads (nodeAt (now t) p)) ≤ spotRoom) ⌝ }
+    requires { ⌜ (first ≤ 8192) × (spot + length (reads (nodeAt (now t) p)) ≤ spotRoom) ⌝ }
     requires { ⌜ Room (now code) at (nodeOpened (now t) (now spots) k p spot (now ins) first next) ⌝ }
     ensures { λ r. ⌜ Emits (now (code .entry)) (now (code .exit)) at
         (nodeOpened (now (t .entry)) (now (spots .entry)) k p spot (now (ins .entry)) first next) r ⌝ }
@@ -409,7 +416,7 @@ fn emit_node(
     next: usize,
 ) -> Reached
     requires { ⌜ (k < 16) × Starts (now t) (now starts) k × NodeFit (now t) p ⌝ }
-    requires { ⌜ (first ≤ 8192) × Small (now spots) × (spot + length (reads (nodeAt (now t) p)) ≤ spotRoom) ⌝ }
+    requires { ⌜ (first ≤ 8192) × (spot + length (reads (nodeAt (now t) p)) ≤ spotRoom) ⌝ }
     requires { ⌜ AllLaid (now t) (now begins) (now order) (now spots) k ⌝ }
     requires { ⌜ Room (now code) at (nodeOpened (now t) (now spots) k p spot (now ins) first next) ⌝ }
     ensures { λ r. ⌜ Emits (now (code .entry)) (now (code .exit)) at
@@ -456,7 +463,7 @@ fn emit(
     at: usize,
     next: usize,
 ) -> Reached
-    requires { ⌜ (k < 16) × Starts (now t) (now starts) (suc k) × Small (now spots) ⌝ }
+    requires { ⌜ (k < 16) × Starts (now t) (now starts) (suc k) ⌝ }
     requires { ⌜ AllLaid (now t) (now begins) (now order) (now spots) (suc k) ⌝ }
     requires { ⌜ Room (now code) at (functionOpened (now t) k (now ins) next) ⌝ }
     ensures { λ r. ⌜ Emits (now (code .entry)) (now (code .exit)) at (functionOpened (now (t .entry)) k (now (ins .entry)) next) r ⌝ }
@@ -492,5 +499,178 @@ fn emit(
         at: here,
         next: word,
         spot,
+    }
+}
+
+// ---- layout
+
+// The places of n nodes from `at` on.
+fn fill_places(t: &[u8], at: usize, n: usize, places: &mut [u16; 256])
+    requires { ⌜ (n ≤ 256) × (at < 2 ^ 20) × NodesFit (now t) n at × (length (now places) ≡ 256) ⌝ }
+    ensures { λ _. ⌜ Places (now (t .entry)) at (now (places .exit)) n ⌝ }
+{
+    let mut q = at;
+    let mut i = 0;
+    while i < n {
+        places[i] = q as u16;
+        q = node_end(t, q);
+        i += 1;
+    }
+}
+
+// The index of the node that the reference at q reads, or 256 for an input.
+fn target(t: &[u8], at: usize, n: usize, q: usize) -> u16
+    requires { ⌜ (n ≤ 256) × (q < 2 ^ 31) × ReadsNodes n (now t) at ⌝ }
+    ensures { λ r. ⌜ r ≡ Resolve.target (nodesAt n (now (t .entry)) at) (some (reference (now (t .entry)) q)) ⌝ }
+{
+    let id = u16_at(t, q);
+    if id == 0 {
+        return 256;
+    }
+    let found = reader::find_node(t, at, n, id as u16);
+    match found {
+        Found::At(i, _) => i as u16,
+        Found::Nothing => n as u16,
+    }
+}
+
+// The targets of the node at p, the i-th.
+fn resolve_node(t: &[u8], at: usize, n: usize, i: usize, p: usize, targets: &mut [u16; 4096])
+    requires { ⌜ (n ≤ 256) × (i < 256) × NodeFit (now t) p × ReadsNodes n (now t) at ⌝ }
+    ensures { λ _. ⌜ now (targets .exit) ≡ sets (now (targets .entry)) (16 * i)
+        (map (λ r. Resolve.target (nodesAt n (now (t .entry)) at) (some r)) (reads (nodeAt (now (t .entry)) p))) ⌝ }
+{
+    let r = reads_at(t, p);
+    let count = r.count;
+    let mut q = r.first;
+    let mut j = 0;
+    while j < count {
+        targets[16 * i + j] = target(t, at, n, q);
+        q += 3;
+        j += 1;
+    }
+}
+
+// The targets of n nodes from `at` on.
+fn resolve(t: &[u8], at: usize, n: usize, places: &[u16; 256], targets: &mut [u16; 4096])
+    requires { ⌜ (n ≤ 256) × NodesFit (now t) n at × ReadsNodes n (now t) at × Places (now t) at (now places) n ⌝ }
+    requires { ⌜ now targets ≡ replicate 4096 256 ⌝ }
+    ensures { λ _. ⌜ Slots (now (t .entry)) at n (now (targets .exit)) ⌝ }
+{
+    let mut i = 0;
+    while i < n {
+        let p = wide16(places[i]);
+        resolve_node(t, at, n, i, p, targets);
+        i += 1;
+    }
+}
+
+// The spot of a port of the node with the index v; 256 stands for the inputs.
+fn spot_of(laid: &[u16; 2048], v: usize, port: usize) -> u16
+    ensures { λ r. ⌜ r ≡ portCode (now (laid .entry)) v port ⌝ }
+{
+    if 8 <= port {
+        return 0;
+    }
+    if v < 256 { laid[8 * v + port] } else { port as u16 }
+}
+
+// The spots of n references, the first at q, of the i-th node.
+fn lay_reads(t: &[u8], targets: &[u16; 4096], laid: &[u16; 2048], i: usize, first: usize, n: usize, spots: &mut [u16; 20166], spot: usize)
+    requires { ⌜ (i < 256) × (n ≤ 16) × (first < 2 ^ 20) × (spot + n ≤ spotRoom) ⌝ }
+    ensures { λ _. ⌜ now (spots .exit) ≡ sets (now (spots .entry)) spot
+        (readCodes (now (t .entry)) (now (targets .entry)) (now (laid .entry)) (16 * i) n first) ⌝ }
+{
+    let mut q = first;
+    let mut j = 0;
+    while j < n {
+        let v = wide16(targets[16 * i + j]);
+        let port = wide(byte_at(t, q + 2));
+        spots[spot + j] = spot_of(laid, v, port);
+        q += 3;
+        j += 1;
+    }
+}
+
+// A callee's spot seen from its caller.
+fn through(spots: &[u16; 20166], spot: usize, n: usize, d: usize, e: usize) -> u16
+    requires { ⌜ (spot + n ≤ spotRoom) × (d ≤ 8192) × (e < 65536) ⌝ }
+    ensures { λ r. ⌜ r ≡ throughCode (now (spots .entry)) spot n d e ⌝ }
+{
+    if e < 8 {
+        if e < n { spots[spot + e] } else { 0 }
+    } else {
+        ((e + d) % 65536) as u16
+    }
+}
+
+// The ports of the i-th node, which calls the function at position g.
+fn lay_call(outs: &[u16; 128], g: usize, count: usize, spots: &[u16; 20166], spot: usize, n: usize, laid: &mut [u16; 2048], i: usize, d: usize)
+    requires { ⌜ (g < 16) × (count ≤ 8) × (spot + n ≤ spotRoom) × (i < 256) × (d ≤ 8192) ⌝ }
+    ensures { λ _. ⌜ now (laid .exit) ≡ sets (now (laid .entry)) (8 * i) (throughCodes (now (outs .entry)) (now (spots .entry)) spot n d (8 * g) count) ⌝ }
+{
+    let mut q = 0;
+    while q < count {
+        let e = wide16(outs[8 * g + q]);
+        laid[8 * i + q] = through(spots, spot, n, d, e);
+        q += 1;
+    }
+}
+
+// The ports of the i-th node: results of the same width.
+fn lay_results(laid: &mut [u16; 2048], i: usize, d: usize, count: usize, width: usize)
+    requires { ⌜ (i < 256) × (d ≤ 8192) × (count ≤ 8) × (width ≤ 16) ⌝ }
+    ensures { λ _. ⌜ now (laid .exit) ≡ sets (now (laid .entry)) (8 * i) (resultCodes (8 + d) width count) ⌝ }
+{
+    let mut e = 8 + d;
+    let mut q = 0;
+    while q < count {
+        laid[8 * i + q] = e as u16;
+        e += width;
+        q += 1;
+    }
+}
+
+// The ports of the i-th node, which stands at p; the answer is the offset behind its results.
+fn lay_node(
+    t: &[u8],
+    starts: &[u16; 16],
+    words: &[u32; 16],
+    outs: &[u16; 128],
+    spots: &[u16; 20166],
+    k: usize,
+    i: usize,
+    p: usize,
+    spot: usize,
+    n: usize,
+    laid: &mut [u16; 2048],
+    d: usize,
+) -> usize
+    requires { ⌜ (k ≤ 16) × (i < 256) × NodeFit (now t) p × Starts (now t) (now starts) k × WordsHeld (now t) (now words) k ⌝ }
+    requires { ⌜ AllFit (now t) k × AllOuts (now t) (now outs) k × (spot + n ≤ spotRoom) × (n ≡ length (reads (nodeAt (now t) p))) ⌝ }
+    requires { ⌜ d + addsWords (now t) k (nodeAt (now t) p) ≤ 8192 ⌝ }
+    ensures { λ r. ⌜ now (laid .exit) ≡ sets (now (laid .entry)) (8 * i) (nodeCodes (now (t .entry)) (now (outs .entry)) (now (spots .entry)) k p spot d) ⌝ }
+    ensures { λ r. ⌜ r ≡ d + addsWords (now (t .entry)) k (nodeAt (now (t .entry)) p) ⌝ }
+{
+    let row = ports::ports_of(byte_at(t, p + 2));
+    let form = row.form;
+    if is_call(form) {
+        let c = u16_at(t, p + 4);
+        let g = position_of(t, starts, k, c);
+        if g < k {
+            let count = wide(byte_at(t, wide16(starts[g]) + 3));
+            let w = wide32(words[g]);
+            lay_call(outs, g, count, spots, spot, n, laid, i, d);
+            d + w
+        } else {
+            d
+        }
+    } else {
+        let ty = byte_at(t, p + 3);
+        let w = ports::width(ports::own(ty, row.result));
+        let count = wide(row.results);
+        let all = ports::result_words(row, ty);
+        lay_results(laid, i, d, count, w);
+        d + all
     }
 }

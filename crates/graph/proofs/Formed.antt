@@ -23,7 +23,7 @@ use Rattle.graph.proofs.Loops.{and-inv}
 use Rattle.graph.proofs.Steps.{took, after, passed, ok-is}
 use Rattle.graph.proofs.Accept.{all-judged}
 
-refs-length : (n : ℕ) (s : List ℕ) (at : ℕ) → length (references n s at) ≡ n
+pub refs-length : (n : ℕ) (s : List ℕ) (at : ℕ) → length (references n s at) ≡ n
 refs-length zero s at = refl
 refs-length (suc n) s at = ap suc (refs-length n s (at + 3))
 

@@ -1,1 +1,550 @@
 // The records of a graph table, read at a place, and the lookups.
+ghost use mathlib.Core.Path.{_≡_};
+ghost use Prim.Native.Nat.{_+_, _*_, _<_, _≤_};
+ghost use lib.ListN.{length};
+ghost use lib.Ieee as Ieee;
+ghost use lib.Ieee.{binary64};
+ghost use Rattle.ports.specs.Kinds.{kindOf};
+ghost use Rattle.ports.specs.Ports as PortList;
+ghost use Rattle.ports.specs.Ports.{portsOf, formOf};
+ghost use Rattle.ports.specs.declared.Form as Forms;
+ghost use Rattle.value.specs.Values.{constantWord, every, valueOf};
+ghost use Rattle.graph.specs.Bytes.{u16, u64};
+ghost use Rattle.graph.specs.Read.{version1, constants, inputs, outputs, inRange, payload, node, nodes, function, functions, parse};
+ghost use Rattle.reader.specs.Layout.{kindAt, nodeEnd, nodesAt, nodePlace, earlier};
+ghost use Rattle.reader.specs.Find.{ReadsNode, ReadsNodes, Started, nodeFound, functionFound};
+ghost use Rattle.reader.specs.Records.{recordAt, rowAt, matrixAt, vectorAt, payloadRead, nodeRead, seen, next, behind};
+use ports::Form;
+use ports::Ports;
+use value::Mat4;
+use value::Row;
+use value::Value;
+use value::Vec3;
+
+// ---- what a reading answers
+
+// A place behind what was read, or the first fault.
+pub enum Next {
+    At(usize),
+    Fault(u8, usize),
+}
+
+// All was read, or the first fault.
+pub enum Seen {
+    Good,
+    Fault(u8, usize),
+}
+
+// Where a record ends that fits, or that it runs past the end.
+pub enum Record {
+    Ends(usize),
+    Short,
+}
+
+// The record of n bytes at `at`.
+pub fn read_record(s: &[u8], at: usize, n: usize) -> Record
+    ensures { λ r. ⌜ r ≡ recordAt (now (s .entry)) at n ⌝ }
+{
+    if s.len() < at {
+        return Record::Short;
+    }
+    if s.len() - at < n {
+        return Record::Short;
+    }
+    Record::Ends(at + n)
+}
+
+// ---- numbers
+
+fn wide(x: u8) -> u64
+    ensures { λ r. ⌜ (r ≡ x) × (r < 256) ⌝ }
+{
+    x as u64
+}
+
+pub fn u16_at(s: &[u8], at: usize) -> u16
+    requires { ⌜ at + 2 ≤ length (now s) ⌝ }
+    ensures { λ r. ⌜ r ≡ u16 (now (s .entry)) at ⌝ }
+{
+    (wide(s[at]) + wide(s[at + 1]) * 256) as u16
+}
+
+pub fn u64_at(s: &[u8], at: usize) -> u64
+    requires { ⌜ at + 8 ≤ length (now s) ⌝ }
+    ensures { λ r. ⌜ r ≡ u64 (now (s .entry)) at ⌝ }
+{
+    wide(s[at])
+        + wide(s[at + 1]) * 0x100
+        + wide(s[at + 2]) * 0x1_0000
+        + wide(s[at + 3]) * 0x100_0000
+        + wide(s[at + 4]) * 0x1_0000_0000
+        + wide(s[at + 5]) * 0x100_0000_0000
+        + wide(s[at + 6]) * 0x1_0000_0000_0000
+        + wide(s[at + 7]) * 0x100_0000_0000_0000
+}
+
+pub fn float_at(s: &[u8], at: usize) -> f64
+    requires { ⌜ at + 8 ≤ length (now s) ⌝ }
+    ensures { λ r. ⌜ r ≡ Ieee.ofBits binary64 (u64 (now (s .entry)) at) ⌝ }
+{
+    value::float_of(u64_at(s, at))
+}
+
+// ---- constants
+
+// The n words at `at` may be constants: they are finite.
+pub fn all_finite(s: &[u8], at: usize, n: usize) -> bool
+    requires { ⌜ at + 8 * n ≤ length (now s) ⌝ }
+    ensures { λ r. ⌜ r ≡ every constantWord (constants n (now (s .entry)) at) ⌝ }
+{
+    let mut p = at;
+    let mut left = n;
+    while 0 < left {
+        let w = u64_at(s, p);
+        if 0x7FF0_0000_0000_0000 <= w % 0x8000_0000_0000_0000 {
+            return false;
+        }
+        p += 8;
+        left -= 1;
+    }
+    true
+}
+
+fn row_at(s: &[u8], at: usize) -> Row
+    requires { ⌜ at + 32 ≤ length (now s) ⌝ }
+    ensures { λ r. ⌜ r ≡ rowAt (now (s .entry)) at ⌝ }
+{
+    Row {
+        c0: float_at(s, at),
+        c1: float_at(s, at + 8),
+        c2: float_at(s, at + 16),
+        c3: float_at(s, at + 24),
+    }
+}
+
+fn matrix_at(s: &[u8], at: usize) -> Mat4
+    requires { ⌜ at + 128 ≤ length (now s) ⌝ }
+    ensures { λ r. ⌜ r ≡ matrixAt (now (s .entry)) at ⌝ }
+{
+    Mat4 {
+        r0: row_at(s, at),
+        r1: row_at(s, at + 32),
+        r2: row_at(s, at + 64),
+        r3: row_at(s, at + 96),
+    }
+}
+
+fn vector_at(s: &[u8], at: usize) -> Vec3
+    requires { ⌜ at + 24 ≤ length (now s) ⌝ }
+    ensures { λ r. ⌜ r ≡ vectorAt (now (s .entry)) at ⌝ }
+{
+    Vec3 {
+        x: float_at(s, at),
+        y: float_at(s, at + 8),
+        z: float_at(s, at + 16),
+    }
+}
+
+// The value of the type that stands at `at`.
+pub fn constant_at(s: &[u8], at: usize, ty: u8) -> Value
+    requires { ⌜ at + 8 * PortList.width ty ≤ length (now s) ⌝ }
+    ensures { λ r. ⌜ r ≡ valueOf ty (constants (PortList.width ty) (now (s .entry)) at) ⌝ }
+{
+    if ty == 1 {
+        Value::Scalar(float_at(s, at))
+    } else {
+        if ty == 2 {
+            Value::Vector(vector_at(s, at))
+        } else {
+            Value::Matrix(matrix_at(s, at))
+        }
+    }
+}
+
+// ---- payloads
+
+pub enum Payload {
+    Constant(Value),
+    // callee, argument count, where the references begin
+    Call(u16, u8, usize),
+    References(usize),
+}
+
+pub enum PayloadRead {
+    Is(Payload, usize),
+    Fault(u8, usize),
+}
+
+fn read_constant(s: &[u8], at: usize, kind: u8, row: Ports) -> PayloadRead
+    requires { ⌜ (row ≡ portsOf (kindOf kind)) × (row .form ≡ Forms.Form.Constant) ⌝ }
+    ensures { λ r. ⌜ r ≡ payloadRead (kindOf kind) at (payload Forms.Form.Constant (kindOf kind) (now (s .entry)) at) ⌝ }
+{
+    let ty = row.result;
+    let n = ports::width(ty);
+    let Record::Ends(end) = read_record(s, at, 8 * n) else {
+        return PayloadRead::Fault(5, at);
+    };
+    if !all_finite(s, at, n) {
+        return PayloadRead::Fault(7, at);
+    }
+    PayloadRead::Is(Payload::Constant(constant_at(s, at, ty)), end)
+}
+
+fn read_call(s: &[u8], at: usize, kind: u8) -> PayloadRead
+    ensures { λ r. ⌜ r ≡ payloadRead (kindOf kind) at (payload Forms.Form.Call (kindOf kind) (now (s .entry)) at) ⌝ }
+{
+    let Record::Ends(begin) = read_record(s, at, 3) else {
+        return PayloadRead::Fault(5, at);
+    };
+    let count = s[at + 2];
+    if 8 < count {
+        return PayloadRead::Fault(6, at);
+    }
+    let Record::Ends(end) = read_record(s, begin, 3 * (count as usize)) else {
+        return PayloadRead::Fault(5, begin);
+    };
+    PayloadRead::Is(Payload::Call(u16_at(s, at), count, begin), end)
+}
+
+fn read_references(s: &[u8], at: usize, kind: u8, row: Ports) -> PayloadRead
+    requires { ⌜ row ≡ portsOf (kindOf kind) ⌝ }
+    ensures { λ r. ⌜ r ≡ payloadRead (kindOf kind) at (payload Forms.Form.References (kindOf kind) (now (s .entry)) at) ⌝ }
+{
+    let Record::Ends(end) = read_record(s, at, 3 * (row.operands as usize)) else {
+        return PayloadRead::Fault(5, at);
+    };
+    PayloadRead::Is(Payload::References(at), end)
+}
+
+// The payload of a kind with this row.
+fn read_payload(s: &[u8], at: usize, kind: u8, row: Ports) -> PayloadRead
+    requires { ⌜ row ≡ portsOf (kindOf kind) ⌝ }
+    ensures { λ r. ⌜ r ≡ payloadRead (kindOf kind) at (payload (formOf (kindOf kind)) (kindOf kind) (now (s .entry)) at) ⌝ }
+{
+    let form = row.form;
+    match form {
+        Form::Absent => PayloadRead::Fault(6, at),
+        Form::Constant => read_constant(s, at, kind, row),
+        Form::References => read_references(s, at, kind, row),
+        Form::Call => read_call(s, at, kind),
+    }
+}
+
+// ---- nodes
+
+// A node as read: its id, its place and its kind's own payload.
+pub struct Node {
+    pub id: u16,
+    pub place: usize,
+    pub kind: u8,
+    pub ty: u8,
+    pub payload: Payload,
+}
+
+pub enum NodeRead {
+    Is(Node, usize),
+    Fault(u8, usize),
+}
+
+pub fn read_node(s: &[u8], at: usize) -> NodeRead
+    ensures { λ r. ⌜ r ≡ nodeRead (node (now (s .entry)) at) ⌝ }
+{
+    let Record::Ends(begin) = read_record(s, at, 4) else {
+        return NodeRead::Fault(5, at);
+    };
+    let id = u16_at(s, at);
+    let kind = s[at + 2];
+    let ty = s[at + 3];
+    if id < 1 {
+        return NodeRead::Fault(6, at);
+    }
+    let row = ports::ports_of(kind);
+    let form = row.form;
+    if !ports::exists(form) {
+        return NodeRead::Fault(6, at);
+    }
+    if !ports::type_fits(row, ty) {
+        return NodeRead::Fault(6, at);
+    }
+    let read = read_payload(s, begin, kind, row);
+    match read {
+        PayloadRead::Is(payload, end) => NodeRead::Is(
+            Node {
+                id,
+                place: at,
+                kind,
+                ty,
+                payload,
+            },
+            end,
+        ),
+        PayloadRead::Fault(number, place) => NodeRead::Fault(number, place),
+    }
+}
+
+// The nodes of a function: where they end.
+pub fn read_nodes(s: &[u8], at: usize, n: usize) -> Next
+    ensures { λ r. ⌜ r ≡ next (nodes n (now (s .entry)) at) ⌝ }
+{
+    let mut p = at;
+    let mut left = n;
+    while 0 < left {
+        let read = read_node(s, p);
+        match read {
+            NodeRead::Is(_, end) => {
+                p = end;
+            }
+            NodeRead::Fault(number, place) => {
+                return Next::Fault(number, place);
+            }
+        }
+        left -= 1;
+    }
+    Next::At(p)
+}
+
+// ---- functions
+
+// The type bytes of n inputs.
+pub fn read_inputs(s: &[u8], at: usize, n: usize) -> Next
+    ensures { λ r. ⌜ r ≡ behind (at + 1 * n) (inputs n (now (s .entry)) at) ⌝ }
+{
+    let mut p = at;
+    let mut left = n;
+    while 0 < left {
+        let Record::Ends(end) = read_record(s, p, 1) else {
+            return Next::Fault(5, p);
+        };
+        if s[p] < 1 {
+            return Next::Fault(6, p);
+        }
+        if 3 < s[p] {
+            return Next::Fault(6, p);
+        }
+        p = end;
+        left -= 1;
+    }
+    Next::At(p)
+}
+
+// The entries of n outputs.
+pub fn read_outputs(s: &[u8], at: usize, n: usize) -> Next
+    ensures { λ r. ⌜ r ≡ behind (at + 4 * n) (outputs n (now (s .entry)) at) ⌝ }
+{
+    let mut p = at;
+    let mut left = n;
+    while 0 < left {
+        let Record::Ends(end) = read_record(s, p, 4) else {
+            return Next::Fault(5, p);
+        };
+        if s[p] < 1 {
+            return Next::Fault(6, p);
+        }
+        if 3 < s[p] {
+            return Next::Fault(6, p);
+        }
+        p = end;
+        left -= 1;
+    }
+    Next::At(p)
+}
+
+// The fields of a function's head are in their ranges.
+fn in_range(id: u16, nin: u8, nout: u8, count: u16) -> bool
+    ensures { λ r. ⌜ r ≡ inRange (version1 .nodeLimit) id nin nout count ⌝ }
+{
+    if id < 1 {
+        return false;
+    }
+    if 8 < nin {
+        return false;
+    }
+    if nout < 1 {
+        return false;
+    }
+    if 8 < nout {
+        return false;
+    }
+    count <= 256
+}
+
+// A function: where it ends.
+pub fn read_function(s: &[u8], at: usize) -> Next
+    ensures { λ r. ⌜ r ≡ next (function (version1 .nodeLimit) (now (s .entry)) at) ⌝ }
+{
+    let Record::Ends(begin) = read_record(s, at, 6) else {
+        return Next::Fault(5, at);
+    };
+    let id = u16_at(s, at);
+    let nin = s[at + 2];
+    let nout = s[at + 3];
+    let count = u16_at(s, at + 4);
+    if !in_range(id, nin, nout, count) {
+        return Next::Fault(6, at);
+    }
+    let ins = read_inputs(s, begin, nin as usize);
+    let Next::At(outputs) = ins else {
+        return ins;
+    };
+    let outs = read_outputs(s, outputs, nout as usize);
+    let Next::At(nodes) = outs else {
+        return outs;
+    };
+    read_nodes(s, nodes, count as usize)
+}
+
+// n functions, one after another: where they end.
+pub fn read_functions(s: &[u8], at: usize, n: usize) -> Next
+    ensures { λ r. ⌜ r ≡ next (functions (version1 .nodeLimit) n (now (s .entry)) at) ⌝ }
+{
+    let mut p = at;
+    let mut left = n;
+    while 0 < left {
+        let read = read_function(s, p);
+        match read {
+            Next::At(end) => {
+                p = end;
+            }
+            Next::Fault(number, place) => {
+                return Next::Fault(number, place);
+            }
+        }
+        left -= 1;
+    }
+    Next::At(p)
+}
+
+// The whole table: all of it was read, or the first of the faults 1 to 8.
+pub fn read_table(s: &[u8]) -> Seen
+    ensures { λ r. ⌜ r ≡ seen (parse version1 (now (s .entry))) ⌝ }
+{
+    if s.len() < 8 {
+        return Seen::Fault(1, 0);
+    }
+    if s[0] != 0x49 {
+        return Seen::Fault(2, 0);
+    }
+    if s[1] != 0x46 {
+        return Seen::Fault(2, 0);
+    }
+    if s[2] != 0x47 {
+        return Seen::Fault(2, 0);
+    }
+    if u16_at(s, 3) != 1 {
+        return Seen::Fault(3, 3);
+    }
+    if u16_at(s, 6) as usize != s.len() {
+        return Seen::Fault(4, 6);
+    }
+    let count = s[5];
+    if count < 1 {
+        return Seen::Fault(6, 5);
+    }
+    if 16 < count {
+        return Seen::Fault(6, 5);
+    }
+    let read = read_functions(s, 8, count as usize);
+    match read {
+        Next::At(end) => {
+            if end == s.len() {
+                Seen::Good
+            } else {
+                Seen::Fault(8, end)
+            }
+        }
+        Next::Fault(number, place) => Seen::Fault(number, place),
+    }
+}
+
+// ---- lookups, in a table whose reading passed
+
+fn size(x: u8) -> usize
+    ensures { λ r. ⌜ (r ≡ x) × (r < 256) ⌝ }
+{
+    x as usize
+}
+
+// Where the node at `at` ends, by its kind's row.
+fn end_by(s: &[u8], at: usize, row: Ports) -> usize
+    requires { ⌜ ReadsNode (now s) at × (row ≡ portsOf (kindAt (now s) at)) ⌝ }
+    ensures { λ r. ⌜ r ≡ nodeEnd (now (s .entry)) at ⌝ }
+{
+    let form = row.form;
+    match form {
+        Form::Absent => at + 4,
+        Form::Constant => at + 4 + 8 * size(row.words),
+        Form::References => at + 4 + 3 * size(row.operands),
+        Form::Call => at + 4 + 3 + 3 * size(s[at + 4 + 2]),
+    }
+}
+
+// Where the node at `at` ends.
+pub fn node_end(s: &[u8], at: usize) -> usize
+    requires { ⌜ ReadsNode (now s) at ⌝ }
+    ensures { λ r. ⌜ r ≡ nodeEnd (now (s .entry)) at ⌝ }
+{
+    end_by(s, at, ports::ports_of(s[at + 2]))
+}
+
+// Where a node is found: its index among those looked through, and its place.
+pub enum Found {
+    At(usize, usize),
+    Nothing,
+}
+
+// The port list's rows. Held in a local, they are not built anew at each use.
+fn port_rows() -> [Ports; 25]
+    ensures { λ r. ⌜ r ≡ PortList.rows ⌝ }
+{
+    ports::PORTS
+}
+
+// The first with the id among the `count` nodes from the place `first` on. It walks the table's bytes.
+pub fn find_node(s: &[u8], first: usize, count: usize, id: u16) -> Found
+    requires { ⌜ ReadsNodes count (now s) first ⌝ }
+    ensures { λ r. ⌜ r ≡ nodeFound 0 id (nodesAt count (now (s .entry)) first) ⌝ }
+{
+    let rows = port_rows();
+    let mut at = first;
+    let mut i = 0;
+    while i < count {
+        if u16_at(s, at) == id {
+            return Found::At(i, at);
+        }
+        let k = size(s[at + 2]);
+        let row = rows[k];
+        at = end_by(s, at, row);
+        i += 1;
+    }
+    Found::Nothing
+}
+
+// The place of the node of an index, the first standing at `first`.
+pub fn node_place(s: &[u8], first: usize, count: usize, index: usize) -> usize
+    requires { ⌜ ReadsNodes count (now s) first × (index ≤ count) ⌝ }
+    ensures { λ r. ⌜ r ≡ nodePlace (now (s .entry)) first index ⌝ }
+{
+    let mut at = first;
+    let mut i = 0;
+    while i < index {
+        at = node_end(s, at);
+        i += 1;
+    }
+    at
+}
+
+// The function of the id among the first k, whose places `starts` has.
+pub fn find_function(s: &[u8], starts: &[usize; 16], k: usize, id: u16) -> Found
+    requires { ⌜ Started (now s) (now starts) k × (k ≤ 16) ⌝ }
+    ensures { λ r. ⌜ r ≡ functionFound id (earlier (version1 .header) (now (s .entry)) k) ⌝ }
+{
+    let mut i = k;
+    while 0 < i {
+        i -= 1;
+        let at = starts[i];
+        if u16_at(s, at) == id {
+            return Found::At(i, at);
+        }
+    }
+    Found::Nothing
+}

@@ -24,7 +24,7 @@ node c =
     (c .before .before .wide .result) (c .before .constant-words .result) (c .result-words .result) (c .before .before .wide .ensures .0) (c .before .constant-words .ensures .0) (c .result-words .ensures .0)
 
 -- the room for the whole
-fits : (c : tie.After-result-words) →
+fits : (c : tie.After-result-words) → 
     let a = c .before .before .before .before .before .before .before .before .args in
     (a .at + (2 + 2 * c .before .before .wide .result + 8 * c .before .constant-words .result) ≤ length (a .code .now))
     × (a .at + (2 + 2 * c .before .before .wide .result + 8 * c .before .constant-words .result) < 18446744073709551616)
@@ -40,8 +40,8 @@ operands-requires : tie.Need-operands-requires
 operands-requires c κs =
     let (x, x') = fits (c .before) in
     let y = node (c .before) .count in
-    let z = c .before .before .before .before .before .before .before .before .before .pre .1 .0 .2 in
-    (c .before .before .before .before .before .before .before .before .before .pre .1 .0 .0, c .before .before .before .before .before .before .before .before .before .pre .1 .0 .1, omega arith, simp length-set (omega arith))
+    let z = c .before .before .before .before .before .before .before .before .before .pre .1 .0 .1 in
+    (c .before .before .before .before .before .before .before .before .before .pre .1 .0 .0, omega arith, simp length-set (omega arith))
 
 add-copy-2 : tie.Need-add-copy-2
 add-copy-2 c = let (x, x') = fits (c .before .before .before .before .before) in omega arith
@@ -71,7 +71,7 @@ add-t29 : tie.Need-add-t29
 add-t29 c = let x = node (c .before .before .before .before .before .before .before .before) .words in let y = c .before .before .before .before .before .before .before .before .before .before .before .before .before .before .before .before .pre .1 .1 .words in omega arith
 
 add-t30 : tie.Need-add-t30
-add-t30 c = let x = node (c .before .before .before .before .before .before .before .before) .count in let y = c .before .before .before .before .before .before .before .before .before .before .before .before .before .before .before .before .pre .1 .0 .2 in omega arith
+add-t30 c = let x = node (c .before .before .before .before .before .before .before .before) .count in let y = c .before .before .before .before .before .before .before .before .before .before .before .before .before .before .before .before .pre .1 .0 .1 in omega arith
 
 same-length : tie.Need-same-length
 same-length c =
@@ -85,7 +85,8 @@ returns c =
     let n = c .before .before .before .before .before .before .before .before .before .before .wide .result in
     let v = c .before .before .before .before .before .before .before .before .before .constant-words .result in
     let xs = allBytes 2 (addressesIn (a .spots .now) (a .ins .now) (a .first) (a .spot) n) in
-    let ys = copied (8 * v) (a .t .now) (a .p + 4) in (
+    let ys = copied (8 * v) (a .t .now) (a .p + 4) in
+    (
       record {
         written =
             c .before .before .copy .ensures

@@ -1,0 +1,148 @@
+-- The reading of a payload and of a node, step by step.
+use Prim.Native.Nat.{ℕ, zero, suc, _+_, _-_, _*_, _≤_, _<_}
+use mathlib.Core.Path.{_≡_, refl, ap, sym, _∙_}
+use mathlib.Core.Bool.{Bool, true, false, _&&_, cond}
+use mathlib.Core.List.{List, [], _∷_}
+use native.Mathlib.Omega.{arith}
+use lib.Dec.{leb, eqb}
+use lib.ListN.{length}
+use borrow.Author.Tests.{le-leb, lt-leb}
+use Rattle.ports.specs.declared.Form.{Form}
+use Rattle.ports.specs.declared.Form as Forms
+use Rattle.ports.specs.Kinds.{Kind, kindOf}
+use Rattle.ports.specs.declared.Ports.{Ports}
+use Rattle.ports.specs.Ports.{width, portsOf, arity, constantWords, formOf, exists, typeFits, legal}
+use Rattle.value.specs.Values.{valueOf, constantWord, every}
+use Rattle.graph.specs.Outcome.{Outcome, ok, fault, _>>=_, _>>_, need}
+use Rattle.graph.specs.Graph as Graph
+use Rattle.graph.specs.Graph.{consts, refs, calls}
+use Rattle.graph.specs.Bytes.{byte, u16, u64}
+use Rattle.graph.specs.Read.{constants, references, Part, payload, node}
+use Rattle.graph.proofs.Steps.{takes, stops, passes, fails}
+use Rattle.graph.proofs.Formed.{refs-length}
+use Rattle.reader.specs.Layout.{kindAt}
+use Rattle.reader.specs.Records.{payloadOf, payloadRead, nodeRead}
+use Rattle.reader.specs.declared.PayloadRead.{PayloadRead}
+use Rattle.reader.specs.declared.Payload.{Payload}
+use Rattle.reader.specs.declared.Payload.the-variants.{Constant, Call, References}
+use Rattle.reader.specs.declared.NodeRead.{NodeRead}
+use Rattle.reader.specs.declared.Node.{Node}
+
+-- ---- constants
+
+module _ (s : List ℕ) (at : ℕ) (k : Kind) where
+  module _ (n : ℕ) (e : n ≡ constantWords k) where
+    pub constant-short : length s < at + 8 * n → payload Forms.Form.Constant k s at ≡ fault 5 at
+    constant-short h = fails _ 5 at _ (lt-leb (at + 8 * constantWords k) (length s) (rw e at h))
+
+    pub constant-infinite : at + 8 * n ≤ length s → every constantWord (constants n s at) ≡ false → payload Forms.Form.Constant k s at ≡ fault 7 at
+    constant-infinite h f =
+        passes _ 5 at _ (le-leb (at + 8 * constantWords k) (length s) (rw e at h)) ∙ fails (every constantWord (constants (constantWords k) s at)) 7 at _ (rw e at f)
+
+    constant-good :
+        at + 8 * n ≤ length s → every constantWord (constants n s at) ≡ true
+        → payload Forms.Form.Constant k s at ≡ ok (record { it = consts (constants (constantWords k) s at); next = at + 8 * constantWords k })
+    constant-good h f =
+        passes _ 5 at _ (le-leb (at + 8 * constantWords k) (length s) (rw e at h)) ∙ passes (every constantWord (constants (constantWords k) s at)) 7 at _ (rw e at f)
+
+    pub constant-read :
+        at + 8 * n ≤ length s → every constantWord (constants n s at) ≡ true
+        → payloadRead k at (payload Forms.Form.Constant k s at) ≡ PayloadRead.Is (Constant (valueOf (portsOf k .result) (constants n s at))) (at + 8 * n)
+    constant-read h f =
+        ap (payloadRead k at) (constant-good h f)
+        ∙ ap (λ (m : ℕ). PayloadRead.Is (Constant (valueOf (portsOf k .result) (constants m s at))) (at + 8 * m)) (sym e)
+
+  -- ---- references
+
+  module _ (n : ℕ) (e : n ≡ arity k) where
+    pub refs-short : length s < at + 3 * n → payload Forms.Form.References k s at ≡ fault 5 at
+    refs-short h = fails _ 5 at _ (lt-leb (at + 3 * arity k) (length s) (rw e at h))
+
+    pub refs-good : at + 3 * n ≤ length s → payloadRead k at (payload Forms.Form.References k s at) ≡ PayloadRead.Is (References at) (at + 3 * n)
+    refs-good h =
+        ap (payloadRead k at) (passes _ 5 at _ (le-leb (at + 3 * arity k) (length s) (rw e at h)))
+        ∙ ap (λ (m : ℕ). PayloadRead.Is (References at) (at + 3 * m)) (sym e)
+
+  -- ---- calls
+
+  pub call-short : length s < at + 3 → payload Forms.Form.Call k s at ≡ fault 5 at
+  call-short h = fails _ 5 at _ (lt-leb _ _ h)
+
+  pub call-many : at + 3 ≤ length s → 8 < byte s (at + 2) → payload Forms.Form.Call k s at ≡ fault 6 at
+  call-many h m = passes _ 5 at _ (le-leb _ _ h) ∙ fails _ 6 at _ (lt-leb _ _ m)
+
+  pub call-cut : at + 3 ≤ length s → byte s (at + 2) ≤ 8 → length s < at + 3 + 3 * byte s (at + 2) → payload Forms.Form.Call k s at ≡ fault 5 (at + 3)
+  call-cut h m l = passes _ 5 at _ (le-leb _ _ h) ∙ (passes _ 6 at _ (le-leb _ _ m) ∙ fails _ 5 (at + 3) _ (lt-leb _ _ l))
+
+  pub call-good :
+      at + 3 ≤ length s → byte s (at + 2) ≤ 8 → at + 3 + 3 * byte s (at + 2) ≤ length s
+      → payloadRead k at (payload Forms.Form.Call k s at) ≡ PayloadRead.Is (Call (u16 s at) (byte s (at + 2)) (at + 3)) (at + 3 + 3 * byte s (at + 2))
+  call-good h m l =
+      ap (payloadRead k at) (passes _ 5 at _ (le-leb _ _ h) ∙ (passes _ 6 at _ (le-leb _ _ m) ∙ passes _ 5 (at + 3) _ (le-leb _ _ l)))
+      ∙ ap (λ (n : ℕ). PayloadRead.Is (Call (u16 s at) n (at + 3)) (at + 3 + 3 * byte s (at + 2))) (refs-length (byte s (at + 2)) s (at + 3))
+
+-- ---- nodes
+
+-- a legal kind and type byte, by the kind's row
+module _ (row : Ports) (k : Kind) (t : ℕ) (e : row ≡ portsOf k) where
+  pub legal-absent : exists (row .form) ≡ false → legal k t ≡ false
+  legal-absent a = rw (rw e at a)
+
+  pub legal-untyped : exists (row .form) ≡ true → typeFits row t ≡ false → legal k t ≡ false
+  legal-untyped a b = rw (rw e at a) (rw e at b)
+
+  pub legal-row : exists (row .form) ≡ true → typeFits row t ≡ true → legal k t ≡ true
+  legal-row a b = rw (rw e at a) (rw e at b)
+
+module _ (s : List ℕ) (at : ℕ) where
+  pub node-short : length s < at + 4 → node s at ≡ fault 5 at
+  node-short h = fails _ 5 at _ (lt-leb _ _ h)
+
+  pub node-zero : at + 4 ≤ length s → u16 s at < 1 → node s at ≡ fault 6 at
+  node-zero h z = passes _ 5 at _ (le-leb _ _ h) ∙ fails _ 6 at _ (rw (lt-leb 1 (u16 s at) z))
+
+  pub node-illegal : at + 4 ≤ length s → 1 ≤ u16 s at → legal (kindAt s at) (byte s (at + 3)) ≡ false → node s at ≡ fault 6 at
+  node-illegal h i e = passes _ 5 at _ (le-leb _ _ h) ∙ fails _ 6 at _ (rw (le-leb 1 (u16 s at) i) e)
+
+  -- a head that passes: what the payload's reading gives
+  node-goes :
+      at + 4 ≤ length s → 1 ≤ u16 s at → legal (kindAt s at) (byte s (at + 3)) ≡ true
+      → node s at ≡ (payload (formOf (kindAt s at)) (kindAt s at) s (at + 4) >>= λ p. ok (record {
+        it = record { id = u16 s at; place = at; kind = byte s (at + 2); type = byte s (at + 3); payload = p .it };
+        next = p .next;
+      }))
+  node-goes h i e = passes _ 5 at _ (le-leb _ _ h) ∙ passes (leb 1 (u16 s at) && legal (kindAt s at) (byte s (at + 3))) 6 at _ (rw (le-leb 1 (u16 s at) i) e)
+
+  pub node-read-is :
+      at + 4 ≤ length s → 1 ≤ u16 s at → legal (kindAt s at) (byte s (at + 3)) ≡ true
+      → (q : Payload) (e : ℕ) → PayloadRead.Is q e ≡ payloadRead (kindAt s at) (at + 4) (payload (formOf (kindAt s at)) (kindAt s at) s (at + 4))
+      → nodeRead (node s at) ≡ NodeRead.Is (record { id = u16 s at; place = at; kind = byte s (at + 2); ty = byte s (at + 3); payload = q }) e
+  unfolding _>>=_
+  node-read-is h i l q e r = ap nodeRead (node-goes h i l) ∙ pickOne (payload (formOf (kindAt s at)) (kindAt s at) s (at + 4)) r
+    where
+      pickOne :
+          (g : Outcome (Part Graph.Payload)) → PayloadRead.Is q e ≡ payloadRead (kindAt s at) (at + 4) g
+          → nodeRead (g >>= λ p. ok (record {
+            it = record { id = u16 s at; place = at; kind = byte s (at + 2); type = byte s (at + 3); payload = p .it };
+            next = p .next;
+          }))
+          ≡ NodeRead.Is (record { id = u16 s at; place = at; kind = byte s (at + 2); ty = byte s (at + 3); payload = q }) e
+      pickOne (ok p) r = cc
+      pickOne (fault n p) r = let z : _≡_ {A = ℕ} 0 1 = cc in absurd (omega arith)
+
+  pub node-read-fault :
+      at + 4 ≤ length s → 1 ≤ u16 s at → legal (kindAt s at) (byte s (at + 3)) ≡ true
+      → (n p : ℕ) → PayloadRead.Fault n p ≡ payloadRead (kindAt s at) (at + 4) (payload (formOf (kindAt s at)) (kindAt s at) s (at + 4))
+      → nodeRead (node s at) ≡ NodeRead.Fault n p
+  unfolding _>>=_
+  node-read-fault h i l n p r = ap nodeRead (node-goes h i l) ∙ pickOne (payload (formOf (kindAt s at)) (kindAt s at) s (at + 4)) r
+    where
+      pickOne :
+          (g : Outcome (Part Graph.Payload)) → PayloadRead.Fault n p ≡ payloadRead (kindAt s at) (at + 4) g
+          → nodeRead (g >>= λ p. ok (record {
+            it = record { id = u16 s at; place = at; kind = byte s (at + 2); type = byte s (at + 3); payload = p .it };
+            next = p .next;
+          }))
+          ≡ NodeRead.Fault n p
+      pickOne (ok p) r = let z : _≡_ {A = ℕ} 0 1 = cc in absurd (omega arith)
+      pickOne (fault m q) r = cc

@@ -1,0 +1,75 @@
+-- Words of the table, one after another.
+use Prim.Native.Nat.{ℕ, zero, suc, _+_, _-_, _*_, _^_, _%_, _≤_, _<_}
+use mathlib.Core.Path.{_≡_, refl, ap, sym, _∙_}
+use mathlib.Core.Bool.{Bool, true, false, _&&_}
+use mathlib.Core.List.{List, [], _∷_}
+use native.Mathlib.Omega.{arith}
+use native.Mathlib.Nat.{not-suc-le-zero}
+use borrow.Author.Tests.{lt-ltb, le-ltb, ne-eqb}
+use lib.ListN.{getD}
+use lib.Ieee as Ieee
+use lib.Ieee.{Float, binary64}
+use Rattle.value.specs.declared.Row.{Row}
+use Rattle.value.specs.declared.Value.the-variants.{Vector, Matrix}
+use Rattle.ports.specs.Ports.{width}
+use Rattle.value.specs.Values as Values
+use Rattle.value.specs.Values.{vec, row, mat, valueOf, constantWord, every}
+use Rattle.reader.specs.Records.{floatAt, rowAt, matrixAt, vectorAt}
+use Rattle.graph.specs.Bytes.{u64}
+use Rattle.graph.specs.Read.{constants}
+
+-- the first of some words, and those behind it
+pub infinite-first : (n : ℕ) (s : List ℕ) (at : ℕ) → 0 < n → 2047 * 2 ^ 52 ≤ u64 s at % 2 ^ 63 → every constantWord (constants n s at) ≡ false
+infinite-first zero s at h e = absurd (not-suc-le-zero h)
+infinite-first (suc n) s at h e = rw (le-ltb (u64 s at % 2 ^ 63) (2047 * 2 ^ 52) e) refl
+
+pub finite-first :
+    (n : ℕ) (s : List ℕ) (at : ℕ) → 0 < n → u64 s at % 2 ^ 63 < 2047 * 2 ^ 52 → every constantWord (constants n s at) ≡ every constantWord (constants (n - 1) s (at + 8))
+finite-first zero s at h e = absurd (not-suc-le-zero h)
+finite-first (suc n) s at h e =
+    let m : suc n - 1 ≡ n = omega arith in
+    rw (m, lt-ltb (u64 s at % 2 ^ 63) (2047 * 2 ^ 52) e) refl
+
+-- ---- the value that the words stand for
+
+constant-word : (n i : ℕ) (s : List ℕ) (at : ℕ) → i < n → getD (constants n s at) i 0 ≡ u64 s (at + 8 * i)
+constant-word zero i s at h = absurd (not-suc-le-zero h)
+constant-word (suc n) zero s at h = let e : at + 8 * 0 ≡ at = omega arith in ap (u64 s) (sym e)
+constant-word (suc n) (suc i) s at h =
+    let e : at + 8 + 8 * i ≡ at + 8 * suc i = omega arith in
+    constant-word n i s (at + 8) (omega arith) ∙ ap (u64 s) e
+
+module _ (w : ℕ → ℕ) (ws : List ℕ) (at n : ℕ) (h : (i : ℕ) → i < n → getD ws i 0 ≡ w (at + 8 * i)) where
+  abbrev word : ℕ → Float
+  word a = Ieee.ofBits binary64 (w a)
+
+  row-words :
+      (i : ℕ) → i + 3 < n
+      → row (word (at + 8 * i)) (word (at + 8 * i + 8)) (word (at + 8 * i + 16)) (word (at + 8 * i + 24)) ≡ Values.rowAt ws i
+  row-words i l =
+      let e1 : at + 8 * (i + 1) ≡ at + 8 * i + 8 = omega arith in
+      let e2 : at + 8 * (i + 2) ≡ at + 8 * i + 16 = omega arith in
+      let e3 : at + 8 * (i + 3) ≡ at + 8 * i + 24 = omega arith in
+      rw (h i (omega arith), h (i + 1) (omega arith), h (i + 2) (omega arith), h (i + 3) l, e1, e2, e3)
+
+pub vector-constant : (s : List ℕ) (at : ℕ) → Vector (vectorAt s at) ≡ valueOf 2 (constants 3 s at)
+vector-constant s at = let e : at + 8 + 8 ≡ at + 16 = omega arith in ap (λ (a : ℕ). Vector (vec (floatAt s at) (floatAt s (at + 8)) (floatAt s a))) (sym e)
+
+pub matrix-constant : (s : List ℕ) (at : ℕ) → Matrix (matrixAt s at) ≡ Matrix (Values.matAt (constants 16 s at) 0)
+matrix-constant s at =
+    let ws = constants 16 s at in
+    let h : (i : ℕ) → i < 16 → getD ws i 0 ≡ u64 s (at + 8 * i) = λ i l. constant-word 16 i s at l in
+    let z : at + 8 * 0 ≡ at = omega arith in
+    let r : (i : ℕ) → i + 3 < 16 → rowAt s (at + 8 * i) ≡ Values.rowAt ws i = row-words (u64 s) ws at 16 h in
+    let a : rowAt s at ≡ Values.rowAt ws 0 = ap (rowAt s) (sym z) ∙ r 0 (omega arith) in
+    ap (λ (x : Row). Matrix (mat x (rowAt s (at + 32)) (rowAt s (at + 64)) (rowAt s (at + 96)))) a
+    ∙ (ap (λ (x : Row). Matrix (mat (Values.rowAt ws 0) x (rowAt s (at + 64)) (rowAt s (at + 96)))) (r 4 (omega arith))
+    ∙ (ap (λ (x : Row). Matrix (mat (Values.rowAt ws 0) (Values.rowAt ws 4) x (rowAt s (at + 96)))) (r 8 (omega arith))
+    ∙ ap (λ (x : Row). Matrix (mat (Values.rowAt ws 0) (Values.rowAt ws 4) (Values.rowAt ws 8) x)) (r 12 (omega arith))))
+
+-- every other type is a matrix
+pub other-constant : (s : List ℕ) (at t : ℕ) → (t ≡ 1 → ⊥) → (t ≡ 2 → ⊥) → Matrix (matrixAt s at) ≡ valueOf t (constants (width t) s at)
+other-constant s at t a b = matrix-constant s at ∙ rw (ne-eqb t 1 a, ne-eqb t 2 b)
+
+pub other-width : (t : ℕ) → (t ≡ 1 → ⊥) → (t ≡ 2 → ⊥) → width t ≡ 16
+other-width t a b = rw (ne-eqb t 1 a, ne-eqb t 2 b)

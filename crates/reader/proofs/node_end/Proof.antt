@@ -1,0 +1,15 @@
+use borrow.Author.Needs.{needs}
+use native.Mathlib.Omega.{arith}
+use Rattle.reader.proofs.Passed.{head-fits}
+use Rattle.reader.proofs.node_end.Statement.{statement}
+use Rattle.reader.proofs.node_end.Tie as tie
+
+pub node-end-spec : {M : Type 1} → statement M
+node-end-spec =
+    tie.close
+    (tie.spec
+    (λ c. let b = c .before in omega (arith, head-fits (b .args .s .now) (b .args .at) (b .pre)))
+    (λ c. let b = c .before .before in omega (arith, head-fits (b .args .s .now) (b .args .at) (b .pre)))
+    (λ c κs. search needs)
+    (λ c κs. (c .before .before .before .pre, c .ports-of .ensures))
+    (λ c. search needs))

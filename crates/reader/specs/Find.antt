@@ -1,0 +1,41 @@
+-- What the lookups answer, and where they may look.
+use Prim.Native.Nat.{ℕ, zero, suc, _+_, _<_}
+use mathlib.Core.Path.{_≡_}
+use mathlib.Core.Bool.{Bool, true, false, cond}
+use mathlib.Core.List.{List, [], _∷_}
+use lib.Dec.{eqb}
+use lib.ListN.{length, getD}
+use Rattle.graph.specs.Outcome.{Outcome, ok}
+use Rattle.graph.specs.Graph.{Node, Function}
+use Rattle.graph.specs.Read.{version1, Part, node, nodes, function}
+use Rattle.reader.specs.Layout.{functionPlace}
+use Rattle.reader.specs.declared.Found.{Found}
+use Rattle.reader.specs.declared.Found.the-variants.{At, Nothing}
+
+-- ---- places where the reading passed
+
+abbrev pub ReadsNode : List ℕ → ℕ → Type 0
+ReadsNode s at = (x : Part Node) × (node s at ≡ ok x)
+
+abbrev pub ReadsNodes : ℕ → List ℕ → ℕ → Type 0
+ReadsNodes n s at = (x : Part (List Node)) × (nodes n s at ≡ ok x)
+
+abbrev pub ReadsFunction : List ℕ → ℕ → Type 0
+ReadsFunction s at = (x : Part Function) × (function (version1 .nodeLimit) s at ≡ ok x)
+
+-- `starts` has the places of the first k functions
+pub record Started (s starts : List ℕ) (k : ℕ) : Type 0 where
+  pub places : (j : ℕ) → j < k → getD starts j 0 ≡ functionPlace (version1 .header) s j
+  pub reads : (j : ℕ) → j < k → ReadsFunction s (functionPlace (version1 .header) s j)
+
+-- ---- answers
+
+-- the first node with an id: its index, counted from i, and its place
+abbrev pub nodeFound : ℕ → ℕ → List Node → Found
+nodeFound i id [] = Nothing
+nodeFound i id (n ∷ ns) = let r = nodeFound (i + 1) id ns in cond (eqb (n .id) id) (At i (n .place)) r
+
+-- the function of an id among some of which the last stands first: its index and its place
+abbrev pub functionFound : ℕ → List Function → Found
+functionFound id [] = Nothing
+functionFound id (f ∷ fs) = let r = functionFound id fs in cond (eqb (f .id) id) (At (length fs) (f .place)) r

@@ -1,0 +1,81 @@
+-- What the readers answer, by the graph's own reading.
+use Prim.Native.Nat.{ℕ, _+_}
+use mathlib.Core.Bool.{Bool, true, false, cond}
+use mathlib.Core.List.{List, [], _∷_}
+use lib.Dec.{leb}
+use lib.ListN.{length}
+use lib.Ieee as Ieee
+use lib.Ieee.{Float, binary64}
+use Rattle.ports.specs.Kinds.{Kind, kindOf}
+use Rattle.ports.specs.Ports.{portsOf}
+use Rattle.value.specs.declared.Vec3.{Vec3}
+use Rattle.value.specs.declared.Row.{Row}
+use Rattle.value.specs.declared.Mat4.{Mat4}
+use Rattle.value.specs.Values.{vec, row, mat, valueOf}
+use Rattle.graph.specs.Outcome.{Outcome, ok, fault}
+use Rattle.graph.specs.Graph as Graph
+use Rattle.graph.specs.Graph.{consts, refs, calls}
+use Rattle.graph.specs.Bytes.{u64}
+use Rattle.graph.specs.Read.{Part}
+use Rattle.reader.specs.declared.Next.{Next}
+use Rattle.reader.specs.declared.Seen.{Seen}
+use Rattle.reader.specs.declared.Record.{Record}
+use Rattle.reader.specs.declared.Node.{Node}
+use Rattle.reader.specs.declared.NodeRead.{NodeRead}
+use Rattle.reader.specs.declared.Payload.{Payload}
+use Rattle.reader.specs.declared.Payload.the-variants.{Constant, Call, References}
+use Rattle.reader.specs.declared.PayloadRead.{PayloadRead}
+
+-- ---- answers
+
+module _ {A : Type 0} where
+  -- all was read, or the first fault
+  abbrev pub seen : Outcome A → Seen
+  seen (ok a) = Seen.Good
+  seen (fault n p) = Seen.Fault n p
+
+  -- the place behind what was read, or the first fault
+  abbrev pub next : Outcome (Part A) → Next
+  next (ok p) = Next.At (p .next)
+  next (fault n p) = Next.Fault n p
+
+  -- the same of a reading that does not say the place
+  abbrev pub behind : ℕ → Outcome A → Next
+  behind end (ok a) = Next.At end
+  behind end (fault n p) = Next.Fault n p
+
+-- a record of n bytes
+abbrev pub recordAt : List ℕ → ℕ → ℕ → Record
+recordAt s at n = cond (leb (at + n) (length s)) (Record.Ends (at + n)) Record.Short
+
+-- ---- constants
+
+abbrev pub floatAt : List ℕ → ℕ → Float
+floatAt s at = Ieee.ofBits binary64 (u64 s at)
+
+abbrev pub rowAt : List ℕ → ℕ → Row
+rowAt s at = row (floatAt s at) (floatAt s (at + 8)) (floatAt s (at + 16)) (floatAt s (at + 24))
+
+abbrev pub matrixAt : List ℕ → ℕ → Mat4
+matrixAt s at = mat (rowAt s at) (rowAt s (at + 32)) (rowAt s (at + 64)) (rowAt s (at + 96))
+
+abbrev pub vectorAt : List ℕ → ℕ → Vec3
+vectorAt s at = vec (floatAt s at) (floatAt s (at + 8)) (floatAt s (at + 16))
+
+-- ---- payloads and nodes: a call and the others keep where their references begin
+
+abbrev pub payloadOf : Kind → ℕ → Graph.Payload → Payload
+payloadOf k at (consts ws) = Constant (valueOf (portsOf k .result) ws)
+payloadOf k at (calls c rs) = Call c (length rs) (at + 3)
+payloadOf k at (refs rs) = References at
+
+abbrev pub payloadRead : Kind → ℕ → Outcome (Part Graph.Payload) → PayloadRead
+payloadRead k at (ok p) = PayloadRead.Is (payloadOf k at (p .it)) (p .next)
+payloadRead k at (fault n p) = PayloadRead.Fault n p
+
+abbrev pub nodeOf : Graph.Node → Node
+nodeOf n = record { id = n .id; place = n .place; kind = n .kind; ty = n .type; payload = payloadOf (kindOf (n .kind)) (n .place + 4) (n .payload) }
+
+abbrev pub nodeRead : Outcome (Part Graph.Node) → NodeRead
+nodeRead (ok p) = NodeRead.Is (nodeOf (p .it)) (p .next)
+nodeRead (fault n p) = NodeRead.Fault n p
