@@ -12,3 +12,6 @@ pub mod Opening
 pub mod Emission
 pub mod Filling
 pub mod Laying
+pub mod Coding
+pub mod Accepting
+pub mod Spreading

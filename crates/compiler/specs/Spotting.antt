@@ -28,6 +28,7 @@ pub record Accepted (s : List ℕ) (k : ℕ) : Type 0 where
   pub read : table s ≡ ok (before s (byte s 5))
   pub sound : AllSound (before s (byte s 5))
   pub most : k ≤ byte s 5
+  pub short : length s < 65536
 
 -- ---- arrays that are read
 
