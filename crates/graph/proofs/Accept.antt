@@ -150,6 +150,28 @@ loop-free-iff f = (no-loop f tt, free-each (f .nodes) (f .nodes))
 
 -- ---- the whole of a function
 
+-- what the checks before the loops tell
+pub resolved-by :
+    (early : List Function) (f : Function) → Formed f → findFunction (f .id) early ≡ none → (a b c d : Unit {0}) → fresh [] (f .nodes) ≡ ok a
+    → each (λ n. callOk early (n .place) (n .payload)) (f .nodes) ≡ ok b
+    → each (λ o. refOk early f (o .type) (o .ref)) (f .outputs) ≡ ok c
+    → each (λ n. refsOk early f (wantsOf early n (n .payload)) (reads n)) (f .nodes) ≡ ok d → Resolved early f
+resolved-by early f formed e0 a1 a2 a3 a4 f1 f2 f3 f4 =
+    let shaped : (n : Node) → Is n (f .nodes) → Shaped early n (n .payload) × (length (readsOf (n .payload)) ≡ length (wantsOf early n (n .payload))) =
+    λ n h.
+    call-shaped early n (n .payload) (is-each FormedNode (f .nodes) (formed .nodes) n h .payload)
+    (each-is (λ n. callOk early (n .place) (n .payload)) (f .nodes) a2 f2 n h) in
+    record {
+      formed = formed;
+      fresh = e0;
+      own = λ n h. fresh-own [] (f .nodes) a1 f1 n h .1;
+      shaped = λ n h. shaped n h .0;
+      wired = λ n h.
+          refs-wired early f (wantsOf early n (n .payload)) (reads n) tt (shaped n h .1)
+          (each-is (λ n. refsOk early f (wantsOf early n (n .payload)) (reads n)) (f .nodes) a4 f4 n h);
+      answers = outputs-wired early f (f .outputs) a3 f3;
+    }
+
 pub judged : (early : List Function) (f : Function) (u : Unit {0}) → Formed f → judge early f ≡ ok u → Sound early f
 judged early f u formed e =
     let (e0, e1) = passed (not (found (findFunction (f .id) early))) 9 (f .place) _ u e in
@@ -157,21 +179,8 @@ judged early f u formed e =
     let (a2, f2, e3) = after (each (λ n. callOk early (n .place) (n .payload)) (f .nodes)) _ u e2 in
     let (a3, f3, e4) = after (each (λ o. refOk early f (o .type) (o .ref)) (f .outputs)) _ u e3 in
     let (a4, f4, e5) = after (each (λ n. refsOk early f (wantsOf early n (n .payload)) (reads n)) (f .nodes)) _ u e4 in
-    let shaped : (n : Node) → Is n (f .nodes) → Shaped early n (n .payload) × (length (readsOf (n .payload)) ≡ length (wantsOf early n (n .payload))) =
-    λ n h.
-    call-shaped early n (n .payload) (is-each FormedNode (f .nodes) (formed .nodes) n h .payload)
-    (each-is (λ n. callOk early (n .place) (n .payload)) (f .nodes) a2 f2 n h) in
     record {
-      resolved = record {
-        formed = formed;
-        fresh = not-found (findFunction (f .id) early) e0;
-        own = λ n h. fresh-own [] (f .nodes) a1 f1 n h .1;
-        shaped = λ n h. shaped n h .0;
-        wired = λ n h.
-            refs-wired early f (wantsOf early n (n .payload)) (reads n) tt (shaped n h .1)
-            (each-is (λ n. refsOk early f (wantsOf early n (n .payload)) (reads n)) (f .nodes) a4 f4 n h);
-        answers = outputs-wired early f (f .outputs) a3 f3;
-      };
+      resolved = resolved-by early f formed (not-found (findFunction (f .id) early) e0) a1 a2 a3 a4 f1 f2 f3 f4;
       free = no-loop f u e5;
     }
 

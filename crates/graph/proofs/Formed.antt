@@ -111,7 +111,7 @@ module _ (s : List ℕ) (small : Bytes s) where
       let q : x .it ∷ r .it ≡ p .it = cc in
       subst (λ (ns : List Node). (length ns ≡ suc n) × Each FormedNode ns) q (ap suc l, (node-formed at x ex, h))
 
-  function-formed : (limit at : ℕ) (x : Part Function) → function limit s at ≡ ok x → Formed (x .it) × (length (x .it .nodes) ≤ limit)
+  pub function-formed : (limit at : ℕ) (x : Part Function) → function limit s at ≡ ok x → Formed (x .it) × (length (x .it .nodes) ≤ limit)
   function-formed limit at x e =
       let (t, e1) = passed _ _ _ _ _ e in
       let (u, e2) = passed _ _ _ _ _ e1 in

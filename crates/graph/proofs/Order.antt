@@ -256,7 +256,7 @@ reads-in early f r w e = go (eqb (r .node) 0) refl e
     go true q h = inl (eqb-true (r .node) 0 q)
     go false q h = inr (found-in (f .nodes) early (r .node) (r .port) w h)
 
-wired-in :
+pub wired-in :
     (early : List Function) (f : Function) (ws : List ℕ) (rs : List Ref) → Wired (refType early f) ws rs → (j : ℕ) → member j (map (λ r. r .node) rs) ≡ true
     → (j ≡ 0) ⊎ In j (ids (f .nodes))
 wired-in early f ws [] h j e = let z : _≡_ {A = ℕ} 0 1 = cc in absurd (omega arith)

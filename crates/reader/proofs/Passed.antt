@@ -1,7 +1,8 @@
 -- Nodes and functions whose reading passed.
 use Prim.Native.Nat.{ℕ, zero, suc, _+_, _-_, _*_, _≤_, _<_}
 use mathlib.Core.Path.{_≡_, refl, ap, sym, _∙_, subst}
-use mathlib.Core.Bool.{Bool, true, false, _&&_}
+use mathlib.Core.Bool.{Bool, true, false, _&&_, cond}
+use mathlib.Core.Option.{Option, none, some}
 use mathlib.Core.List.{List, [], _∷_}
 use native.Mathlib.Omega.{arith}
 use native.Mathlib.Nat.{not-suc-le-zero}
@@ -18,6 +19,7 @@ use Rattle.ports.proofs.Laws.{no-kind}
 use Rattle.graph.specs.Outcome.{Outcome, ok, fault}
 use Rattle.graph.specs.Bytes.{byte, u16}
 use Rattle.graph.specs.Graph.{Payload, Node, Output, Function}
+use Rattle.graph.specs.Look.{findNode, findFunction}
 use Rattle.graph.specs.Read.{version1, inRange, inputs, outputs, Part, payload, node, nodes, function, functions, parse}
 use Rattle.graph.proofs.Loops.{and-inv}
 use Rattle.graph.proofs.Steps.{took, passed}
@@ -142,9 +144,51 @@ module _ (s : List ℕ) where
 
 -- ---- a function
 
+inputs-fit : (n : ℕ) (s : List ℕ) (at : ℕ) (ts : List ℕ) → inputs n s at ≡ ok ts → at ≤ length s → at + n ≤ length s
+inputs-fit zero s at ts e h = omega arith
+inputs-fit (suc n) s at ts e h =
+    let (a, e1) = passed _ _ _ _ _ e in
+    let (b, e2) = passed _ _ _ _ _ e1 in
+    let (r, er, e3) = took _ _ _ e2 in
+    let l : at + 1 ≤ length s = leb-true _ _ a in
+    let m = inputs-fit n s (at + 1) r er l in
+    omega arith
+
+outputs-fit : (n : ℕ) (s : List ℕ) (at : ℕ) (os : List Output) → outputs n s at ≡ ok os → at ≤ length s → at + 4 * n ≤ length s
+outputs-fit zero s at os e h = omega arith
+outputs-fit (suc n) s at os e h =
+    let (a, e1) = passed _ _ _ _ _ e in
+    let (b, e2) = passed _ _ _ _ _ e1 in
+    let (r, er, e3) = took _ _ _ e2 in
+    let l : at + 4 ≤ length s = leb-true _ _ a in
+    let m = outputs-fit n s (at + 4) r er l in
+    omega arith
+
+-- what is known of a function that was read
+pub record Holds (s : List ℕ) (at : ℕ) : Type 0 where
+  pub head : at + 6 ≤ length s
+  pub inputs : at + 6 + inputCount s at ≤ length s
+  pub outputs : nodesPlace s at ≤ length s
+  pub few : nodeCount s at ≤ 256
+  pub nodes : ReadsNodes (nodeCount s at) s (nodesPlace s at)
+
+pub function-holds : (s : List ℕ) (at : ℕ) → ReadsFunction s at → Holds s at
+function-holds s at (x, e) =
+    let (t, e1) = passed _ _ _ _ _ e in
+    let (u, e2) = passed _ _ _ _ _ e1 in
+    let (ins, ei, e3) = took _ _ _ e2 in
+    let (outs, eo, e4) = took _ _ _ e3 in
+    let (ns, en, e5) = took _ _ _ e4 in
+    let nin = byte s (at + 2) in
+    let nout = byte s (at + 3) in
+    let (u1, u2) = and-inv (leb 1 (u16 s at) && leb nin 8 && (leb 1 nout && leb nout 8)) (leb (u16 s (at + 4)) 256) u in
+    let h : at + 6 ≤ length s = leb-true _ _ t in
+    let i : at + 6 + nin ≤ length s = inputs-fit nin s (at + 6) ins ei h in
+    record { head = h; inputs = i; outputs = outputs-fit nout s (at + 6 + nin) outs eo i; few = leb-true _ _ u2; nodes = (ns, en) }
+
 module _ (s : List ℕ) (at : ℕ) where
   pub function-fits : ReadsFunction s at → at + 6 ≤ length s
-  function-fits (x, e) = let (t, e1) = passed _ _ _ _ _ e in leb-true _ _ t
+  function-fits r = function-holds s at r .head
 
 -- ---- looking up
 
@@ -186,3 +230,77 @@ module _ (begin : ℕ) (s : List ℕ) (id : ℕ) where
       let m : suc k - 1 ≡ k = omega arith in
       let p : at ≡ functionPlace begin s k = q ∙ ap (functionPlace begin s) m in
       rw (ne-eqb (u16 s (functionPlace begin s k)) id (λ w. e (ap (u16 s) p ∙ w)), m)
+
+-- what a function that is found is
+pub found-function :
+    (begin : ℕ) (s : List ℕ) (id k j p : ℕ) → functionFound id (earlier begin s k) ≡ At j p
+    → (j < k) × (p ≡ functionPlace begin s j) × (findFunction id (earlier begin s k) ≡ some (functionAt s p))
+unfolding functionAt earlier
+found-function begin s id zero j p e = let z : _≡_ {A = ℕ} 0 1 = cc in absurd (omega arith)
+found-function begin s id (suc k) j p e = pickOne (eqb (u16 s (functionPlace begin s k)) id) (λ w. found-function begin s id k j p w) e
+  where
+    pickOne :
+        (b : Bool)
+        → (functionFound id (earlier begin s k) ≡ At j p → (j < k) × (p ≡ functionPlace begin s j) × (findFunction id (earlier begin s k) ≡ some (functionAt s p)))
+        → cond b (At (length (earlier begin s k)) (functionPlace begin s k)) (functionFound id (earlier begin s k)) ≡ At j p
+        → (j < suc k) × (p ≡ functionPlace begin s j) × (cond b (some (functionAt s (functionPlace begin s k))) (findFunction id (earlier begin s k)) ≡ some (functionAt s p))
+    pickOne true ih w =
+        let a : length (earlier begin s k) ≡ j = cc in
+        let q : functionPlace begin s k ≡ p = cc in
+        let m : j ≡ k = sym a ∙ length-earlier begin s k in
+        (omega arith, sym q ∙ ap (functionPlace begin s) (sym m), ap (λ (x : ℕ). some (functionAt s x)) q)
+    pickOne false ih w = let (a, q, f) = ih w in (omega arith, q, f)
+
+pub no-function : (begin : ℕ) (s : List ℕ) (id k : ℕ) → functionFound id (earlier begin s k) ≡ Nothing → findFunction id (earlier begin s k) ≡ none
+unfolding functionAt earlier
+no-function begin s id zero e = refl
+no-function begin s id (suc k) e = pickOne (eqb (u16 s (functionPlace begin s k)) id) (λ w. no-function begin s id k w) e
+  where
+    pickOne :
+        (b : Bool) → (functionFound id (earlier begin s k) ≡ Nothing → findFunction id (earlier begin s k) ≡ none)
+        → cond b (At (length (earlier begin s k)) (functionPlace begin s k)) (functionFound id (earlier begin s k)) ≡ Nothing
+        → cond b (some (functionAt s (functionPlace begin s k))) (findFunction id (earlier begin s k)) ≡ none
+    pickOne true ih w = let z : _≡_ {A = ℕ} 0 1 = cc in absurd (omega arith)
+    pickOne false ih w = ih w
+
+-- what a node that is found is
+pub record FoundNode (s : List ℕ) (id n first i j p : ℕ) : Type 0 where
+  pub reads : ReadsNode s p
+  pub find : findNode id (nodesAt n s first) ≡ some (nodeAt s p)
+  pub low : i ≤ j
+  pub below : j < i + n
+
+pub found-node : (s : List ℕ) (id n first i j p : ℕ) → ReadsNodes n s first → nodeFound i id (nodesAt n s first) ≡ At j p → FoundNode s id n first i j p
+unfolding nodeAt nodesAt
+found-node s id zero first i j p r e = let z : _≡_ {A = ℕ} 0 1 = cc in absurd (omega arith)
+found-node s id (suc n) first i j p r e =
+    let m : suc n - 1 ≡ n = omega arith in
+    let q = subst (λ (k : ℕ). ReadsNodes k s (nodeEnd s first)) m (rest-reads s (suc n) first (omega arith) r) in
+    let (a, b, c, d) = pickOne (eqb (u16 s first) id) (λ w. found-node s id n (nodeEnd s first) (i + 1) j p q w) e in
+    record { reads = a; find = b; low = c; below = d }
+  where
+    pickOne :
+        (b : Bool) → (nodeFound (i + 1) id (nodesAt n s (nodeEnd s first)) ≡ At j p → FoundNode s id n (nodeEnd s first) (i + 1) j p)
+        → cond b (At i first) (nodeFound (i + 1) id (nodesAt n s (nodeEnd s first))) ≡ At j p
+        → ReadsNode s p × (cond b (some (nodeAt s first)) (findNode id (nodesAt n s (nodeEnd s first))) ≡ some (nodeAt s p)) × (i ≤ j) × (j < i + suc n)
+    pickOne true ih w =
+        let a : i ≡ j = cc in
+        let q : first ≡ p = cc in
+        (subst (ReadsNode s) q (first-reads s (suc n) first (omega arith) r), ap (λ (x : ℕ). some (nodeAt s x)) q, omega arith, omega arith)
+    pickOne false ih w =
+        let g = ih w in
+        let a = g .low in
+        let b = g .below in
+        (g .reads, g .find, omega arith, omega arith)
+
+pub no-node : (s : List ℕ) (id n first i : ℕ) → nodeFound i id (nodesAt n s first) ≡ Nothing → findNode id (nodesAt n s first) ≡ none
+unfolding nodeAt nodesAt
+no-node s id zero first i e = refl
+no-node s id (suc n) first i e = pickOne (eqb (u16 s first) id) (λ w. no-node s id n (nodeEnd s first) (i + 1) w) e
+  where
+    pickOne :
+        (b : Bool) → (nodeFound (i + 1) id (nodesAt n s (nodeEnd s first)) ≡ Nothing → findNode id (nodesAt n s (nodeEnd s first)) ≡ none)
+        → cond b (At i first) (nodeFound (i + 1) id (nodesAt n s (nodeEnd s first))) ≡ Nothing
+        → cond b (some (nodeAt s first)) (findNode id (nodesAt n s (nodeEnd s first))) ≡ none
+    pickOne true ih w = let z : _≡_ {A = ℕ} 0 1 = cc in absurd (omega arith)
+    pickOne false ih w = ih w

@@ -8,15 +8,16 @@ use Rattle.executor.proofs.compose_vector.Tie as tie
 returns : tie.Need-returns
 unfolding execute results
 returns c =
-    rw
-    (c .before .before .put-value .ensures,
-    c .before .before .before .compose-vector .ensures,
-    c .before .before .before .before .before .get3 .ensures,
-    c .before .before .before .before .before .before .u16-at3 .ensures .0,
-    c .before .before .before .before .before .before .before .before .get2 .ensures,
-    c .before .before .before .before .before .before .before .before .before .u16-at2 .ensures .0,
-    c .before .before .before .before .before .before .before .before .before .before .before .get .ensures,
-    c .before .before .before .before .before .before .before .before .before .before .before .before .u16-at .ensures .0)
+    rw (
+      c .before .before .put-value .ensures,
+      c .before .before .before .compose-vector .ensures,
+      c .before .before .before .before .before .get3 .ensures,
+      c .before .before .before .before .before .before .u16-at3 .ensures .0,
+      c .before .before .before .before .before .before .before .before .get2 .ensures,
+      c .before .before .before .before .before .before .before .before .before .u16-at2 .ensures .0,
+      c .before .before .before .before .before .before .before .before .before .before .before .get .ensures,
+      c .before .before .before .before .before .before .before .before .before .before .before .before .u16-at .ensures .0,
+    )
 
 pub compose-vector-spec : {M : Type 1} → statement M
 compose-vector-spec =

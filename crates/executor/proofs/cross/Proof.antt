@@ -8,13 +8,14 @@ use Rattle.executor.proofs.cross.Tie as tie
 returns : tie.Need-returns
 unfolding execute results
 returns c =
-    rw
-    (c .before .before .put-value .ensures,
-    c .before .before .before .cross .ensures,
-    c .before .before .before .before .before .get-vec2 .ensures,
-    c .before .before .before .before .before .before .u16-at2 .ensures .0,
-    c .before .before .before .before .before .before .before .before .get-vec .ensures,
-    c .before .before .before .before .before .before .before .before .before .u16-at .ensures .0)
+    rw (
+      c .before .before .put-value .ensures,
+      c .before .before .before .cross .ensures,
+      c .before .before .before .before .before .get-vec2 .ensures,
+      c .before .before .before .before .before .before .u16-at2 .ensures .0,
+      c .before .before .before .before .before .before .before .before .get-vec .ensures,
+      c .before .before .before .before .before .before .before .before .before .u16-at .ensures .0,
+    )
 
 pub cross-spec : {M : Type 1} → statement M
 cross-spec =

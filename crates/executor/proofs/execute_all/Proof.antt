@@ -29,9 +29,9 @@ loop-less c = omega (arith, c .before .before .before .before .loop-test .taken)
 
 loop-again : tie.Need-loop-again Inv-loop μ-loop
 loop-again c = (
-      next _ _ _ _ _ _ _ _ (c .before .before .before .before .before .loop .inv .0) (c .before .before .before .before .loop-test .taken) (c .before .before .execute .ensures),
-      same-size _ _ _ _ _ _ _ _ (c .before .before .execute .ensures) ∙ c .before .before .before .before .before .loop .inv .1,
-    )
+  next _ _ _ _ _ _ _ _ (c .before .before .before .before .before .loop .inv .0) (c .before .before .before .before .loop-test .taken) (c .before .before .execute .ensures),
+  same-size _ _ _ _ _ _ _ _ (c .before .before .execute .ensures) ∙ c .before .before .before .before .before .loop .inv .1,
+)
 
 same-length : tie.Need-same-length Inv-loop μ-loop
 same-length c = c .before .loop .inv .1

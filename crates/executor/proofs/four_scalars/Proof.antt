@@ -9,17 +9,18 @@ returns : tie.Need-returns
 unfolding operate
 returns c =
     record {
-      words = rw
-      (c .before .before .put-value .ensures,
-      c .before .before .before .before .step .ensures,
-      c .before .before .before .before .before .get4 .ensures,
-      c .before .before .before .before .before .before .u16-at4 .ensures .0,
-      c .before .before .before .before .before .before .before .before .get3 .ensures,
-      c .before .before .before .before .before .before .before .before .before .u16-at3 .ensures .0,
-      c .before .before .before .before .before .before .before .before .before .before .before .get2 .ensures,
-      c .before .before .before .before .before .before .before .before .before .before .before .before .u16-at2 .ensures .0,
-      c .before .before .before .before .before .before .before .before .before .before .before .before .before .before .get .ensures,
-      c .before .before .before .before .before .before .before .before .before .before .before .before .before .before .before .u16-at .ensures .0);
+      words = rw (
+        c .before .before .put-value .ensures,
+        c .before .before .before .before .step .ensures,
+        c .before .before .before .before .before .get4 .ensures,
+        c .before .before .before .before .before .before .u16-at4 .ensures .0,
+        c .before .before .before .before .before .before .before .before .get3 .ensures,
+        c .before .before .before .before .before .before .before .before .before .u16-at3 .ensures .0,
+        c .before .before .before .before .before .before .before .before .before .before .before .get2 .ensures,
+        c .before .before .before .before .before .before .before .before .before .before .before .before .u16-at2 .ensures .0,
+        c .before .before .before .before .before .before .before .before .before .before .before .before .before .before .get .ensures,
+        c .before .before .before .before .before .before .before .before .before .before .before .before .before .before .before .u16-at .ensures .0,
+      );
       next-at = omega arith;
       next-result = omega arith;
     }

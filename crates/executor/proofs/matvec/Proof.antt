@@ -8,13 +8,14 @@ use Rattle.executor.proofs.matvec.Tie as tie
 returns : tie.Need-returns
 unfolding execute results
 returns c =
-    rw
-    (c .before .before .put-value .ensures,
-    c .before .before .before .matvec .ensures,
-    c .before .before .before .before .before .get-vec .ensures,
-    c .before .before .before .before .before .before .u16-at2 .ensures .0,
-    c .before .before .before .before .before .before .before .before .get-mat .ensures,
-    c .before .before .before .before .before .before .before .before .before .u16-at .ensures .0)
+    rw (
+      c .before .before .put-value .ensures,
+      c .before .before .before .matvec .ensures,
+      c .before .before .before .before .before .get-vec .ensures,
+      c .before .before .before .before .before .before .u16-at2 .ensures .0,
+      c .before .before .before .before .before .before .before .before .get-mat .ensures,
+      c .before .before .before .before .before .before .before .before .before .u16-at .ensures .0,
+    )
 
 pub matvec-spec : {M : Type 1} → statement M
 matvec-spec =

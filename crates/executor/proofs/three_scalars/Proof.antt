@@ -9,16 +9,17 @@ returns : tie.Need-returns
 unfolding operate
 returns c =
     record {
-      words = rw
-      (c .before .before .put-value .ensures,
-      c .before .before .before .before .step .ensures,
-      c .before .before .before .before .before .get3 .ensures,
-      c .before .before .before .before .before .before .u16-at3 .ensures .0,
-      c .before .before .before .before .before .before .before .before .get2 .ensures,
-      c .before .before .before .before .before .before .before .before .before .u16-at2 .ensures .0,
-      c .before .before .before .before .before .before .before .before .before .before .before .get .ensures,
-      c .before .before .before .before .before .before .before .before .before .before .before .before .u16-at .ensures .0,
-      c .before .before .before .before .before .before .before .before .before .before .before .before .before .before .zero .ensures);
+      words = rw (
+        c .before .before .put-value .ensures,
+        c .before .before .before .before .step .ensures,
+        c .before .before .before .before .before .get3 .ensures,
+        c .before .before .before .before .before .before .u16-at3 .ensures .0,
+        c .before .before .before .before .before .before .before .before .get2 .ensures,
+        c .before .before .before .before .before .before .before .before .before .u16-at2 .ensures .0,
+        c .before .before .before .before .before .before .before .before .before .before .before .get .ensures,
+        c .before .before .before .before .before .before .before .before .before .before .before .before .u16-at .ensures .0,
+        c .before .before .before .before .before .before .before .before .before .before .before .before .before .before .zero .ensures,
+      );
       next-at = omega arith;
       next-result = omega arith;
     }

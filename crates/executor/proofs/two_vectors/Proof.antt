@@ -9,14 +9,15 @@ returns : tie.Need-returns
 unfolding operate
 returns c =
     record {
-      words = rw
-      (c .before .before .put-value .ensures,
-      c .before .before .before .before .step-vec .ensures,
-      c .before .before .before .before .before .get-vec2 .ensures,
-      c .before .before .before .before .before .before .u16-at2 .ensures .0,
-      c .before .before .before .before .before .before .before .before .get-vec .ensures,
-      c .before .before .before .before .before .before .before .before .before .u16-at .ensures .0,
-      c .before .before .before .before .before .before .before .before .before .before .before .zero-vec .ensures);
+      words = rw (
+        c .before .before .put-value .ensures,
+        c .before .before .before .before .step-vec .ensures,
+        c .before .before .before .before .before .get-vec2 .ensures,
+        c .before .before .before .before .before .before .u16-at2 .ensures .0,
+        c .before .before .before .before .before .before .before .before .get-vec .ensures,
+        c .before .before .before .before .before .before .before .before .before .u16-at .ensures .0,
+        c .before .before .before .before .before .before .before .before .before .before .before .zero-vec .ensures,
+      );
       next-at = omega arith;
       next-result = omega arith;
     }

@@ -1,0 +1,6 @@
+pub mod Fresh
+pub mod Calls
+pub mod AtPorts
+pub mod Wiring
+pub mod Slotting
+pub mod Whole

@@ -1,0 +1,287 @@
+-- A function's checks together, the functions in turn, and the verdict.
+use Prim.Native.Nat.{ℕ, zero, suc, _+_, _-_, _*_, _<_, _≤_}
+use mathlib.Core.Path.{_≡_, refl, ap, sym, _∙_, subst}
+use mathlib.Core.Bool.{Bool, true, false, not, _&&_}
+use mathlib.Core.List.{List, [], _∷_, reverse}
+use mathlib.Core.Option.{Option, none, some}
+use native.Mathlib.Omega.{arith}
+use native.Mathlib.Nat.{not-suc-le-zero}
+use native.Mathlib.Numerals.{add-one}
+use lib.Dec.{leb, eqb}
+use lib.ListN.{length, getD, set, getElem?}
+use lib.Seq.{getD-set-same, getD-set-other}
+use borrow.Author.Tests.{leb-true, eqb-true, eqb-false}
+use Rattle.ports.specs.Kinds.{kindOf}
+use Rattle.graph.specs.Outcome.{Outcome, ok, fault, _>>=_, _>>_, need, each}
+use Rattle.graph.specs.Bytes.{byte, Bytes}
+use Rattle.graph.specs.Graph.{Payload, consts, refs, calls, Node, Function}
+use Rattle.graph.specs.Look.{findFunction, found, reads, readsOf}
+use Rattle.graph.specs.Read.{version1, Part, functions, parse}
+use Rattle.graph.specs.Sound.{FormedPayload, FormedNode, Formed}
+use Rattle.graph.specs.Judge.{fresh, callOk, refOk, refsOk, wantsOf, loopFree, judge, judgeAll, table, verdict}
+use Rattle.graph.proofs.Loops.{and-inv}
+use Rattle.graph.proofs.Steps.{took, passed, takes, stops, goes, halts, passes, fails, is-each}
+use Rattle.graph.proofs.Formed.{function-formed}
+use Rattle.graph.proofs.Accept.{resolved-by}
+use Rattle.graph.proofs.Order.{wired-in}
+use Rattle.topology.specs.Resolve.{target}
+use Rattle.topology.proofs.Nodes.{some-is, at-below}
+use Rattle.reader.specs.Layout.{nodeAt, nodeEnd, nodesAt, nodePlace, nodeCount, nodesPlace, functionAt, functionEnd, functionsAt, functionPlace, earlier}
+use Rattle.reader.specs.Find.{ReadsFunction, Started}
+use Rattle.reader.specs.Records.{seen}
+use Rattle.reader.specs.declared.Seen.{Seen}
+use Rattle.reader.proofs.Rows.{operands-few}
+use Rattle.reader.proofs.Standing.{function-read, parse-read, earlier-all}
+use Rattle.reader.proofs.Passed.{function-holds}
+use Rattle.checker.specs.declared.Head.{Head}
+use Rattle.checker.specs.Answers.{callsChecked, outputsChecked, nodeChecked}
+use Rattle.checker.specs.Slots.{ReadsFunctions, RowsAre, Ready}
+
+-- ---- the nodes by their indices
+
+length-nodes : (n : ℕ) (s : List ℕ) (at : ℕ) → length (nodesAt n s at) ≡ n
+unfolding nodesAt
+length-nodes zero s at = refl
+length-nodes (suc n) s at = ap suc (length-nodes n s (nodeEnd s at))
+
+pub nodes-count : (s : List ℕ) (f : ℕ) → length (functionAt s f .nodes) ≡ nodeCount s f
+unfolding functionAt
+nodes-count s f = length-nodes (nodeCount s f) s (nodesPlace s f)
+
+pub node-at : (n : ℕ) (s : List ℕ) (at i : ℕ) → i < n → getElem? (nodesAt n s at) i ≡ some (nodeAt s (nodePlace s at i))
+unfolding nodesAt nodePlace
+node-at zero s at i h = absurd (not-suc-le-zero h)
+node-at (suc n) s at zero h = refl
+node-at (suc n) s at (suc i) h = node-at n s (nodeEnd s at) i (omega arith)
+
+at-place : (n : ℕ) (s : List ℕ) (at i : ℕ) (x : Node) → getElem? (nodesAt n s at) i ≡ some x → x ≡ nodeAt s (nodePlace s at i)
+unfolding nodesAt nodePlace
+at-place zero s at i x e = let z : _≡_ {A = ℕ} 0 1 = cc in absurd (omega arith)
+at-place (suc n) s at zero x e = sym (some-is e)
+at-place (suc n) s at (suc i) x e = at-place n s (nodeEnd s at) i x e
+
+pub stands-at : (s : List ℕ) (f i : ℕ) (x : Node) → getElem? (functionAt s f .nodes) i ≡ some x → x ≡ nodeAt s (nodePlace s (nodesPlace s f) i)
+unfolding functionAt
+stands-at s f i x e = at-place (nodeCount s f) s (nodesPlace s f) i x e
+
+pub place-of : (s : List ℕ) (f i : ℕ) (x : Node) → getElem? (functionAt s f .nodes) i ≡ some x → nodePlace s (nodesPlace s f) i ≡ x .place
+unfolding nodeAt
+place-of s f i x e = ap (λ (n : Node). n .place) (sym (stands-at s f i x e))
+
+-- ---- answers
+
+pub seen-good : (g : Outcome (Unit {0})) → Seen.Good ≡ seen g → g ≡ ok tt
+seen-good (ok a) e = refl
+seen-good (fault n p) e = let z : _≡_ {A = ℕ} 0 1 = cc in absurd (omega arith)
+
+module _ {A : Type 0} where
+  pub seen-fault : (g : Outcome A) (n p : ℕ) → Seen.Fault n p ≡ seen g → g ≡ fault n p
+  seen-fault (ok a) n p e = let z : _≡_ {A = ℕ} 0 1 = cc in absurd (omega arith)
+  seen-fault (fault m q) n p e = cc
+
+pub not-good : (n p : ℕ) → Seen.Fault n p ≡ Seen.Good → ⊥
+not-good n p e = let z : _≡_ {A = ℕ} 0 1 = cc in omega arith
+
+-- ---- the checks of each node
+
+module _ (g : Node → Outcome (Unit {0})) (s : List ℕ) where
+  pub each-passed :
+      (n at : ℕ) (u : Unit {0}) → 0 < n → each g (nodesAt n s at) ≡ ok u → (g (nodeAt s at) ≡ ok tt) × (each g (nodesAt (n - 1) s (nodeEnd s at)) ≡ ok tt)
+  unfolding nodesAt
+  each-passed zero at u l e = absurd (not-suc-le-zero l)
+  each-passed (suc n) at u l e =
+      let (a, p, q) = took (g (nodeAt s at)) (λ v. each g (nodesAt n s (nodeEnd s at))) u e in
+      let m : suc n - 1 ≡ n = omega arith in
+      (p, ap (λ (k : ℕ). each g (nodesAt k s (nodeEnd s at))) m ∙ q)
+
+-- ---- a function
+
+module _ (early : List Function) (f : Function) where
+  pub judged-twice : (g : Function) → findFunction (f .id) early ≡ some g → judge early f ≡ fault 9 (f .place)
+  judged-twice g e = fails _ 9 (f .place) _ (ap (λ (o : Option Function). not (found o)) e)
+
+  module _ (new : findFunction (f .id) early ≡ none) where
+    begun : judge early f
+        ≡ (fresh [] (f .nodes) >> (each (λ n. callOk early (n .place) (n .payload)) (f .nodes)
+        >> (each (λ o. refOk early f (o .type) (o .ref)) (f .outputs) >> (each (λ n. refsOk early f (wantsOf early n (n .payload)) (reads n)) (f .nodes) >> loopFree f))))
+    begun = passes _ 9 (f .place) _ (ap (λ (o : Option Function). not (found o)) new)
+
+    pub judged-fresh : (n p : ℕ) → fresh [] (f .nodes) ≡ fault n p → judge early f ≡ fault n p
+    judged-fresh n p e = begun ∙ halts _ _ n p e
+
+    module _ (a : fresh [] (f .nodes) ≡ ok tt) where
+      pub judged-calls : (n p : ℕ) → each (λ n. callOk early (n .place) (n .payload)) (f .nodes) ≡ fault n p → judge early f ≡ fault n p
+      judged-calls n p e = begun ∙ (goes _ _ tt a ∙ halts _ _ n p e)
+
+      module _ (b : each (λ n. callOk early (n .place) (n .payload)) (f .nodes) ≡ ok tt) where
+        pub judged-outputs : (n p : ℕ) → each (λ o. refOk early f (o .type) (o .ref)) (f .outputs) ≡ fault n p → judge early f ≡ fault n p
+        judged-outputs n p e = begun ∙ (goes _ _ tt a ∙ (goes _ _ tt b ∙ halts _ _ n p e))
+
+        module _ (c : each (λ o. refOk early f (o .type) (o .ref)) (f .outputs) ≡ ok tt) where
+          pub judged-nodes :
+              (n p : ℕ) → each (λ n. refsOk early f (wantsOf early n (n .payload)) (reads n)) (f .nodes) ≡ fault n p → judge early f ≡ fault n p
+          judged-nodes n p e = begun ∙ (goes _ _ tt a ∙ (goes _ _ tt b ∙ (goes _ _ tt c ∙ halts _ _ n p e)))
+
+          pub judged-loops :
+              each (λ n. refsOk early f (wantsOf early n (n .payload)) (reads n)) (f .nodes) ≡ ok tt → judge early f ≡ loopFree f
+          judged-loops d = begun ∙ (goes _ _ tt a ∙ (goes _ _ tt b ∙ (goes _ _ tt c ∙ goes _ _ tt d)))
+
+-- ---- all is known but the loops
+
+formed : (s : List ℕ) → Bytes s → (at : ℕ) → ReadsFunction s at → Formed (functionAt s at)
+formed s small at (x, e) =
+    subst Formed (ap (λ (y : Part Function). y .it) (function-read (version1 .nodeLimit) s at x e)) (function-formed s small (version1 .nodeLimit) at x e .0)
+
+payload-narrow : (k : ℕ) (p : Payload) → FormedPayload (kindOf k) p → length (readsOf p) ≤ 16
+payload-narrow k (consts ws) h = omega arith
+payload-narrow k (refs rs) (a, l) = let b = operands-few k in omega (arith, l, b)
+payload-narrow k (calls c rs) (a, l) = omega (arith, l)
+
+module _ (s : List ℕ) (small : Bytes s) (k : ℕ) (f : Head) (ts : List ℕ) where
+  abbrev early : List Function
+  early = earlier (version1 .header) s k
+
+  abbrev fn : Function
+  fn = functionAt s (f .place)
+
+  pub ready :
+      ReadsFunction s (f .place) → f .first ≡ nodesPlace s (f .place) → f .count ≡ nodeCount s (f .place)
+      → findFunction (functionAt s (f .place) .id) (earlier (version1 .header) s k) ≡ none
+      → fresh [] (functionAt s (f .place) .nodes) ≡ ok tt
+      → callsChecked s k (functionAt s (f .place)) ≡ ok tt
+      → outputsChecked s k (f .place) (functionAt s (f .place) .outputs) ≡ ok tt
+      → each (nodeChecked s k (f .place)) (functionAt s (f .place) .nodes) ≡ ok tt
+      → RowsAre s (f .place) (f .count) ts → Ready s f ts
+  ready r first count new a b c d rows =
+      let fm = formed s small (f .place) r in
+      let rs = resolved-by early fn fm new tt tt tt tt a b c d in
+      let h = function-holds s (f .place) r .few in
+      let e = nodes-count s (f .place) in
+      record {
+        reads = r;
+        first = first;
+        count = count;
+        resolves = record {
+          few = omega (arith, h, e);
+          size = rows .size;
+          narrow = λ n i. payload-narrow (n .kind) (n .payload) (is-each FormedNode (fn .nodes) (fm .nodes) n i .payload);
+          closed = λ n j i m. wired-in early fn (wantsOf early n (n .payload)) (reads n) (rs .wired n i) j m;
+          slots = λ i j n q l.
+              let b : i < length (fn .nodes) = at-below (fn .nodes) i n q in
+              rows .slots i j (omega (arith, b, e, count)) l
+              ∙ ap (λ (x : Node). target (fn .nodes) (getElem? (reads x) j)) (sym (stands-at s (f .place) i n q));
+        };
+        own = rs .own;
+        named = λ n i. is-each FormedNode (fn .nodes) (fm .nodes) n i .id;
+      }
+
+-- ---- the functions in turn
+
+abbrev pub ReadsFrom : ℕ → List ℕ → ℕ → Type 0
+ReadsFrom n s at = (p : Part (List Function)) × (functions (version1 .nodeLimit) n s at ≡ ok p)
+
+module _ (s : List ℕ) where
+  pub first-function : (n at : ℕ) → 0 < n → ReadsFrom n s at → ReadsFunction s at
+  first-function zero at l r = absurd (not-suc-le-zero l)
+  first-function (suc n) at l (p, e) = let (x, ex, e1) = took _ _ _ e in (x, ex)
+
+  pub rest-functions : (n at : ℕ) → 0 < n → ReadsFrom n s at → ReadsFrom (n - 1) s (functionEnd s at)
+  rest-functions zero at l r = absurd (not-suc-le-zero l)
+  rest-functions (suc n) at l (p, e) =
+      let (x, ex, e1) = took _ _ _ e in
+      let (r, er, e2) = took _ _ _ e1 in
+      let m : suc n - 1 ≡ n = omega arith in
+      let w : x .next ≡ functionEnd s at = ap (λ (y : Part Function). y .next) (function-read (version1 .nodeLimit) s at x ex) in
+      (r, ap (λ (k : ℕ). functions (version1 .nodeLimit) k s (functionEnd s at)) m ∙ (ap (functions (version1 .nodeLimit) n s) (sym w) ∙ er))
+
+  pub all-fault : (early : List Function) (n at a p : ℕ) → 0 < n → judge early (functionAt s at) ≡ fault a p → judgeAll early (functionsAt n s at) ≡ fault a p
+  unfolding functionsAt
+  all-fault early zero at a p l e = absurd (not-suc-le-zero l)
+  all-fault early (suc n) at a p l e = halts _ _ a p e
+
+  pub all-on :
+      (early : List Function) (n at : ℕ) → 0 < n → judge early (functionAt s at) ≡ ok tt
+      → judgeAll early (functionsAt n s at) ≡ judgeAll (functionAt s at ∷ early) (functionsAt (n - 1) s (functionEnd s at))
+  unfolding functionsAt
+  all-on early zero at l e = absurd (not-suc-le-zero l)
+  all-on early (suc n) at l e =
+      let m : suc n - 1 ≡ n = omega arith in
+      goes _ _ tt e ∙ ap (λ (i : ℕ). judgeAll (functionAt s at ∷ early) (functionsAt i s (functionEnd s at))) (sym m)
+
+  pub start-none : (starts : List ℕ) → Started s starts 0
+  start-none starts = record { places = λ j h. absurd (not-suc-le-zero h); reads = λ j h. absurd (not-suc-le-zero h) }
+
+  -- one function more
+  pub start-more :
+      (starts : List ℕ) (k at : ℕ) → Started s starts k → k < length starts → at ≡ functionPlace (version1 .header) s k → ReadsFunction s at
+      → Started s (set starts k at) (k + 1)
+  start-more starts k at h l e r = record {
+    places = λ j b. pickOne j b (eqb j k) refl;
+    reads = λ j b. other j b (eqb j k) refl;
+  }
+    where
+      pickOne : (j : ℕ) → j < k + 1 → (b : Bool) → eqb j k ≡ b → getD (set starts k at) j 0 ≡ functionPlace (version1 .header) s j
+      pickOne j b true w = subst (λ (x : ℕ). getD (set starts k at) x 0 ≡ functionPlace (version1 .header) s x) (sym (eqb-true j k w)) (getD-set-same starts k at 0 l ∙ e)
+      pickOne j b false w = let d : j ≡ k → ⊥ = eqb-false j k w in getD-set-other starts k j at 0 d ∙ h .places j (omega arith)
+
+      other : (j : ℕ) → j < k + 1 → (b : Bool) → eqb j k ≡ b → ReadsFunction s (functionPlace (version1 .header) s j)
+      other j b true w = subst (λ (x : ℕ). ReadsFunction s (functionPlace (version1 .header) s x)) (sym (eqb-true j k w)) (subst (ReadsFunction s) e r)
+      other j b false w = let d : j ≡ k → ⊥ = eqb-false j k w in h .reads j (omega arith)
+
+  pub place-more : (k at : ℕ) → at ≡ functionPlace (version1 .header) s k → functionEnd s at ≡ functionPlace (version1 .header) s (k + 1)
+  unfolding functionPlace
+  place-more k at e = rw (add-one k) (ap (functionEnd s) e)
+
+  pub early-more : (k at : ℕ) → at ≡ functionPlace (version1 .header) s k → functionAt s at ∷ earlier (version1 .header) s k ≡ earlier (version1 .header) s (k + 1)
+  unfolding earlier
+  early-more k at e = rw (add-one k) (ap (λ (x : ℕ). functionAt s x ∷ earlier (version1 .header) s k) e)
+
+-- ---- the verdict
+
+length-earlier : (begin : ℕ) (s : List ℕ) (k : ℕ) → length (earlier begin s k) ≡ k
+unfolding earlier
+length-earlier begin s zero = refl
+length-earlier begin s (suc k) = ap suc (length-earlier begin s k)
+
+module _ (s : List ℕ) where
+  pub unread : (n p : ℕ) → Seen.Fault n p ≡ seen (parse version1 s) → verdict s ≡ fault n p
+  unfolding verdict table
+  unread n p e = stops _ _ n p (stops _ _ n p (seen-fault (parse version1 s) n p e))
+
+  read-ok : (g : Outcome (List Function)) → Seen.Good ≡ seen g → (fs : List Function) × (g ≡ ok fs)
+  read-ok (ok a) e = (a, refl)
+  read-ok (fault n p) e = let z : _≡_ {A = ℕ} 0 1 = cc in absurd (omega arith)
+
+  -- a table that was read
+  pub record Whole : Type 0 where
+    pub size : 8 ≤ length s
+    pub few : byte s 5 ≤ 16
+    pub reads : ReadsFunctions (byte s 5) s
+
+  pub whole : Seen.Good ≡ seen (parse version1 s) → Whole
+  whole e =
+      let (fs, q) = read-ok (parse version1 s) e in
+      let (t1, e1) = passed _ _ _ _ _ q in
+      let (t2, e2) = passed _ _ _ _ _ e1 in
+      let (t3, e3) = passed _ _ _ _ _ e2 in
+      let (t4, e4) = passed _ _ _ _ _ e3 in
+      let (t5, e5) = passed _ _ _ _ _ e4 in
+      let (p, ep, e6) = took _ _ _ e5 in
+      record { size = leb-true _ _ t1; few = leb-true _ _ (and-inv (leb 1 (byte s 5)) (leb (byte s 5) 16) t5 .1); reads = (p, ep) }
+
+  module _ (e : Seen.Good ≡ seen (parse version1 s)) where
+    opened : table s ≡ (judgeAll [] (functionsAt (byte s 5) s 8) >> ok (earlier 8 s (byte s 5)))
+    unfolding table
+    opened =
+        let (fs, q) = read-ok (parse version1 s) e in
+        takes (parse version1 s) (λ gs. judgeAll [] gs >> ok (reverse gs)) fs q
+        ∙ (ap (λ (gs : List Function). judgeAll [] gs >> ok (reverse gs)) (parse-read version1 s fs q)
+        ∙ ap (λ (gs : List Function). judgeAll [] (functionsAt (byte s 5) s 8) >> ok gs) (earlier-all 8 s (byte s 5)))
+
+    pub refused : (n p : ℕ) → judgeAll [] (functionsAt (byte s 5) s 8) ≡ fault n p → verdict s ≡ fault n p
+    unfolding verdict
+    refused n p j = stops _ _ n p (opened ∙ halts _ _ n p j)
+
+    pub accepted : judgeAll [] (functionsAt (byte s 5) s 8) ≡ ok tt → verdict s ≡ ok (byte s 5)
+    unfolding verdict
+    accepted j = takes (table s) (λ fs. ok (length fs)) (earlier 8 s (byte s 5)) (opened ∙ goes _ _ tt j) ∙ ap ok (length-earlier 8 s (byte s 5))

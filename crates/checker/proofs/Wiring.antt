@@ -1,0 +1,228 @@
+-- 11 and 12: references one at a time.
+use Prim.Native.Nat.{ℕ, zero, suc, _+_, _-_, _*_, _<_, _≤_}
+use mathlib.Core.Path.{_≡_, refl, ap, sym, _∙_, subst}
+use mathlib.Core.Bool.{Bool, true, false, _&&_, cond}
+use mathlib.Core.List.{List, [], _∷_}
+use mathlib.Core.Option.{Option, none, some}
+use native.Mathlib.Omega.{arith}
+use native.Mathlib.Nat.{not-suc-le-zero}
+use native.Mathlib.Numerals.{add-one}
+use lib.Dec.{eqb}
+use lib.ListN.{length, getD, getElem?, drop, replicate, getD-replicate}
+use lib.Seq.{drop-cons}
+use borrow.Author.Tests.{eq-eqb, ne-eqb, eqb-true}
+use Rattle.ports.specs.declared.Form.{Form}
+use Rattle.ports.specs.declared.Form.the-variants.{Absent, Constant, References, Call}
+use Rattle.ports.specs.declared.Ports.{Ports}
+use Rattle.ports.specs.Ports.{portsOf, formOf, types, own, takesRow}
+use Rattle.ports.proofs.Laws.{length-types}
+use Rattle.graph.specs.Outcome.{Outcome, ok, fault, need, each}
+use Rattle.graph.specs.Bytes.{byte, u16}
+use Rattle.graph.specs.Graph.{Ref, Payload, Node, Output, Function}
+use Rattle.graph.specs.Look.{findNode, findFunction, found, reads, readsOf}
+use Rattle.graph.specs.Read.{version1, reference, references}
+use Rattle.graph.specs.Judge.{callOk, inputsOf, refType, refOk, refsOk, wantsOf, givesOf, givesAt}
+use Rattle.graph.proofs.Loops.{and-inv}
+use Rattle.graph.proofs.Steps.{takes, stops, goes, halts, needs, needed}
+use Rattle.topology.specs.Resolve.{indexOf, target}
+use Rattle.reader.specs.Layout.{kindAt, payloadAt, nodeAt, nodesAt, nodeCount, nodesPlace, inputsAt, outputsAt, functionAt, earlier}
+use Rattle.reader.specs.Find.{nodeFound}
+use Rattle.reader.specs.declared.Found.the-variants.{At, Nothing}
+use Rattle.checker.specs.declared.PortType.{PortType}
+use Rattle.checker.specs.declared.Resolved.{Resolved}
+use Rattle.checker.specs.declared.Want.{Want}
+use Rattle.checker.specs.declared.Want.the-variants.{Types, Inputs}
+use Rattle.checker.specs.Answers.{portOf, resolvedAs, resolvedAt, wantsList, outputsChecked, referencesChecked, nodeChecked}
+use Rattle.checker.proofs.Calls.{inputs-length, call-some, call-none}
+
+-- ---- one reference, resolved
+
+pub nodes-of : (s : List ℕ) (f : ℕ) → functionAt s f .nodes ≡ nodesAt (nodeCount s f) s (nodesPlace s f)
+unfolding functionAt
+nodes-of s f = refl
+
+pub index-is : (ns : List Node) (id i j p : ℕ) → nodeFound i id ns ≡ At j p → j ≡ i + indexOf id ns
+index-is [] id i j p e = let z : _≡_ {A = ℕ} 0 1 = cc in absurd (omega arith)
+index-is (n ∷ ns) id i j p e = pickOne (eqb (n .id) id) (λ w. index-is ns id (i + 1) j p w) e
+  where
+    pickOne :
+        (b : Bool) → (nodeFound (i + 1) id ns ≡ At j p → j ≡ i + 1 + indexOf id ns) → cond b (At i (n .place)) (nodeFound (i + 1) id ns) ≡ At j p
+        → j ≡ i + cond b 0 (suc (indexOf id ns))
+    pickOne true ih w = let a : i ≡ j = cc in omega arith
+    pickOne false ih w = let a = ih w in omega arith
+
+module _ (s : List ℕ) (k f at : ℕ) where
+  abbrev early : List Function
+  early = earlier (version1 .header) s k
+
+  pub input-resolved : u16 s at ≡ 0 → resolvedAt s k f at ≡ resolvedAs (portOf (getElem? (functionAt s f .inputs) (byte s (at + 2)))) 256
+  input-resolved e = rw (eq-eqb (u16 s at) 0 e)
+
+  pub node-resolved :
+      (p i : ℕ) → (u16 s at ≡ 0 → ⊥) → findNode (u16 s at) (functionAt s f .nodes) ≡ some (nodeAt s p) → i ≡ indexOf (u16 s at) (functionAt s f .nodes)
+      → resolvedAt s k f at ≡ resolvedAs (portOf (getElem? (givesOf (earlier (version1 .header) s k) (nodeAt s p) (nodeAt s p .payload)) (byte s (at + 2)))) i
+  node-resolved p i d e q = rw (ne-eqb (u16 s at) 0 d, e, q)
+
+  pub none-resolved : (u16 s at ≡ 0 → ⊥) → findNode (u16 s at) (functionAt s f .nodes) ≡ none → resolvedAt s k f at ≡ Resolved.Nothing
+  none-resolved d e = rw (ne-eqb (u16 s at) 0 d, e)
+
+  -- ---- what the answer tells of 11 and 12
+
+  nothing-is : (o : Option ℕ) (i : ℕ) → resolvedAs (portOf o) i ≡ Resolved.Nothing → o ≡ none
+  nothing-is none i e = refl
+  nothing-is (some t) i e = let z : _≡_ {A = ℕ} 0 1 = cc in absurd (omega arith)
+
+  some-is : (o : Option ℕ) (i t v : ℕ) → resolvedAs (portOf o) i ≡ Resolved.Is t v → (o ≡ some t) × (v ≡ i)
+  some-is none i t v e = let z : _≡_ {A = ℕ} 0 1 = cc in absurd (omega arith)
+  some-is (some u) i t v e = (cc, cc)
+
+  pub lost : (w : ℕ) → resolvedAt s k f at ≡ Resolved.Nothing → refOk (earlier (version1 .header) s k) (functionAt s f) w (reference s at) ≡ fault 11 at
+  lost w e = rw (nothing-is (refType early (functionAt s f) (reference s at)) _ e)
+
+  module _ (t v : ℕ) (e : resolvedAt s k f at ≡ Resolved.Is t v) where
+    type-is : refType early (functionAt s f) (reference s at) ≡ some t
+    type-is = some-is (refType early (functionAt s f) (reference s at)) (target (functionAt s f .nodes) (some (reference s at))) t v e .0
+
+    pub index-of : v ≡ target (functionAt s f .nodes) (some (reference s at))
+    index-of = some-is (refType early (functionAt s f) (reference s at)) (target (functionAt s f .nodes) (some (reference s at))) t v e .1
+
+    pub mistyped : (w : ℕ) → (t ≡ w → ⊥) → refOk (earlier (version1 .header) s k) (functionAt s f) w (reference s at) ≡ fault 12 at
+    unfolding need
+    mistyped w d = rw (type-is, ne-eqb t w d)
+
+    pub welltyped : (w : ℕ) → t ≡ w → refOk (earlier (version1 .header) s k) (functionAt s f) w (reference s at) ≡ ok tt
+    unfolding need
+    welltyped w q = rw (type-is, eq-eqb t w q)
+
+-- ---- outputs
+
+module _ (s : List ℕ) (k f : ℕ) where
+  pub outputs-fault :
+      (n at a p : ℕ) → 0 < n → refOk (earlier (version1 .header) s k) (functionAt s f) (byte s at) (reference s (at + 1)) ≡ fault a p
+      → outputsChecked s k f (outputsAt n s at) ≡ fault a p
+  outputs-fault zero at a p l e = absurd (not-suc-le-zero l)
+  outputs-fault (suc n) at a p l e = stops _ _ a p e
+
+  pub outputs-on :
+      (n at : ℕ) → 0 < n → refOk (earlier (version1 .header) s k) (functionAt s f) (byte s at) (reference s (at + 1)) ≡ ok tt
+      → outputsChecked s k f (outputsAt n s at) ≡ outputsChecked s k f (outputsAt (n - 1) s (at + 4))
+  outputs-on zero at l e = absurd (not-suc-le-zero l)
+  outputs-on (suc n) at l e =
+      let m : suc n - 1 ≡ n = omega arith in
+      takes _ _ tt e ∙ ap (λ (i : ℕ). outputsChecked s k f (outputsAt i s (at + 4))) (sym m)
+
+-- ---- what references want
+
+module _ (s : List ℕ) (n : ℕ) where
+  pub wants-length : (w : Want) → length (wantsList s n w) ≡ n
+  wants-length (Types a b) = length-types n a b
+  wants-length (Inputs p) = inputs-length n s (p + 6)
+
+pub first-type : (n a b : ℕ) → 0 < n → getD (types n a b) 0 0 ≡ a
+first-type zero a b h = absurd (not-suc-le-zero h)
+first-type (suc n) a b h = refl
+
+pub other-type : (n a b j : ℕ) → j < n → (j ≡ 0 → ⊥) → getD (types n a b) j 0 ≡ b
+other-type zero a b j h d = absurd (not-suc-le-zero h)
+other-type (suc n) a b zero h d = absurd (d refl)
+other-type (suc n) a b (suc j) h d = getD-replicate n j b 0 (omega arith)
+
+pub input-type : (n : ℕ) (s : List ℕ) (at j : ℕ) → j < n → getD (inputsAt n s at) j 0 ≡ byte s (at + j)
+input-type zero s at j h = absurd (not-suc-le-zero h)
+input-type (suc n) s at zero h = let e : at + 0 ≡ at = omega arith in ap (byte s) (sym e)
+input-type (suc n) s at (suc j) h =
+    let e : at + 1 + j ≡ at + suc j = omega arith in
+    input-type n s (at + 1) j (omega arith) ∙ ap (byte s) e
+
+-- ---- several references
+
+module _ (s : List ℕ) (k f : ℕ) (ws : List ℕ) where
+  pub references-fault :
+      (n at j a p : ℕ) → 0 < n → j < length ws → refOk (earlier (version1 .header) s k) (functionAt s f) (getD ws j 0) (reference s at) ≡ fault a p
+      → referencesChecked s k f (drop j ws) (references n s at) ≡ fault a p
+  references-fault zero at j a p l h e = absurd (not-suc-le-zero l)
+  references-fault (suc n) at j a p l h e =
+      ap (λ (vs : List ℕ). referencesChecked s k f vs (references (suc n) s at)) (drop-cons ws j 0 h) ∙ halts _ _ a p e
+
+  pub references-on :
+      (n at j : ℕ) → 0 < n → j < length ws → refOk (earlier (version1 .header) s k) (functionAt s f) (getD ws j 0) (reference s at) ≡ ok tt
+      → referencesChecked s k f (drop j ws) (references n s at) ≡ referencesChecked s k f (drop (j + 1) ws) (references (n - 1) s (at + 3))
+  references-on zero at j l h e = absurd (not-suc-le-zero l)
+  references-on (suc n) at j l h e =
+      let m : suc n - 1 ≡ n = omega arith in
+      ap (λ (vs : List ℕ). referencesChecked s k f vs (references (suc n) s at)) (drop-cons ws j 0 h)
+      ∙ (goes _ _ tt e
+      ∙ (ap (λ (i : ℕ). referencesChecked s k f (drop (suc j) ws) (references i s (at + 3))) (sym m)
+      ∙ ap (λ (i : ℕ). referencesChecked s k f (drop i ws) (references (suc n - 1) s (at + 3))) (sym (add-one j))))
+
+  pub references-none : (n at j : ℕ) → length ws ≤ j → referencesChecked s k f (drop j ws) (references n s at) ≡ ok tt
+  references-none n at j h = ap (λ (vs : List ℕ). referencesChecked s k f vs (references n s at)) (past ws j h)
+    where
+      past : (vs : List ℕ) (j : ℕ) → length vs ≤ j → drop j vs ≡ []
+      past [] zero h = refl
+      past [] (suc j) h = refl
+      past (v ∷ vs) zero h = absurd (not-suc-le-zero h)
+      past (v ∷ vs) (suc j) h = past vs j (omega arith)
+
+-- ---- the references of a node
+
+no-references : (s : List ℕ) (k f : ℕ) (ws : List ℕ) → referencesChecked s k f ws [] ≡ ok tt
+no-references s k f [] = refl
+no-references s k f (w ∷ ws) = refl
+
+module _ (s : List ℕ) (k f at : ℕ) where
+  by-form : (h : Form) → formOf (kindAt s at) ≡ h
+      → nodeChecked s k f (nodeAt s at)
+      ≡ referencesChecked s k f (wantsOf (earlier (version1 .header) s k) (nodeAt s at) (payloadAt h (kindAt s at) s (at + 4))) (readsOf (payloadAt h (kindAt s at) s (at + 4)))
+  unfolding nodeAt
+  by-form h e =
+      ap
+      (λ (x : Form). referencesChecked s k f (wantsOf (earlier (version1 .header) s k) (nodeAt s at) (payloadAt x (kindAt s at) s (at + 4)))
+      (readsOf (payloadAt x (kindAt s at) s (at + 4))))
+      e
+
+  reads-form : (h : Form) → formOf (kindAt s at) ≡ h → reads (nodeAt s at) ≡ readsOf (payloadAt h (kindAt s at) s (at + 4))
+  unfolding nodeAt
+  reads-form h e = ap (λ (x : Form). readsOf (payloadAt x (kindAt s at) s (at + 4))) e
+
+  pub absent-node : formOf (kindAt s at) ≡ Absent → (nodeChecked s k f (nodeAt s at) ≡ ok tt) × (reads (nodeAt s at) ≡ [])
+  absent-node e = (by-form Absent e ∙ no-references s k f (wantsOf (earlier (version1 .header) s k) (nodeAt s at) (payloadAt Absent (kindAt s at) s (at + 4))), reads-form Absent e)
+
+  pub constant-node : formOf (kindAt s at) ≡ Constant → (nodeChecked s k f (nodeAt s at) ≡ ok tt) × (reads (nodeAt s at) ≡ [])
+  constant-node e = (by-form Constant e, reads-form Constant e)
+
+  pub references-node :
+      (row : Ports) → row ≡ portsOf (kindAt s at) → formOf (kindAt s at) ≡ References
+      → (nodeChecked s k f (nodeAt s at) ≡ referencesChecked s k f (takesRow row (byte s (at + 3))) (references (row .operands) s (at + 4)))
+      × (reads (nodeAt s at) ≡ references (row .operands) s (at + 4))
+  unfolding nodeAt
+  references-node row q e = (
+    by-form References e ∙ ap (λ (r : Ports). referencesChecked s k f (takesRow r (byte s (at + 3))) (references (r .operands) s (at + 4))) (sym q),
+    reads-form References e ∙ ap (λ (r : Ports). references (r .operands) s (at + 4)) (sym q),
+  )
+
+  -- a call that passed 10
+  module _ (c : formOf (kindAt s at) ≡ Call) (good : callOk (earlier (version1 .header) s k) at (nodeAt s at .payload) ≡ ok tt) where
+    pub call-found : findFunction (u16 s (at + 4)) (earlier (version1 .header) s k) ≡ none → ⊥
+    call-found e =
+        let h = needed false 10 at tt (sym (call-none s at (earlier (version1 .header) s k) c e) ∙ good) in
+        let z : _≡_ {A = ℕ} 0 1 = cc in
+        omega arith
+
+    pub call-count : (p : ℕ) → findFunction (u16 s (at + 4)) (earlier (version1 .header) s k) ≡ some (functionAt s p) → byte s (at + 4 + 2) ≡ byte s (p + 2)
+    call-count p e =
+        eqb-true _ _
+        (needed (eqb (byte s (at + 4 + 2)) (byte s (p + 2))) 10 at tt (sym (call-some s at (earlier (version1 .header) s k) c p e) ∙ good))
+
+    pub call-node :
+        (p : ℕ) → findFunction (u16 s (at + 4)) (earlier (version1 .header) s k) ≡ some (functionAt s p)
+        → (nodeChecked s k f (nodeAt s at)
+        ≡ referencesChecked s k f (inputsAt (byte s (at + 4 + 2)) s (p + 6)) (references (byte s (at + 4 + 2)) s (at + 4 + 3)))
+        × (reads (nodeAt s at) ≡ references (byte s (at + 4 + 2)) s (at + 4 + 3))
+    unfolding functionAt
+    call-node p e = (
+      by-form Call c
+      ∙ (ap (λ (o : Option Function). referencesChecked s k f (inputsOf o) (references (byte s (at + 4 + 2)) s (at + 4 + 3))) e
+      ∙ ap (λ (n : ℕ). referencesChecked s k f (inputsAt n s (p + 6)) (references (byte s (at + 4 + 2)) s (at + 4 + 3))) (sym (call-count p e))),
+      reads-form Call c,
+    )

@@ -1,0 +1,100 @@
+use borrow.Author.Needs.{needs}
+use Prim.Native.Nat.{ℕ, _+_, _≤_, _<_}
+use mathlib.Core.Path.{_≡_, ap, sym, _∙_, subst}
+use mathlib.Core.Option.{Option, some}
+use mathlib.Core.Bool.{Bool}
+use native.Mathlib.Omega.{arith}
+use lib.ListN.{length}
+use Rattle.ports.specs.declared.Form.{Form}
+use Rattle.ports.specs.Ports.{formOf}
+use Rattle.graph.specs.Bytes.{byte, u16}
+use Rattle.graph.specs.Look.{findFunction}
+use Rattle.graph.specs.Read.{version1}
+use Rattle.reader.specs.Layout.{kindAt, functionAt, functionPlace, earlier}
+use Rattle.reader.specs.Find.{ReadsFunction, functionFound}
+use Rattle.reader.proofs.Passed.{head-fits, callee-fits, function-fits, found-function, no-function, form-is}
+use Rattle.checker.proofs.Calls.{call-absent, call-constant, call-references, call-none, call-some}
+use Rattle.checker.proofs.call_good.Statement.{statement}
+use Rattle.checker.proofs.call_good.Tie as tie
+
+head : (b : tie.Start) → b .args .at + 4 ≤ length (b .args .s .now)
+head b = head-fits (b .args .s .now) (b .args .at) (b .pre .0)
+
+-- the kind's form is the row's
+form : (d : tie.After-ports-of) (h : Form) → d .ports-of .result .form ≡ h → let a = d .before .before .before .args in formOf (kindAt (a .s .now) (a .at)) ≡ h
+form d h e = let a = d .before .before .before .args in form-is (a .s .now) (a .at) (d .ports-of .result) (d .ports-of .ensures) h e
+
+returns : tie.Need-returns
+returns c = let d = c .before .before in let a = d .before .before .before .args in call-absent (a .s .now) (a .at) _ (form d _ (c .enum-told .given .1))
+
+returns-2 : tie.Need-returns-2
+returns-2 c = let d = c .before .before in let a = d .before .before .before .args in call-constant (a .s .now) (a .at) _ (form d _ (c .enum-told2 .given .1))
+
+returns-3 : tie.Need-returns-3
+returns-3 c = let d = c .before .before in let a = d .before .before .before .args in call-references (a .s .now) (a .at) _ (form d _ (c .enum-told3 .given .1))
+
+calls : (c : tie.After-enum-told4) → let a = c .before .before .before .before .before .args in formOf (kindAt (a .s .now) (a .at)) ≡ Form.Call
+calls c = form (c .before .before) _ (c .enum-told4 .given .1)
+
+fits : (c : tie.After-enum-told4) → let a = c .before .before .before .before .before .args in a .at + 4 + 3 ≤ length (a .s .now)
+fits c = let b = c .before .before .before .before .before in callee-fits (b .args .s .now) (b .args .at) (b .pre .0) (calls c) .0
+
+-- the function that was found
+callee : (d : tie.After-known-told) → let a = d .before .before .before .before .before .before .before .before .before .before .args in
+    let g = d .before .found .given .0 in
+    (g .0 < a .k) × (g .1 .0 ≡ functionPlace (version1 .header) (a .s .now) (g .0))
+    × (findFunction (u16 (a .s .now) (a .at + 4)) (earlier (version1 .header) (a .s .now) (a .k)) ≡ some (functionAt (a .s .now) (g .1 .0)))
+callee d =
+    let f = d .before .before .before in
+    let a = f .before .before .before .before .before .before .before .args in
+    found-function (version1 .header) (a .s .now) (u16 (a .s .now) (a .at + 4)) (a .k) _ _
+    (ap (λ (i : ℕ). functionFound i (earlier (version1 .header) (a .s .now) (a .k))) (sym (f .before .u16-at .ensures)) ∙ (sym (f .find-function .ensures) ∙ d .before .found .given .1))
+
+callee-head : (d : tie.After-known-told) → let a = d .before .before .before .before .before .before .before .before .before .before .args in
+    d .before .found .given .0 .1 .0 + 6 ≤ length (a .s .now)
+callee-head d =
+    let b = d .before .before .before .before .before .before .before .before .before .before in
+    function-fits (b .args .s .now) _ (subst (ReadsFunction (b .args .s .now)) (sym (callee d .1)) (b .pre .1 .reads _ (callee d .0)))
+
+returns-4 : tie.Need-returns-4
+returns-4 c =
+    let d = c .before .before in
+    let e = d .before .before .before .before .before in
+    let a = e .before .before .before .before .before .args in
+    call-some (a .s .now) (a .at) _ (calls e) _ (callee d .2)
+
+returns-5 : tie.Need-returns-5
+returns-5 c =
+    let f = c .before .before in
+    let e = f .before .before in
+    let a = e .before .before .before .before .before .args in
+    call-none (a .s .now) (a .at) _ (calls e)
+    (no-function (version1 .header) (a .s .now) (u16 (a .s .now) (a .at + 4)) (a .k)
+    (ap (λ (i : ℕ). functionFound i (earlier (version1 .header) (a .s .now) (a .k))) (sym (f .before .u16-at .ensures)) ∙ (sym (f .find-function .ensures) ∙ c .enum-told5 .given .1)))
+
+pub call-good-spec : {M : Type 1} → statement M
+call-good-spec =
+    tie.close
+    (tie.spec
+    (λ c. omega (arith, head (c .before)))
+    (λ c. omega (arith, head (c .before .before)))
+    (λ c κs. search needs)
+    (λ c. search needs)
+    (λ c. search needs)
+    (λ c. search needs)
+    (λ c. search needs)
+    (λ c. omega (arith, fits c))
+    (λ c κs. omega (arith, fits c))
+    (λ c κs. (c .before .before .before .before .before .before .pre .1, c .before .before .before .before .before .before .pre .2))
+    (λ c. search needs)
+    (λ c. omega (arith, fits (c .before .before .before .before .before)))
+    (λ c. omega (arith, fits (c .before .before .before .before .before)))
+    (λ c. omega (arith, fits (c .before .before .before .before .before .before)))
+    (λ c. omega (arith, callee-head (c .before)))
+    (λ c. omega (arith, callee-head (c .before .before)))
+    (λ c. search needs)
+    returns
+    returns-2
+    returns-3
+    returns-4
+    returns-5)

@@ -1,0 +1,72 @@
+use borrow.Author.Needs.{needs}
+use Prim.Native.Nat.{ℕ, _≤_}
+use mathlib.Core.Path.{_≡_, ap, sym, _∙_, subst}
+use mathlib.Core.List.{List, []}
+use native.Mathlib.Omega.{arith}
+use Rattle.graph.specs.Bytes.{byte}
+use Rattle.graph.specs.Read.{version1, parse}
+use Rattle.reader.specs.declared.Seen.{Seen}
+use Rattle.graph.specs.Judge.{judgeAll}
+use Rattle.reader.specs.Layout.{functionsAt}
+use Rattle.reader.specs.Records.{seen}
+use Rattle.checker.specs.declared.Verdict.{Verdict}
+use Rattle.checker.specs.Answers.{verdictOf}
+use Rattle.checker.specs.Slots.{ReadsFunctions}
+use Rattle.checker.proofs.Whole.{seen-good, seen-fault, unread, whole, refused, accepted}
+use Rattle.checker.proofs.check.Statement.{statement}
+use Rattle.checker.proofs.check.Tie as tie
+
+returns : tie.Need-returns
+returns c =
+    let r = c .before .before .before in
+    let s = r .before .before .args .table .now in
+    ap verdictOf (sym (unread s _ _ (sym (c .before .read .given .1) ∙ r .read-table .ensures)))
+
+-- the table was read
+read : (t : tie.After-enum-told) → Seen.Good ≡ seen (parse version1 (t .before .before .before .before .args .table .now))
+read t = sym (t .enum-told .given .1) ∙ t .before .before .read-table .ensures
+
+judged : (j : tie.After-judge-all) → let s = j .before .before .before .before .before .before .before .args .table .now in
+    j .judge-all .result ≡ seen (judgeAll [] (functionsAt (byte s 5) s (version1 .header)))
+judged j =
+    let s = j .before .before .before .before .before .before .before .args .table .now in
+    j .judge-all .ensures ∙ ap (λ (n : ℕ). seen (judgeAll [] (functionsAt n s (version1 .header)))) (j .before .size .ensures .0)
+
+returns-2 : tie.Need-returns-2
+returns-2 c =
+    let j = c .before .before in
+    let t = j .before .before .before in
+    let s = t .before .before .before .before .args .table .now in
+    ap (λ (n : ℕ). Verdict.Accepted n) (j .before .size .ensures .0)
+    ∙ ap verdictOf (sym (accepted s (read t) (seen-good _ (sym (c .enum-told2 .given .1) ∙ judged j))))
+
+returns-3 : tie.Need-returns-3
+returns-3 c =
+    let j = c .before .before .before in
+    let t = j .before .before .before in
+    let s = t .before .before .before .before .args .table .now in
+    ap verdictOf (sym (refused s (read t) _ _ (seen-fault _ _ _ (sym (c .before .judged .given .1) ∙ judged j))))
+
+requires : tie.Need-judge-all-requires
+requires c κs =
+    let t = c .before .before in
+    let s = t .before .before .before .before .args .table .now in
+    let w = whole s (read t) in
+    let e = c .size .ensures .0 in
+    (subst (λ (n : ℕ). ReadsFunctions n s) (sym e) (w .reads), omega (arith, e, w .few))
+
+pub check-spec : {M : Type 1} → statement M
+check-spec =
+    tie.close
+    (tie.spec
+    (λ c κs. search needs)
+    (λ c. search needs)
+    (λ c. search needs)
+    returns
+    (λ c. let t = c .before in omega (arith, whole (t .before .before .before .before .args .table .now) (read t) .size))
+    (λ c κs. search needs)
+    requires
+    (λ c. search needs)
+    (λ c. search needs)
+    returns-2
+    returns-3)

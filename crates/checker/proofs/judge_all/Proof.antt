@@ -1,0 +1,120 @@
+use borrow.Author.Needs.{needs}
+use Prim.Native.Nat.{ℕ, _+_, _-_, _≤_, _<_}
+use mathlib.Core.Path.{_≡_, refl, ap, sym, _∙_, subst}
+use mathlib.Core.List.{List, []}
+use native.Mathlib.Omega.{arith}
+use lib.ListN.{length, set, length-set, length-replicate}
+use Rattle.graph.specs.Graph.{Function}
+use Rattle.graph.specs.Read.{version1}
+use Rattle.graph.specs.Judge.{judge, judgeAll}
+use Rattle.reader.specs.Layout.{functionAt, functionEnd, functionsAt, functionPlace, earlier}
+use Rattle.reader.specs.Find.{ReadsFunction, Started}
+use Rattle.reader.specs.Records.{seen}
+use Rattle.checker.proofs.Whole.{seen-good, seen-fault, ReadsFrom, first-function, rest-functions, all-fault, all-on, start-none, start-more, place-more, early-more}
+use Rattle.checker.proofs.judge_all.Statement.{statement}
+use Rattle.checker.proofs.judge_all.Tie as tie
+
+-- n functions are left, from `at` on
+record Left (s : List ℕ) (count k n at : ℕ) : Type 0 where
+  pub reads : ReadsFrom n s at
+  pub same : judgeAll [] (functionsAt count s (version1 .header)) ≡ judgeAll (earlier (version1 .header) s k) (functionsAt n s at)
+
+abbrev Inv-loop : tie.InvT-loop
+Inv-loop s count starts₀ targets₀ at₀ k₀ starts targets at k =
+    (k ≤ count) × (at ≡ functionPlace (version1 .header) s k) × Started s starts k × Left s count k (count - k) at × (length starts ≡ 16) × (length targets ≡ 4096)
+
+abbrev μ-loop : tie.MeasureT-loop
+μ-loop s count starts₀ targets₀ at₀ k₀ starts targets at k = count - k
+
+left : (d : tie.In-loop Inv-loop μ-loop) → 0 < d .before .before .before .args .count - d .before .loop .k
+left d = omega (arith, d .loop-test .taken)
+
+here : (d : tie.In-loop Inv-loop μ-loop) → ReadsFunction (d .before .before .before .args .s .now) (d .before .loop .at)
+here d = let l = d .before .loop in let a = d .before .before .before .args in first-function (a .s .now) (a .count - l .k) (l .at) (left d) (l .inv .3 .reads)
+
+loop-holds : tie.Need-loop-holds Inv-loop μ-loop
+unfolding functionPlace earlier
+loop-holds c =
+    let b = c .before in
+    let a = b .args in
+    let s = a .s .now in
+    let z : a .count ≡ a .count - 0 = omega arith in (
+      omega arith,
+      refl,
+      start-none s _,
+      subst (λ (n : ℕ). Left s (a .count) 0 n (version1 .header)) z (record { reads = b .pre .0; same = refl }),
+      refl,
+      length-replicate {A = ℕ} 4096 0,
+    )
+
+returns : tie.Need-returns Inv-loop μ-loop
+returns c =
+    let g = c .before .before .before in
+    let d = g .before .before .before in
+    let l = d .before .loop in
+    let a = d .before .before .before .args in
+    let s = a .s .now in
+    ap seen
+    (sym
+    (l .inv .3 .same
+    ∙ all-fault s (earlier (version1 .header) s (l .k)) (a .count - l .k) (l .at) _ _ (left d)
+    (seen-fault (judge (earlier (version1 .header) s (l .k)) (functionAt s (l .at))) _ _ (sym (c .before .judged .given .1) ∙ g .judge-function .ensures .0))))
+
+loop-again : tie.Need-loop-again Inv-loop μ-loop
+loop-again c =
+    let t = c .before in
+    let g = t .before .before in
+    let d = g .before .before .before in
+    let l = d .before .loop in
+    let b = d .before .before .before in
+    let a = b .args in
+    let s = a .s .now in
+    let n = a .count - l .k in
+    let m : n - 1 ≡ a .count - (l .k + 1) = omega arith in
+    let good = t .enum-told .given .1 in
+    let q = seen-good (judge (earlier (version1 .header) s (l .k)) (functionAt s (l .at))) (sym good ∙ g .judge-function .ensures .0) in
+    let e = c .function-end .ensures in (
+      omega (arith, d .loop-test .taken),
+      e ∙ place-more s (l .k) (l .at) (l .inv .1),
+      start-more s (l .starts) (l .k) (l .at) (l .inv .2) (omega (arith, l .inv .4, d .loop-test .taken, b .pre .1)) (l .inv .1) (here d),
+      subst (λ (x : ℕ). Left s (a .count) (l .k + 1) (a .count - (l .k + 1)) x) (sym e)
+      (subst (λ (i : ℕ). Left s (a .count) (l .k + 1) i (functionEnd s (l .at))) m
+      (record {
+        reads = rest-functions s n (l .at) (left d) (l .inv .3 .reads);
+        same = l .inv .3 .same
+            ∙ all-on s (earlier (version1 .header) s (l .k)) n (l .at) (left d) q
+            ∙ ap (λ (fs : List Function). judgeAll fs (functionsAt (n - 1) s (functionEnd s (l .at)))) (early-more s (l .k) (l .at) (l .inv .1));
+      })),
+      length-set (l .starts) (l .k) (l .at) ∙ l .inv .4,
+      g .judge-function .ensures .1 good,
+    )
+
+returns-2 : tie.Need-returns-2 Inv-loop μ-loop
+unfolding functionsAt
+returns-2 c =
+    let l = c .before .loop in
+    let a = c .before .before .before .args in
+    let z : a .count - l .k ≡ 0 = omega arith in
+    ap seen (sym (rw z at (l .inv .3 .same)))
+
+pub judge-all-spec : {M : Type 1} → statement M
+judge-all-spec =
+    tie.close
+    (tie.spec
+    Inv-loop
+    μ-loop
+    loop-holds
+    (λ c κs.
+    let d = c .before .before in
+    let l = d .before .loop in
+    (l .inv .2, omega (arith, d .loop-test .taken, d .before .before .before .pre .1), here d, l .inv .5))
+    (λ c. search needs)
+    (λ c. search needs)
+    returns
+    (λ c. let d = c .before .before .before .before .before in omega (arith, d .loop-test .taken, d .before .before .before .pre .1))
+    (λ c. let d = c .before .before .before .before .before in omega (arith, d .loop-test .taken, d .before .before .before .pre .1))
+    (λ c κs. here (c .before .before .before .before .before))
+    (λ c. let d = c .before .before .before .before .before .before in omega (arith, d .loop-test .taken))
+    (λ c. let d = c .before .before .before .before .before .before in omega (arith, d .loop-test .taken))
+    loop-again
+    returns-2)

@@ -1,0 +1,68 @@
+-- What the checks answer, by the graph's own judging.
+use Prim.Native.Nat.{ℕ, zero, suc, _+_, _≤_}
+use mathlib.Core.Bool.{Bool, true, false, cond}
+use mathlib.Core.List.{List, [], _∷_}
+use mathlib.Core.Option.{Option, none, some}
+use lib.Dec.{eqb}
+use lib.ListN.{length, getD}
+use Rattle.ports.specs.Ports.{types}
+use Rattle.graph.specs.Outcome.{Outcome, ok, fault, each}
+use Rattle.graph.specs.Graph.{Ref, Node, Output, Function}
+use Rattle.graph.specs.Look.{reads}
+use Rattle.graph.specs.Read.{version1, reference}
+use Rattle.graph.specs.Judge.{callOk, refType, refOk, refsOk, wantsOf}
+use Rattle.topology.specs.Resolve.{target}
+use Rattle.reader.specs.Layout.{inputsAt, functionAt, earlier}
+use Rattle.checker.specs.declared.Verdict.{Verdict}
+use Rattle.checker.specs.declared.PortType.{PortType}
+use Rattle.checker.specs.declared.Resolved.{Resolved}
+use Rattle.checker.specs.declared.Want.{Want}
+use Rattle.checker.specs.declared.Want.the-variants.{Types, Inputs}
+
+-- accepted with the function count, or refused with 01's number and place
+abbrev pub verdictOf : Outcome ℕ → Verdict
+verdictOf (ok n) = Verdict.Accepted n
+verdictOf (fault n p) = Verdict.Refused n p
+
+-- one of the first j ids
+abbrev pub hit : List ℕ → ℕ → ℕ → Bool
+hit ids zero id = false
+hit ids (suc j) id = let r = hit ids j id in cond (eqb (getD ids j 0) id) true r
+
+-- ---- references
+
+abbrev pub portOf : Option ℕ → PortType
+portOf none = PortType.Nothing
+portOf (some t) = PortType.Is t
+
+abbrev pub resolvedAs : PortType → ℕ → Resolved
+resolvedAs PortType.Nothing i = Resolved.Nothing
+resolvedAs (PortType.Is t) i = Resolved.Is t i
+
+-- the reference at `at` in the function at f, the k-th of the table
+abbrev pub resolvedAt : List ℕ → ℕ → ℕ → ℕ → Resolved
+resolvedAt s k f at =
+    resolvedAs (portOf (refType (earlier (version1 .header) s k) (functionAt s f) (reference s at))) (target (functionAt s f .nodes) (some (reference s at)))
+
+-- what n references want
+abbrev pub wantsList : List ℕ → ℕ → Want → List ℕ
+wantsList s n (Types a b) = types n a b
+wantsList s n (Inputs p) = inputsAt n s (p + 6)
+
+abbrev pub WantFits : List ℕ → ℕ → Want → Type 0
+WantFits s n (Types a b) = Unit {0}
+WantFits s n (Inputs p) = p + 6 + n ≤ length s
+
+-- ---- the checks of the function at f, the k-th of the table
+
+abbrev pub outputsChecked : List ℕ → ℕ → ℕ → List Output → Outcome (Unit {0})
+outputsChecked s k f = each (λ o. refOk (earlier (version1 .header) s k) (functionAt s f) (o .type) (o .ref))
+
+abbrev pub referencesChecked : List ℕ → ℕ → ℕ → List ℕ → List Ref → Outcome (Unit {0})
+referencesChecked s k f = refsOk (earlier (version1 .header) s k) (functionAt s f)
+
+abbrev pub nodeChecked : List ℕ → ℕ → ℕ → Node → Outcome (Unit {0})
+nodeChecked s k f n = refsOk (earlier (version1 .header) s k) (functionAt s f) (wantsOf (earlier (version1 .header) s k) n (n .payload)) (reads n)
+
+abbrev pub callsChecked : List ℕ → ℕ → Function → Outcome (Unit {0})
+callsChecked s k f = each (λ n. callOk (earlier (version1 .header) s k) (n .place) (n .payload)) (f .nodes)

@@ -1,0 +1,472 @@
+// The verdict on a graph table.
+ghost use mathlib.Core.Path.{_≡_};
+ghost use Prim.Native.Nat.{_+_, _*_, _<_, _≤_};
+ghost use mathlib.Core.List.{[]};
+ghost use lib.ListN.{length, getD, getElem?};
+ghost use Rattle.ports.specs.Ports.{givesRow};
+ghost use Rattle.graph.specs.Outcome.{ok, need, each};
+ghost use Rattle.graph.specs.Look.{findFunction};
+ghost use Rattle.graph.specs.Read.{version1, references};
+ghost use Rattle.graph.specs.Judge.{fresh, callOk, givesOf, outputsOf, outputTypes, loopFree, judge, judgeAll, verdict};
+ghost use Rattle.reader.specs.Layout.{nodeAt, nodesAt, outputsAt, functionAt, functionEnd, functionsAt, earlier};
+ghost use Rattle.reader.specs.Find.{ReadsNode, ReadsNodes, ReadsFunction, Started};
+ghost use Rattle.reader.specs.Records.{seen};
+ghost use Rattle.reader.specs.declared.Seen.{Seen};
+ghost use Rattle.checker.specs.Answers.{hit, portOf, resolvedAs, resolvedAt, wantsList, WantFits, outputsChecked, referencesChecked, nodeChecked, callsChecked, verdictOf};
+ghost use Rattle.checker.specs.Slots.{Scene, Cleared, Filled, RowIs, RowsAre, Ready, ReadsFunctions};
+use ports::Form;
+use ports::Ports;
+use reader::Found;
+use reader::Seen;
+use topology::OnLoop;
+
+fn size(x: u8) -> usize
+    ensures { λ r. ⌜ (r ≡ x) × (r < 256) ⌝ }
+{
+    x as usize
+}
+
+fn wide(x: u16) -> usize
+    ensures { λ r. ⌜ r ≡ x ⌝ }
+{
+    x as usize
+}
+
+// ---- 9
+
+// Whether one of the first j ids is this one.
+fn id_before(ids: &[u16; 256], j: usize, id: u16) -> bool
+    requires { ⌜ j ≤ 256 ⌝ }
+    ensures { λ r. ⌜ r ≡ hit (now (ids .entry)) j id ⌝ }
+{
+    let mut met = false;
+    let mut i = 0;
+    while i < j {
+        if ids[i] == id {
+            met = true;
+        }
+        i += 1;
+    }
+    met
+}
+
+// No node has the id of an earlier one.
+fn fresh_nodes(s: &[u8], first: usize, count: usize) -> Seen
+    requires { ⌜ ReadsNodes count (now s) first × (count ≤ 256) ⌝ }
+    ensures { λ r. ⌜ r ≡ seen (fresh [] (nodesAt count (now (s .entry)) first)) ⌝ }
+{
+    let mut ids = [0u16; 256];
+    let mut at = first;
+    let mut j = 0;
+    while j < count {
+        let id = reader::u16_at(s, at);
+        if id_before(&ids, j, id) {
+            return Seen::Fault(9, at);
+        }
+        ids[j] = id;
+        at = reader::node_end(s, at);
+        j += 1;
+    }
+    Seen::Good
+}
+
+// ---- 10
+
+// The node at `at` is no call, or a call of one of the first k functions with its count of arguments.
+fn call_good(s: &[u8], at: usize, starts: &[usize; 16], k: usize) -> bool
+    requires { ⌜ ReadsNode (now s) at × Started (now s) (now starts) k × (k ≤ 16) ⌝ }
+    ensures { λ r. ⌜ callOk (earlier (version1 .header) (now (s .entry)) k) at (nodeAt (now (s .entry)) at .payload) ≡ need r 10 at ⌝ }
+{
+    let row = ports::ports_of(s[at + 2]);
+    let form = row.form;
+    match form {
+        Form::Absent => true,
+        Form::Constant => true,
+        Form::References => true,
+        Form::Call => {
+            let found = reader::find_function(s, starts, k, reader::u16_at(s, at + 4));
+            match found {
+                Found::At(_, p) => s[at + 4 + 2] == s[p + 2],
+                Found::Nothing => false,
+            }
+        }
+    }
+}
+
+// Each call is good.
+fn calls_good(s: &[u8], first: usize, count: usize, starts: &[usize; 16], k: usize) -> Seen
+    requires { ⌜ ReadsNodes count (now s) first × Started (now s) (now starts) k × (k ≤ 16) ⌝ }
+    ensures { λ r. ⌜ r ≡ seen (each (λ n. callOk (earlier (version1 .header) (now (s .entry)) k) (n .place) (n .payload)) (nodesAt count (now (s .entry)) first)) ⌝ }
+{
+    let mut at = first;
+    let mut j = 0;
+    while j < count {
+        if call_good(s, at, starts, k) {
+            at = reader::node_end(s, at);
+            j += 1;
+        } else {
+            return Seen::Fault(10, at);
+        }
+    }
+    Seen::Good
+}
+
+// ---- the types at ports
+
+pub enum PortType {
+    Is(u8),
+    Nothing,
+}
+
+// Of a node whose kind has this row.
+fn row_port(row: Ports, ty: u8, port: u8) -> PortType
+    ensures { λ r. ⌜ r ≡ portOf (getElem? (givesRow row ty) port) ⌝ }
+{
+    if port < row.results {
+        PortType::Is(ports::own(ty, row.result))
+    } else {
+        PortType::Nothing
+    }
+}
+
+// Of the inputs of the function at `at`.
+fn input_port(s: &[u8], at: usize, port: u8) -> PortType
+    requires { ⌜ ReadsFunction (now s) at ⌝ }
+    ensures { λ r. ⌜ r ≡ portOf (getElem? (functionAt (now (s .entry)) at .inputs) port) ⌝ }
+{
+    if port < s[at + 2] {
+        PortType::Is(s[at + 6 + size(port)])
+    } else {
+        PortType::Nothing
+    }
+}
+
+// Of the outputs of the function at `at`.
+fn output_port(s: &[u8], at: usize, port: u8) -> PortType
+    requires { ⌜ ReadsFunction (now s) at ⌝ }
+    ensures { λ r. ⌜ r ≡ portOf (getElem? (outputTypes (functionAt (now (s .entry)) at .outputs)) port) ⌝ }
+{
+    if port < s[at + 3] {
+        PortType::Is(s[at + 6 + size(s[at + 2]) + 4 * size(port)])
+    } else {
+        PortType::Nothing
+    }
+}
+
+// Of a call of the id, one of the first k functions.
+fn callee_port(s: &[u8], starts: &[usize; 16], k: usize, id: u16, port: u8) -> PortType
+    requires { ⌜ Started (now s) (now starts) k × (k ≤ 16) ⌝ }
+    ensures { λ r. ⌜ r ≡ portOf (getElem? (outputsOf (findFunction id (earlier (version1 .header) (now (s .entry)) k))) port) ⌝ }
+{
+    let found = reader::find_function(s, starts, k, id);
+    match found {
+        Found::At(_, p) => output_port(s, p, port),
+        Found::Nothing => PortType::Nothing,
+    }
+}
+
+// Of the node at `at`.
+fn node_port(s: &[u8], at: usize, starts: &[usize; 16], k: usize, port: u8) -> PortType
+    requires { ⌜ ReadsNode (now s) at × Started (now s) (now starts) k × (k ≤ 16) ⌝ }
+    ensures { λ r. ⌜ r ≡ portOf (getElem? (givesOf (earlier (version1 .header) (now (s .entry)) k) (nodeAt (now (s .entry)) at) (nodeAt (now (s .entry)) at .payload)) port) ⌝ }
+{
+    let row = ports::ports_of(s[at + 2]);
+    let ty = s[at + 3];
+    let form = row.form;
+    match form {
+        Form::Absent => row_port(row, ty, port),
+        Form::Constant => row_port(row, ty, port),
+        Form::References => row_port(row, ty, port),
+        Form::Call => callee_port(s, starts, k, reader::u16_at(s, at + 4), port),
+    }
+}
+
+// ---- references
+
+// The function that is judged: its place, where its nodes begin, and how many there are.
+pub struct Head {
+    pub place: usize,
+    pub first: usize,
+    pub count: usize,
+}
+
+// The type that a reference has, and the index of the node that it reads, 256 for an input.
+pub enum Resolved {
+    Is(u8, u16),
+    Nothing,
+}
+
+fn with_index(found: PortType, index: u16) -> Resolved
+    ensures { λ r. ⌜ r ≡ resolvedAs found index ⌝ }
+{
+    match found {
+        PortType::Is(ty) => Resolved::Is(ty, index),
+        PortType::Nothing => Resolved::Nothing,
+    }
+}
+
+// The reference at `at`.
+fn resolve(s: &[u8], starts: &[usize; 16], k: usize, f: Head, at: usize) -> Resolved
+    requires { ⌜ Scene (now s) (now starts) k f × (at + 3 ≤ length (now s)) ⌝ }
+    ensures { λ r. ⌜ r ≡ resolvedAt (now (s .entry)) k (f .place) at ⌝ }
+{
+    let id = reader::u16_at(s, at);
+    let port = s[at + 2];
+    if id == 0 {
+        return with_index(input_port(s, f.place, port), 256);
+    }
+    let found = reader::find_node(s, f.first, f.count, id);
+    match found {
+        Found::At(i, p) => with_index(node_port(s, p, starts, k, port), i as u16),
+        Found::Nothing => Resolved::Nothing,
+    }
+}
+
+// What references want: the first a type and the others another, or the inputs of the function at a place.
+pub enum Want {
+    Types(u8, u8),
+    Inputs(usize),
+}
+
+// The j-th of n.
+fn want_at(s: &[u8], want: Want, n: usize, j: usize) -> u8
+    requires { ⌜ (j < n) × WantFits (now s) n want ⌝ }
+    ensures { λ r. ⌜ r ≡ getD (wantsList (now (s .entry)) n want) j 0 ⌝ }
+{
+    match want {
+        Want::Types(a, b) => {
+            if j == 0 {
+                a
+            } else {
+                b
+            }
+        }
+        Want::Inputs(p) => s[p + 6 + j],
+    }
+}
+
+// ---- 11 and 12
+
+// The entries of n outputs at `begin`.
+fn outputs_good(s: &[u8], starts: &[usize; 16], k: usize, f: Head, begin: usize, n: usize) -> Seen
+    requires { ⌜ Scene (now s) (now starts) k f × (begin + 4 * n ≤ length (now s)) ⌝ }
+    ensures { λ r. ⌜ r ≡ seen (outputsChecked (now (s .entry)) k (f .place) (outputsAt n (now (s .entry)) begin)) ⌝ }
+{
+    let mut at = begin;
+    let mut left = n;
+    while 0 < left {
+        let found = resolve(s, starts, k, f, at + 1);
+        let Resolved::Is(ty, _) = found else {
+            return Seen::Fault(11, at + 1);
+        };
+        if ty != s[at] {
+            return Seen::Fault(12, at + 1);
+        }
+        at += 4;
+        left -= 1;
+    }
+    Seen::Good
+}
+
+// The slots of node i hold nothing.
+fn clear_row(targets: &mut [u16; 4096], i: usize)
+    requires { ⌜ (i < 256) × (length (now targets) ≡ 4096) ⌝ }
+    ensures { λ _. ⌜ Cleared i (now (targets .entry)) (now (targets .exit)) ⌝ }
+{
+    let mut j = 0;
+    while j < 16 {
+        targets[16 * i + j] = 256;
+        j += 1;
+    }
+}
+
+// The n references at `begin`, which go to the slots of node i.
+fn references_good(s: &[u8], starts: &[usize; 16], k: usize, f: Head, want: Want, begin: usize, n: usize, i: usize, targets: &mut [u16; 4096]) -> Seen
+    requires { ⌜ Scene (now s) (now starts) k f × WantFits (now s) n want × (begin + 3 * n ≤ length (now s)) × (n ≤ 16) × (i < 256) × (length (now targets) ≡ 4096) ⌝ }
+    ensures { λ r. ⌜ r ≡ seen (referencesChecked (now (s .entry)) k (f .place) (wantsList (now (s .entry)) n want) (references n (now (s .entry)) begin)) ⌝ }
+    ensures { λ r. ⌜ (r ≡ Seen.Good → Filled (now (s .entry)) (f .place) begin n i (now (targets .entry)) (now (targets .exit))) ⌝ }
+{
+    let mut at = begin;
+    let mut j = 0;
+    while j < n {
+        let found = resolve(s, starts, k, f, at);
+        let Resolved::Is(ty, index) = found else {
+            return Seen::Fault(11, at);
+        };
+        if ty != want_at(s, want, n, j) {
+            return Seen::Fault(12, at);
+        }
+        targets[16 * i + j] = index;
+        at += 3;
+        j += 1;
+    }
+    Seen::Good
+}
+
+// The references of the node at `at`, whose index is i.
+fn node_good(s: &[u8], starts: &[usize; 16], k: usize, f: Head, at: usize, i: usize, targets: &mut [u16; 4096]) -> Seen
+    requires { ⌜ Scene (now s) (now starts) k f × ReadsNode (now s) at × (i < 256) × (callOk (earlier (version1 .header) (now s) k) at (nodeAt (now s) at .payload) ≡ ok tt) × (length (now targets) ≡ 4096) ⌝ }
+    ensures { λ r. ⌜ r ≡ seen (nodeChecked (now (s .entry)) k (f .place) (nodeAt (now (s .entry)) at)) ⌝ }
+    ensures { λ r. ⌜ (r ≡ Seen.Good → RowIs (functionAt (now (s .entry)) (f .place) .nodes) (nodeAt (now (s .entry)) at) i (now (targets .entry)) (now (targets .exit))) ⌝ }
+{
+    clear_row(targets, i);
+    let row = ports::ports_of(s[at + 2]);
+    let ty = s[at + 3];
+    let form = row.form;
+    match form {
+        Form::Absent => Seen::Good,
+        Form::Constant => Seen::Good,
+        Form::References => {
+            let want = Want::Types(ports::own(ty, row.first), ports::own(ty, row.rest));
+            references_good(s, starts, k, f, want, at + 4, size(row.operands), i, targets)
+        }
+        Form::Call => {
+            let found = reader::find_function(s, starts, k, reader::u16_at(s, at + 4));
+            match found {
+                Found::At(_, p) => references_good(s, starts, k, f, Want::Inputs(p), at + 4 + 3, size(s[at + 4 + 2]), i, targets),
+                Found::Nothing => Seen::Good,
+            }
+        }
+    }
+}
+
+// The references of each node.
+fn nodes_good(s: &[u8], starts: &[usize; 16], k: usize, f: Head, targets: &mut [u16; 4096]) -> Seen
+    requires { ⌜ Scene (now s) (now starts) k f × (callsChecked (now s) k (functionAt (now s) (f .place)) ≡ ok tt) × (length (now targets) ≡ 4096) ⌝ }
+    ensures { λ r. ⌜ r ≡ seen (each (nodeChecked (now (s .entry)) k (f .place)) (functionAt (now (s .entry)) (f .place) .nodes)) ⌝ }
+    ensures { λ r. ⌜ (r ≡ Seen.Good → RowsAre (now (s .entry)) (f .place) (f .count) (now (targets .exit))) ⌝ }
+{
+    let count = f.count;
+    let mut at = f.first;
+    let mut i = 0;
+    while i < count {
+        let found = node_good(s, starts, k, f, at, i, targets);
+        match found {
+            Seen::Good => {}
+            Seen::Fault(number, place) => {
+                return Seen::Fault(number, place);
+            }
+        }
+        at = reader::node_end(s, at);
+        i += 1;
+    }
+    Seen::Good
+}
+
+// ---- 13
+
+// No node lies on a loop.
+fn loop_free(s: &[u8], f: Head, targets: &[u16; 4096]) -> Seen
+    requires { ⌜ Ready (now s) f (now targets) ⌝ }
+    ensures { λ r. ⌜ r ≡ seen (loopFree (functionAt (now (s .entry)) (f .place))) ⌝ }
+{
+    let count = f.count;
+    let mut order = [0u16; 256];
+    let done = topology::schedule(targets, count, &mut order);
+    if done == count {
+        return Seen::Good;
+    }
+    let found = topology::first_on_loop(targets, count);
+    match found {
+        OnLoop::At(i) => Seen::Fault(13, reader::node_place(s, f.first, count, i)),
+        OnLoop::Nothing => Seen::Good,
+    }
+}
+
+// ---- a function, and the table
+
+// The function at `at`, the k-th from 0; `targets` is room to work in.
+fn judge_function(s: &[u8], starts: &[usize; 16], k: usize, at: usize, targets: &mut [u16; 4096]) -> Seen
+    requires { ⌜ Started (now s) (now starts) k × (k ≤ 16) × ReadsFunction (now s) at × (length (now targets) ≡ 4096) ⌝ }
+    ensures { λ r. ⌜ r ≡ seen (judge (earlier (version1 .header) (now (s .entry)) k) (functionAt (now (s .entry)) at)) ⌝ }
+    ensures { λ r. ⌜ (r ≡ Seen.Good → length (now (targets .exit)) ≡ 4096) ⌝ }
+{
+    let same = reader::find_function(s, starts, k, reader::u16_at(s, at));
+    match same {
+        Found::At(_, _) => {
+            return Seen::Fault(9, at);
+        }
+        Found::Nothing => {}
+    }
+    let nout = size(s[at + 3]);
+    let outputs = at + 6 + size(s[at + 2]);
+    let first = outputs + 4 * nout;
+    let count = wide(reader::u16_at(s, at + 4));
+    let f = Head { place: at, first, count };
+    let fresh = fresh_nodes(s, first, count);
+    let Seen::Good = fresh else {
+        return fresh;
+    };
+    let calls = calls_good(s, first, count, starts, k);
+    let Seen::Good = calls else {
+        return calls;
+    };
+    let outs = outputs_good(s, starts, k, f, outputs, nout);
+    let Seen::Good = outs else {
+        return outs;
+    };
+    let nodes = nodes_good(s, starts, k, f, targets);
+    let Seen::Good = nodes else {
+        return nodes;
+    };
+    loop_free(s, f, targets)
+}
+
+// Accepted with the function count, or refused with a number and a place.
+pub enum Verdict {
+    Accepted(usize),
+    Refused(u8, usize),
+}
+
+// Where the function at `at` ends.
+fn function_end(s: &[u8], at: usize) -> usize
+    requires { ⌜ ReadsFunction (now s) at ⌝ }
+    ensures { λ r. ⌜ r ≡ functionEnd (now (s .entry)) at ⌝ }
+{
+    let first = at + 6 + size(s[at + 2]) + 4 * size(s[at + 3]);
+    let count = wide(reader::u16_at(s, at + 4));
+    reader::node_place(s, first, count, count)
+}
+
+// The functions of a table that was read, one after another.
+fn judge_all(s: &[u8], count: usize) -> Seen
+    requires { ⌜ ReadsFunctions count (now s) × (count ≤ 16) ⌝ }
+    ensures { λ r. ⌜ r ≡ seen (judgeAll [] (functionsAt count (now (s .entry)) (version1 .header))) ⌝ }
+{
+    let mut starts = [0usize; 16];
+    let mut targets = [0u16; 4096];
+    let mut at = 8;
+    let mut k = 0;
+    while k < count {
+        let judged = judge_function(s, &starts, k, at, &mut targets);
+        match judged {
+            Seen::Good => {}
+            Seen::Fault(number, place) => {
+                return Seen::Fault(number, place);
+            }
+        }
+        starts[k] = at;
+        at = function_end(s, at);
+        k += 1;
+    }
+    Seen::Good
+}
+
+// The verdict on a table.
+pub fn check(table: &[u8]) -> Verdict
+    ensures { λ r. ⌜ r ≡ verdictOf (verdict (now (table .entry))) ⌝ }
+{
+    let read = reader::read_table(table);
+    match read {
+        Seen::Good => {}
+        Seen::Fault(number, place) => {
+            return Verdict::Refused(number, place);
+        }
+    }
+    let count = size(table[5]);
+    let judged = judge_all(table, count);
+    match judged {
+        Seen::Good => Verdict::Accepted(count),
+        Seen::Fault(number, place) => Verdict::Refused(number, place),
+    }
+}

@@ -1,0 +1,226 @@
+-- What a well formed code tells the run, and what the definition then answers.
+use Prim.Native.Nat.{ℕ, zero, suc, _+_, _-_, _*_, _≤_, _<_}
+use mathlib.Core.Path.{_≡_, refl, ap, sym, _∙_, subst}
+use mathlib.Core.Bool.{Bool, true, false, _&&_}
+use mathlib.Core.List.{List, [], _∷_, map}
+use mathlib.Core.Option.{Option, none, some}
+use native.Mathlib.Omega.{arith}
+use borrow.Author.Tests.{le-leb, lt-leb, eq-eqb, ne-eqb, eqb-true, leb-true}
+use lib.Dec.{leb, eqb}
+use lib.ListN.{length}
+use lib.Seq.{sets, length-sets}
+use Rattle.value.specs.Values.{wordAt, argumentWord, every}
+use Rattle.value.specs.Typed.{Each}
+use Rattle.graph.specs.Outcome.{Outcome, ok, fault, _>>=_, _>>_, need, orElse}
+use Rattle.graph.specs.Bytes.{byte, u16}
+use Rattle.graph.proofs.Loops.{and-inv, and-both}
+use Rattle.list.specs.Board.{Instruction, BoardList, execute, executeAll, run}
+use Rattle.list.specs.Code.{guard, then, addresses, allLess, Listed, readInstructions, readOutputs, withinLimits, readCounts, marked, decode}
+use Rattle.list.specs.Answers.{Buffers, ran}
+use Rattle.list.proofs.Decoded.{guard-inv, some-is, then-inv, addresses-length, all-less}
+use Rattle.runner.specs.declared.Counts.{Counts}
+use Rattle.runner.specs.declared.Checked.{Checked}
+use Rattle.runner.specs.declared.Checked.the-variants.{Formed, Malformed}
+use Rattle.runner.specs.declared.Ran.{Ran}
+use Rattle.runner.specs.declared.Ran.the-variants.{Done, Refused}
+use Rattle.executor.specs.Listing.{afterAll, Listing}
+use Rattle.executor.proofs.Loop.{words-grow}
+use Rattle.runner.specs.Checks.{countsOf, checkedOf}
+use Rattle.runner.specs.Runs.{answerOf, workAfter, outAfter, Answered, memoryOf, outputsOf, OutputsReady}
+use Rattle.runner.proofs.Passing.{count-is}
+
+pub record Decoded (s : List ℕ) (c : Counts) : Type 0 where
+  pub list : BoardList
+  pub is : decode s ≡ some list
+  pub arguments : c .arguments ≡ list .arguments
+  pub outputs : c .outputs ≡ length (list .outputs)
+  pub words : c .words ≡ list .words
+  pub listed : Listed
+  pub reads : readInstructions (c .instructions) s 12 (c .arguments) ≡ some listed
+  pub same-words : listed .words ≡ c .words
+  pub instructions : listed .instructions ≡ list .instructions
+  pub places : list .outputs ≡ addresses (c .outputs) s (length s - 2 * c .outputs)
+  pub fits : 2 * c .outputs ≤ length s
+  pub below : Each (λ a. a < c .words) (addresses (c .outputs) s (length s - 2 * c .outputs))
+  pub first : c .arguments ≤ c .words
+  pub small : c .outputs ≤ 128
+
+of-counts : (s : List ℕ) (a o n w : ℕ) (b : BoardList) (c : Counts) → readCounts s a o n w ≡ some b → decode s ≡ some b
+    → countsOf b ≡ c → Decoded s c
+of-counts s a o n w b c e d q =
+    let (t, e1) = guard-inv (withinLimits a o n w) _ b e in
+    let (t1, l5) = and-inv (leb a 128 && leb 1 o && leb o 128 && leb n 4096) (leb w 8192) t in
+    let (t2, l4) = and-inv (leb a 128 && leb 1 o && leb o 128) (leb n 4096) t1 in
+    let (t3, l3) = and-inv (leb a 128 && leb 1 o) (leb o 128) t2 in
+    let few : o ≤ 128 = leb-true o 128 l3 in
+    let (l, el, e2) = then-inv (readInstructions n s 12 a) _ b e1 in
+    let (u1, e3) = guard-inv (eqb (l .words) w) _ b e2 in
+    let (u2, e4) = guard-inv (eqb (l .at + 2 * o) (length s)) _ b e3 in
+    let (u3, e5) = guard-inv (allLess w (addresses o s (l .at))) _ b e4 in
+    let r : record { arguments = a; instructions = l .instructions; words = w; outputs = addresses o s (l .at) } ≡ b = some-is e5 in
+    let ra : a ≡ b .arguments = ap (λ (x : BoardList). x .arguments) r in
+    let ri : l .instructions ≡ b .instructions = ap (λ (x : BoardList). x .instructions) r in
+    let rw′ : w ≡ b .words = ap (λ (x : BoardList). x .words) r in
+    let ro : addresses o s (l .at) ≡ b .outputs = ap (λ (x : BoardList). x .outputs) r in
+    let ca : b .arguments ≡ c .arguments = ap (λ (x : Counts). x .arguments) q in
+    let co : length (b .outputs) ≡ c .outputs = ap (λ (x : Counts). x .outputs) q in
+    let ci : length (b .instructions) ≡ c .instructions = ap (λ (x : Counts). x .instructions) q in
+    let cw : b .words ≡ c .words = ap (λ (x : Counts). x .words) q in
+    let n-is : n ≡ c .instructions = sym (count-is n s 12 a l el) ∙ ap length ri ∙ ci in
+    let o-is : o ≡ c .outputs = sym (addresses-length o s (l .at)) ∙ ap length ro ∙ co in
+    let a-is : a ≡ c .arguments = ra ∙ ca in
+    let w-is : w ≡ c .words = rw′ ∙ cw in
+    let lw : l .words ≡ w = eqb-true (l .words) w u1 in
+    let full : l .at + 2 * o ≡ length s = eqb-true (l .at + 2 * o) (length s) u2 in
+    let at-is : l .at ≡ length s - 2 * c .outputs = omega arith in
+    let grow : a ≤ l .words = words-grow n s 12 a l el in
+    let moved : addresses o s (l .at) ≡ addresses (c .outputs) s (length s - 2 * c .outputs) =
+    ap (λ (k : ℕ). addresses k s (l .at)) o-is ∙ ap (addresses (c .outputs) s) at-is in
+    record {
+      list = b;
+      is = d;
+      arguments = sym ca;
+      outputs = sym co;
+      words = sym cw;
+      listed = l;
+      reads = ap (λ (k : ℕ). readInstructions k s 12 (c .arguments)) (sym n-is) ∙ ap (readInstructions n s 12) (sym a-is) ∙ el;
+      same-words = lw ∙ w-is;
+      instructions = ri;
+      places = sym ro ∙ moved;
+      fits = omega arith;
+      below = subst (λ (xs : List ℕ). Each (λ x. x < c .words) xs) moved (subst (λ (k : ℕ). Each (λ x. x < k) (addresses o s (l .at))) w-is (all-less w (addresses o s (l .at)) u3));
+      first = omega arith;
+      small = omega arith;
+    }
+
+is-formed : (o : Option BoardList) (c : Counts) → checkedOf o ≡ Formed c
+    → (b : BoardList) × (o ≡ some b) × (countsOf b ≡ c)
+unfolding checkedOf
+is-formed none c e = let z : _≡_ {A = ℕ} 0 1 = cc in absurd (omega arith)
+is-formed (some b) c e = (b, refl, cc)
+
+is-malformed : (o : Option BoardList) → checkedOf o ≡ Malformed → o ≡ none
+unfolding checkedOf
+is-malformed none e = refl
+is-malformed (some b) e = let z : _≡_ {A = ℕ} 0 1 = cc in absurd (omega arith)
+
+pub decoded : (s : List ℕ) (c : Counts) → checkedOf (decode s) ≡ Formed c → Decoded s c
+unfolding decode
+decoded s c e =
+    let (b, d, q) = is-formed (decode s) c e in
+    let (t, e1) = guard-inv (leb 12 (length s)) _ b d in
+    let (u, e2) = guard-inv (marked s) _ b e1 in
+    of-counts s (byte s 5) (byte s 6) (u16 s 8) (u16 s 10) b c e2 d q
+
+-- ---- refusals
+
+refused : (g : Outcome Buffers) (n p : ℕ) (work out : List ℕ) → g ≡ fault n p → Answered g work out work out (Refused n p)
+unfolding answerOf workAfter outAfter
+refused g n p work out e = record { answer = rw e; work-after = rw e; out-after = rw e }
+
+module _ (s arguments work out : List ℕ) where
+  pub refused-18 : checkedOf (decode s) ≡ Malformed → Answered (ran s arguments work out) work out work out (Refused 18 0)
+  unfolding ran _>>=_
+  refused-18 e = refused (ran s arguments work out) 18 0 work out (rw (is-malformed (decode s) e))
+
+  module _ {c : Counts} (d : Decoded s c) where
+    pub refused-19 : (length arguments ≡ c .arguments → ⊥) → Answered (ran s arguments work out) work out work out (Refused 19 0)
+    unfolding ran _>>=_ _>>_ need
+    refused-19 n =
+        refused (ran s arguments work out) 19 0 work out
+        (rw (d .is, ne-eqb (length arguments) (d .list .arguments) (λ q. n (q ∙ sym (d .arguments)))))
+
+    module _ (count : length arguments ≡ c .arguments) where
+      pub refused-20 : every argumentWord arguments ≡ false → Answered (ran s arguments work out) work out work out (Refused 20 0)
+      unfolding ran _>>=_ _>>_ need
+      refused-20 f =
+          refused (ran s arguments work out) 20 0 work out (rw (d .is, eq-eqb (length arguments) (d .list .arguments) (count ∙ d .arguments), f))
+
+      module _ (f : every argumentWord arguments ≡ true) where
+        short : (leb (d .list .words) (length work) && leb (length (d .list .outputs)) (length out)) ≡ false
+            → Answered (ran s arguments work out) work out work out (Refused 21 0)
+        unfolding ran _>>=_ _>>_ need
+        short h =
+            refused (ran s arguments work out) 21 0 work out
+            (rw (d .is, eq-eqb (length arguments) (d .list .arguments) (count ∙ d .arguments), f, h))
+
+        pub refused-work : length work < c .words → Answered (ran s arguments work out) work out work out (Refused 21 0)
+        refused-work l =
+            let w = d .words in
+            short (ap (λ (b : Bool). b && leb (length (d .list .outputs)) (length out)) (lt-leb (d .list .words) (length work) (omega arith)))
+
+        and-false : (a : Bool) → (a && false) ≡ false
+        and-false true = refl
+        and-false false = refl
+
+        pub refused-out : length out < c .outputs → Answered (ran s arguments work out) work out work out (Refused 21 0)
+        refused-out l =
+            let o = d .outputs in
+            short (ap (λ (b : Bool). leb (d .list .words) (length work) && b) (lt-leb (length (d .list .outputs)) (length out) (omega arith)) ∙ and-false (leb (d .list .words) (length work)))
+
+        pub completed : c .words ≤ length work → c .outputs ≤ length out → {work′ out′ : List ℕ} → work′ ≡ memoryOf (decode s) arguments work
+            → out′ ≡ outputsOf (decode s) arguments work out → Answered (ran s arguments work out) work out work′ out′ (Done (c .outputs))
+        unfolding answerOf workAfter outAfter memoryOf outputsOf ran _>>=_ _>>_ need
+        completed w o {work′} {out′} e1 e2 =
+            let dw = d .words in
+            let do′ = d .outputs in
+            let h1 = le-leb (d .list .words) (length work) (omega arith) in
+            let h2 = le-leb (length (d .list .outputs)) (length out) (omega arith) in
+            let b = d .list in
+            let g : ran s arguments work out ≡ ok (record { count = length (b .outputs); work = run b arguments work .memory; out = sets out 0 (run b arguments work .outputs) }) =
+            rw (d .is, eq-eqb (length arguments) (b .arguments) (count ∙ d .arguments), f, h1, h2) in
+            record {
+              answer = rw g (ap Done (d .outputs));
+              work-after = rw g (e1 ∙ ap (λ (x : Option BoardList). memoryOf x arguments work) (d .is));
+              out-after = rw g (e2 ∙ ap (λ (x : Option BoardList). outputsOf x arguments work out) (d .is));
+            }
+
+-- ---- the run of a code that was checked
+
+module _ (s arguments work out : List ℕ) {c : Counts} (d : Decoded s c) {first all : List ℕ} (e1 : first ≡ sets work 0 arguments)
+    (e2 : all ≡ afterAll (readInstructions (c .instructions) s 12 (c .arguments)) first) where
+  memory-is : all ≡ run (d .list) arguments work .memory
+  unfolding afterAll
+  memory-is =
+      e2 ∙ ap (λ (x : Option Listed). afterAll x first) (d .reads) ∙ ap (executeAll (d .listed .instructions)) e1
+      ∙ ap (λ (is : List Instruction). executeAll is (sets work 0 arguments)) (d .instructions)
+
+  pub ran-memory : all ≡ memoryOf (decode s) arguments work
+  unfolding memoryOf
+  ran-memory = memory-is ∙ ap (λ (x : Option BoardList). memoryOf x arguments work) (sym (d .is))
+
+  pub ran-outputs : {out′ : List ℕ} → out′ ≡ sets out 0 (map (wordAt all) (addresses (c .outputs) s (length s - 2 * c .outputs)))
+      → out′ ≡ outputsOf (decode s) arguments work out
+  unfolding outputsOf
+  ran-outputs e3 =
+      e3 ∙ ap (λ (xs : List ℕ). sets out 0 (map (wordAt all) xs)) (sym (d .places))
+      ∙ ap (λ (x : List ℕ). sets out 0 (map (wordAt x) (d .list .outputs))) memory-is
+      ∙ ap (λ (x : Option BoardList). outputsOf x arguments work out) (sym (d .is))
+
+pub listing : (s : List ℕ) (c : Counts) (size : ℕ) → Decoded s c → c .words ≤ size → Listing s (c .instructions) (c .arguments) size
+listing s c size d h = let w = d .same-words in record { listed = d .listed; reads = d .reads; room = omega arith }
+
+each-less : (xs : List ℕ) (m n : ℕ) → m ≤ n → Each (λ a. a < m) xs → Each (λ a. a < n) xs
+each-less [] m n h e = tt
+each-less (x ∷ xs) m n h e = let p : x < m = e .0 in (omega arith, each-less xs m n h (e .1))
+
+pub outputs-ready : (s : List ℕ) (c : Counts) (size room : ℕ) → Decoded s c → c .words ≤ size → c .outputs ≤ room
+    → OutputsReady s (length s - 2 * c .outputs) (c .outputs) size room
+outputs-ready s c size room d h r =
+    let f = d .fits in
+    record { fits = omega arith; below = each-less (addresses (c .outputs) s (length s - 2 * c .outputs)) (c .words) size h (d .below); out = r }
+
+-- ---- lengths
+
+length-all : (is : List Instruction) (m : List ℕ) → length (executeAll is m) ≡ length m
+unfolding execute
+length-all [] m = refl
+length-all (i ∷ is) m = length-all is (execute i m) ∙ simp length-sets
+
+pub length-after : (o : Option Listed) (m : List ℕ) → length (afterAll o m) ≡ length m
+unfolding afterAll
+length-after none m = refl
+length-after (some l) m = length-all (l .instructions) m
+
+pub length-copy : {m : List ℕ} (work arguments : List ℕ) → m ≡ sets work 0 arguments → length m ≡ length work
+length-copy work arguments e = ap length e ∙ length-sets work 0 arguments

@@ -1,0 +1,5 @@
+pub mod Walks
+pub mod Checking
+pub mod Passing
+pub mod Buffers
+pub mod Decoding

@@ -1,0 +1,61 @@
+-- `runner::constants_allowed`: what is left decides.
+use borrow.Author.Needs.{needs}
+use Prim.Native.Nat.{_+_, _*_, _≤_}
+use mathlib.Core.Path.{_≡_, refl, ap, sym, _∙_}
+use native.Mathlib.Omega.{arith}
+use denote.Ref.{now}
+use borrow.Author.Tests.{not-true, not-false}
+use Rattle.value.specs.Values.{constantWord, every}
+use Rattle.graph.specs.Read.{constants}
+use lib.ListN.{length, replicate}
+use Rattle.runner.proofs.Walks.{on, off, over}
+use Rattle.runner.proofs.Checking.{constants-walk}
+use Rattle.runner.proofs.constants_allowed.Statement.{statement}
+use Rattle.runner.proofs.constants_allowed.Tie as tie
+
+abbrev Inv-loop : tie.InvT-loop
+Inv-loop s from count at₀ left₀ at left = (every constantWord (constants left s at) ≡ every constantWord (constants count s from)) × (at + 8 * left ≤ length s)
+
+abbrev μ-loop : tie.MeasureT-loop
+μ-loop s from count at₀ left₀ at left = left
+
+loop-holds : tie.Need-loop-holds Inv-loop μ-loop
+loop-holds c = (refl, search needs)
+
+u64-at-requires : tie.Need-u64-at-requires Inv-loop μ-loop
+u64-at-requires c κs = omega (arith, c .before .loop .inv .1, c .loop-test .taken)
+
+returns : tie.Need-returns Inv-loop μ-loop
+returns c =
+    let a = c .before .before .before .before .before .before .args in
+    let l = c .before .before .before .before .loop in
+    sym (off (constants-walk (now (a .s))) (l .left) (l .at) (c .before .before .before .loop-test .taken) (ap constantWord (sym (c .before .before .u64-at .ensures)) ∙ sym (c .before .constant-word .ensures) ∙ not-true _ (c .if1 .taken))) ∙ l .inv .0
+
+add-at : tie.Need-add-at Inv-loop μ-loop
+add-at c = omega (arith, c .before .before .before .before .loop .inv .1, c .before .before .before .loop-test .taken)
+
+sub-left : tie.Need-sub-left Inv-loop μ-loop
+sub-left c = omega (arith, c .before .before .before .loop-test .taken)
+
+loop-less : tie.Need-loop-less Inv-loop μ-loop
+loop-less c = omega (arith, c .before .before .before .loop-test .taken)
+
+loop-again : tie.Need-loop-again Inv-loop μ-loop
+loop-again c =
+    let a = c .before .before .before .before .before .before .args in
+    let l = c .before .before .before .before .loop in
+    (sym (on (constants-walk (now (a .s))) (l .left) (l .at) (c .before .before .before .loop-test .taken) (ap constantWord (sym (c .before .before .u64-at .ensures)) ∙ sym (c .before .constant-word .ensures) ∙ not-false _ (c .if1 .left))) ∙ l .inv .0, omega (arith, l .inv .1, c .before .before .before .loop-test .taken))
+
+returns-2 : tie.Need-returns-2 Inv-loop μ-loop
+returns-2 c =
+    let a = c .before .before .before .args in
+    let l = c .before .loop in
+    let z : l .left ≡ 0 = omega arith in
+    sym (over (constants-walk (now (a .s))) (l .left) (l .at) z) ∙ l .inv .0
+
+pub constants-allowed-spec : {M : Type 1} → statement M
+constants-allowed-spec =
+    tie.close
+    (tie.spec
+    Inv-loop μ-loop loop-holds u64-at-requires (λ c κs. search needs) returns add-at sub-left loop-less loop-again
+    returns-2)

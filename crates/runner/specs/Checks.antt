@@ -1,0 +1,46 @@
+-- The check of a code: its counts, or that it is not well formed.
+use Prim.Native.Nat.{ℕ, _+_, _≤_}
+use mathlib.Core.Path.{_≡_}
+use mathlib.Core.List.{List}
+use mathlib.Core.Option.{Option, none, some}
+use lib.ListN.{length}
+use Rattle.ports.specs.declared.Ports.{Ports}
+use Rattle.ports.specs.Kinds.{kindOf}
+use Rattle.ports.specs.Ports.{portsOf}
+use Rattle.graph.specs.Bytes.{byte, u16}
+use Rattle.graph.specs.Read.{Part}
+use Rattle.list.specs.Board.{Instruction, BoardList}
+use Rattle.list.specs.Code.{nextWord, Listed}
+use Rattle.runner.specs.declared.Counts.{Counts}
+use Rattle.runner.specs.declared.Checked.{Checked}
+use Rattle.runner.specs.declared.Checked.the-variants.{Formed, Malformed}
+use Rattle.runner.specs.declared.Passed.{Passed}
+use Rattle.runner.specs.declared.Passed.the-variants.{Here, Wrong}
+
+-- the counts of a board list
+abbrev pub countsOf : BoardList → Counts
+countsOf b = record { arguments = b .arguments; outputs = length (b .outputs); instructions = length (b .instructions); words = b .words }
+
+unfoldable pub checkedOf : Option BoardList → Checked
+checkedOf none = Malformed
+checkedOf (some b) = Formed (countsOf b)
+
+-- the counts that a header says
+abbrev pub headerCounts : List ℕ → Counts
+headerCounts s = record { arguments = byte s 5; outputs = byte s 6; instructions = u16 s 8; words = u16 s 10 }
+
+-- what stands behind an instruction, and behind all of them
+
+unfoldable pub passedOf : ℕ → Option (Part Instruction) → Passed
+passedOf result none = Wrong
+passedOf result (some i) = Here (record { at = i .next; result = nextWord result (i .it) })
+
+unfoldable pub endedOf : Option Listed → Passed
+endedOf none = Wrong
+endedOf (some l) = Here (record { at = l .at; result = l .words })
+
+-- an instruction whose two first bytes are there, and the row of its kind
+pub record Begun (s : List ℕ) (at result : ℕ) (row : Ports) : Type 0 where
+  pub bytes : at + 2 ≤ length s
+  pub row-is : row ≡ portsOf (kindOf (byte s at))
+  pub result-small : result ≤ 20000000

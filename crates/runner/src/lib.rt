@@ -1,0 +1,347 @@
+// The runner of board lists: the check of a code, and the run of a code that was checked.
+ghost use mathlib.Core.Path.{_≡_};
+ghost use mathlib.Core.List.{map};
+ghost use Prim.Native.Nat.{_+_, _*_, _≤_, _<_};
+ghost use lib.ListN.{length, replicate};
+ghost use lib.Seq.{sets};
+ghost use Rattle.ports.specs.Ports.{types, constantIn};
+ghost use Rattle.value.specs.Values.{wordAt, constantWord, argumentWord, every};
+ghost use Rattle.graph.specs.Read.{constants};
+ghost use Rattle.list.specs.Code as Code;
+ghost use Rattle.list.specs.Code.{addresses, allBelow, allLess, readInstruction, readInstructions, withinLimits, decode};
+ghost use Rattle.list.specs.Answers.{ran};
+ghost use Rattle.runner.specs.Checks.{passedOf, endedOf, checkedOf, Begun, headerCounts};
+ghost use Rattle.runner.specs.Runs.{Answered, Runnable, OutputsReady, memoryOf, outputsOf};
+use executor::Next;
+use ports::Form;
+use ports::Ports;
+
+// The counts that a code says.
+pub struct Counts {
+    pub arguments: usize,
+    pub outputs: usize,
+    pub instructions: usize,
+    pub words: usize,
+}
+
+// A code that is well formed has these counts.
+pub enum Checked {
+    Formed(Counts),
+    Malformed,
+}
+
+// The answer of a run: the count of output words, or the number of a refusal and its place.
+pub enum Ran {
+    Done(usize),
+    Refused(u8, usize),
+}
+
+// What stands behind the instructions that are right.
+pub enum Passed {
+    Here(Next),
+    Wrong,
+}
+
+// ---- the check of a code
+
+// The words of the constant of a kind with this row.
+fn constant_words(row: Ports) -> usize
+    ensures { λ r. ⌜ r ≡ constantIn (row .form) (row .words) ⌝ }
+    ensures bounded { λ r. ⌜ r < 256 ⌝ }
+{
+    let form = row.form;
+    match form {
+        Form::Absent => 0,
+        Form::Constant => row.words as usize,
+        Form::References => 0,
+        Form::Call => 0,
+    }
+}
+
+fn constants_allowed(s: &[u8], from: usize, count: usize) -> bool
+    requires { ⌜ from + 8 * count ≤ length (now s) ⌝ }
+    ensures { λ r. ⌜ r ≡ every constantWord (constants count (now (s .entry)) from) ⌝ }
+{
+    let mut at = from;
+    let mut left = count;
+    while 0 < left {
+        if !value::constant_word(executor::u64_at(s, at)) {
+            return false;
+        }
+        at += 8;
+        left -= 1;
+    }
+    true
+}
+
+// Operands of the type t, their words all before `result`.
+fn operands_below(s: &[u8], from: usize, count: usize, t: u8, result: usize) -> bool
+    requires { ⌜ from + 2 * count ≤ length (now s) ⌝ }
+    ensures { λ r. ⌜ r ≡ allBelow result (replicate count t) (addresses count (now (s .entry)) from) ⌝ }
+{
+    let width = ports::width(t);
+    let mut at = from;
+    let mut left = count;
+    while 0 < left {
+        if result < executor::u16_at(s, at) + width {
+            return false;
+        }
+        at += 2;
+        left -= 1;
+    }
+    true
+}
+
+// The same, where the first operand may be of another type.
+fn all_below(s: &[u8], at: usize, count: usize, first: u8, rest: u8, result: usize) -> bool
+    requires { ⌜ at + 2 * count ≤ length (now s) ⌝ }
+    ensures { λ r. ⌜ r ≡ allBelow result (types count first rest) (addresses count (now (s .entry)) at) ⌝ }
+{
+    if count == 0 {
+        return true;
+    }
+    if result < executor::u16_at(s, at) + ports::width(first) {
+        return false;
+    }
+    operands_below(s, at + 2, count - 1, rest, result)
+}
+
+fn outputs_less(s: &[u8], from: usize, count: usize, words: usize) -> bool
+    requires { ⌜ from + 2 * count ≤ length (now s) ⌝ }
+    ensures { λ r. ⌜ r ≡ allLess words (addresses count (now (s .entry)) from) ⌝ }
+{
+    let mut at = from;
+    let mut left = count;
+    while 0 < left {
+        if words <= executor::u16_at(s, at) {
+            return false;
+        }
+        at += 2;
+        left -= 1;
+    }
+    true
+}
+
+// One instruction, its kind byte at `at`, by its kind's row.
+fn check_instruction(s: &[u8], at: usize, result: usize, row: Ports) -> Passed
+    requires { ⌜ Begun (now s) at result row ⌝ }
+    ensures { λ r. ⌜ r ≡ passedOf result (readInstruction (now (s .entry)) at result) ⌝ }
+{
+    let form = row.form;
+    if !ports::executable(form) {
+        return Passed::Wrong;
+    }
+    let t = s[at + 1];
+    if !ports::type_fits(row, t) {
+        return Passed::Wrong;
+    }
+    let p = at + 2;
+    let n = row.operands as usize;
+    let c = constant_words(row);
+    let size = 2 * n + 8 * c;
+    if s.len() - p < size {
+        return Passed::Wrong;
+    }
+    let first = ports::own(t, row.first);
+    let rest = ports::own(t, row.rest);
+    if !all_below(s, p, n, first, rest, result) {
+        return Passed::Wrong;
+    }
+    if !constants_allowed(s, p + 2 * n, c) {
+        return Passed::Wrong;
+    }
+    Passed::Here(Next {
+        at: p + size,
+        result: result + ports::result_words(row, t),
+    })
+}
+
+// All instructions, from the byte 12 and the word `first` on: what stands behind them.
+fn check_instructions(s: &[u8], count: usize, first: usize) -> Passed
+    requires { ⌜ (12 ≤ length (now s)) × (count ≤ 65535) × (first ≤ 255) ⌝ }
+    ensures { λ r. ⌜ r ≡ endedOf (readInstructions count (now (s .entry)) 12 first) ⌝ }
+{
+    let rows = ports::PORTS;
+    let mut at = 12;
+    let mut result = first;
+    let mut left = count;
+    while 0 < left {
+        if s.len() - at < 2 {
+            return Passed::Wrong;
+        }
+        let k = executor::byte_at(s, at);
+        if 25 <= k {
+            return Passed::Wrong;
+        }
+        let row = rows[k];
+        let Passed::Here(next) = check_instruction(s, at, result, row) else {
+            return Passed::Wrong;
+        };
+        at = next.at;
+        result = next.result;
+        left -= 1;
+    }
+    Passed::Here(Next { at, result })
+}
+
+// Mark, version and zero byte.
+fn marked(s: &[u8]) -> bool
+    requires { ⌜ 12 ≤ length (now s) ⌝ }
+    ensures { λ r. ⌜ r ≡ Code.marked (now (s .entry)) ⌝ }
+{
+    if s[0] != 0x49 {
+        return false;
+    }
+    if s[1] != 0x46 {
+        return false;
+    }
+    if s[2] != 0x52 {
+        return false;
+    }
+    if executor::u16_at(s, 3) != 1 {
+        return false;
+    }
+    s[7] == 0
+}
+
+fn header_counts(s: &[u8]) -> Counts
+    requires { ⌜ 12 ≤ length (now s) ⌝ }
+    ensures { λ r. ⌜ (r ≡ headerCounts (now (s .entry))) × (r .arguments ≤ 255) × (r .outputs ≤ 255) × (r .instructions ≤ 65535) ⌝ }
+{
+    let arguments = executor::byte_at(s, 5);
+    let outputs = executor::byte_at(s, 6);
+    let instructions = executor::u16_at(s, 8);
+    let words = executor::u16_at(s, 10);
+    Counts {
+        arguments,
+        outputs,
+        instructions,
+        words,
+    }
+}
+
+fn within_limits(c: Counts) -> bool
+    ensures { λ r. ⌜ r ≡ withinLimits (c .arguments) (c .outputs) (c .instructions) (c .words) ⌝ }
+{
+    if 128 < c.arguments {
+        return false;
+    }
+    if c.outputs < 1 {
+        return false;
+    }
+    if 128 < c.outputs {
+        return false;
+    }
+    if 4096 < c.instructions {
+        return false;
+    }
+    c.words <= 8192
+}
+
+// Whether a code is well formed, and its counts.
+pub fn check_code(s: &[u8]) -> Checked
+    ensures { λ r. ⌜ r ≡ checkedOf (decode (now (s .entry))) ⌝ }
+{
+    if s.len() < 12 {
+        return Checked::Malformed;
+    }
+    if !marked(s) {
+        return Checked::Malformed;
+    }
+    let counts = header_counts(s);
+    if !within_limits(counts) {
+        return Checked::Malformed;
+    }
+    let Passed::Here(next) = check_instructions(s, counts.instructions, counts.arguments) else {
+        return Checked::Malformed;
+    };
+    let at = next.at;
+    if next.result != counts.words {
+        return Checked::Malformed;
+    }
+    if s.len() - at != 2 * counts.outputs {
+        return Checked::Malformed;
+    }
+    if !outputs_less(s, at, counts.outputs, counts.words) {
+        return Checked::Malformed;
+    }
+    Checked::Formed(counts)
+}
+
+fn arguments_allowed(xs: &[u64]) -> bool
+    ensures { λ r. ⌜ r ≡ every argumentWord (now (xs .entry)) ⌝ }
+{
+    let mut i = 0;
+    while i < xs.len() {
+        if !value::argument_word(xs[i]) {
+            return false;
+        }
+        i += 1;
+    }
+    true
+}
+
+fn copy(from: &[u64], to: &mut [u64])
+    requires { ⌜ length (now from) ≤ length (now to) ⌝ }
+    ensures { λ _. ⌜ now (to .exit) ≡ sets (now (to .entry)) 0 (now (from .entry)) ⌝ }
+{
+    let mut i = 0;
+    while i < from.len() {
+        to[i] = from[i];
+        i += 1;
+    }
+}
+
+// The words at `count` addresses, which stand at the byte `from`.
+fn copy_outputs(s: &[u8], from: usize, count: usize, work: &[u64], out: &mut [u64])
+    requires { ⌜ OutputsReady (now s) from count (length (now work)) (length (now out)) ⌝ }
+    ensures { λ _. ⌜ now (out .exit) ≡ sets (now (out .entry)) 0 (map (wordAt (now (work .entry))) (addresses count (now (s .entry)) from)) ⌝ }
+{
+    let mut i = 0;
+    while i < count {
+        let a = executor::u16_at(s, from + 2 * i);
+        out[i] = work[a];
+        i += 1;
+    }
+}
+
+// Runs a code that was checked, with its counts, on as many arguments, where both buffers are long enough.
+pub fn run_checked(
+    code: &[u8],
+    counts: Counts,
+    arguments: &[u64],
+    work: &mut [u64],
+    out: &mut [u64],
+)
+    requires { ⌜ Runnable (now code) counts (length (now arguments)) (length (now work)) (length (now out)) ⌝ }
+    ensures { λ _. ⌜ (now (work .exit) ≡ memoryOf (decode (now (code .entry))) (now (arguments .entry)) (now (work .entry))) × (now (out .exit) ≡ outputsOf (decode (now (code .entry))) (now (arguments .entry)) (now (work .entry)) (now (out .entry))) ⌝ }
+{
+    let outputs = counts.outputs;
+    let at = code.len() - 2 * outputs;
+    copy(arguments, work);
+    executor::execute_all(code, counts.instructions, counts.arguments, work);
+    copy_outputs(code, at, outputs, work, out);
+}
+
+// Runs a code on arguments: 18, 19, 20 and 21 are judged before any word is written.
+pub fn run(code: &[u8], arguments: &[u64], work: &mut [u64], out: &mut [u64]) -> Ran
+    ensures { λ r. ⌜ Answered (ran (now (code .entry)) (now (arguments .entry)) (now (work .entry)) (now (out .entry))) (now (work .entry)) (now (out .entry)) (now (work .exit)) (now (out .exit)) r ⌝ }
+{
+    let Checked::Formed(counts) = check_code(code) else {
+        return Ran::Refused(18, 0);
+    };
+    if arguments.len() != counts.arguments {
+        return Ran::Refused(19, 0);
+    }
+    if !arguments_allowed(arguments) {
+        return Ran::Refused(20, 0);
+    }
+    if work.len() < counts.words {
+        return Ran::Refused(21, 0);
+    }
+    if out.len() < counts.outputs {
+        return Ran::Refused(21, 0);
+    }
+    run_checked(code, counts, arguments, work, out);
+    Ran::Done(counts.outputs)
+}
