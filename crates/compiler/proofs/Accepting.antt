@@ -82,7 +82,7 @@ module _ (s : List ℕ) (k : ℕ) (acc : Accepted s k) where
   single-down : (n j : ℕ) → j < n → Each (λ f. Single (f .nodes)) (before s n) → Single (functionIn s j .nodes)
   unfolding earlier
   single-down zero j l h = absurd (omega arith)
-  single-down (suc n) j l h = pickOne (cmp j n)
+  single-down (suc n) j l h = pickOne (cmp j n) (λ m. single-down n j m (h .1))
     where
       cmp : (j n : ℕ) → (j ≡ n) ⊎ (j ≡ n → ⊥)
       cmp zero zero = inl refl
@@ -90,12 +90,12 @@ module _ (s : List ℕ) (k : ℕ) (acc : Accepted s k) where
       cmp (suc j) zero = inr (λ e. omega arith)
       cmp (suc j) (suc n) = ⊎-elim (λ e. inl (ap suc e)) (λ d. inr (λ e. d (omega arith))) (cmp j n)
 
-      pickOne : (j ≡ n) ⊎ (j ≡ n → ⊥) → Single (functionIn s j .nodes)
-      pickOne (inl e) = subst (λ (a : ℕ). Single (functionIn s a .nodes)) (sym e) (h .0)
-      pickOne (inr d) = single-down n j (omega arith) (h .1)
+      pickOne : (j ≡ n) ⊎ (j ≡ n → ⊥) → (j < n → Single (functionIn s j .nodes)) → Single (functionIn s j .nodes)
+      pickOne (inl e) ih = subst (λ (a : ℕ). Single (functionIn s a .nodes)) (sym e) (h .0)
+      pickOne (inr d) ih = ih (omega arith)
 
   pub single-at : (j : ℕ) → j < k → Single (functionIn s j .nodes)
-  single-at j l = let n = acc .most in single-down (byte s 5) j (omega arith) (accepted-single s (before s (byte s 5)) (acc .read))
+  single-at j l = let n = acc .most in single-down (byte s 5) j (omega arith) (accepted-single s (acc .small) (before s (byte s 5)) (acc .read))
 
   -- ---- places that the code can take
 

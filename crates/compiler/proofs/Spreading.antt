@@ -24,6 +24,7 @@ use Rattle.graph.specs.Sums.{sum, nodeWords, resultWordsOf}
 use Rattle.graph.proofs.Loops.{In}
 use Rattle.graph.proofs.Order.{ids, sound-closed, scheduled, schedule-within}
 use Rattle.graph.proofs.Steps.{is-each}
+use Rattle.graph.proofs.Formed.{refs-length}
 use Rattle.reader.specs.Layout.{kindAt, nodeAt, nodesAt, nodePlace, nodesPlace, nodeCount, functionAt, earlier}
 use Rattle.topology.specs.Indices.{slot, indexOrder}
 use Rattle.topology.specs.Resolve.{target, Resolves}
@@ -51,12 +52,16 @@ use Rattle.compiler.proofs.Accepting.{few, sound-to, single-at, fit-at}
 
 absent-at : (ns : List Node) (j v : ℕ) (y : Node) → member j (ids ns) ≡ false → getElem? ns v ≡ some y → y .id ≡ j → ⊥
 absent-at [] j v y a g e = let z : _≡_ {A = ℕ} 0 1 = cc in omega arith
-absent-at (x ∷ ns) j v y a g e = pickOne (eqb (x .id) j) refl v a g
+absent-at (x ∷ ns) j zero y a g e = pickOne (eqb (x .id) j) refl a
   where
-    pickOne : (b : Bool) → eqb (x .id) j ≡ b → (v : ℕ) → cond b true (member j (ids ns)) ≡ false → getElem? (x ∷ ns) v ≡ some y → ⊥
-    pickOne true q v a g = let z : _≡_ {A = ℕ} 0 1 = cc in omega arith
-    pickOne false q zero a g = let z : x ≡ y = cc in eqb-false (x .id) j q (ap (λ (n : Node). n .id) z ∙ e)
-    pickOne false q (suc v) a g = absent-at ns j v y a g e
+    pickOne : (b : Bool) → eqb (x .id) j ≡ b → cond b true (member j (ids ns)) ≡ false → ⊥
+    pickOne true q a = let z : _≡_ {A = ℕ} 0 1 = cc in omega arith
+    pickOne false q a = let z : x ≡ y = cc in eqb-false (x .id) j q (ap (λ (n : Node). n .id) z ∙ e)
+absent-at (x ∷ ns) j (suc v) y a g e = absent-at ns j v y (pickOne (eqb (x .id) j) a) g e
+  where
+    pickOne : (b : Bool) → cond b true (member j (ids ns)) ≡ false → member j (ids ns) ≡ false
+    pickOne true a = let z : _≡_ {A = ℕ} 0 1 = cc in absurd (omega arith)
+    pickOne false a = a
 
 single-index : (ns : List Node) → Single ns → (v i : ℕ) (y x : Node) → getElem? ns v ≡ some y → getElem? ns i ≡ some x → y .id ≡ x .id → v ≡ i
 single-index [] h v i y x gv gi e = let z : _≡_ {A = ℕ} 0 1 = cc in absurd (omega arith)
@@ -126,6 +131,10 @@ module _ (s : List ℕ) (k c : ℕ) (acc : Accepted s (suc k)) (outs ts places i
 
   k16 : k < 16
   k16 = let l = few s (suc k) acc in omega arith
+
+  words-of-closed : closedAt s k .words ≡ wordsAt s k
+  unfolding wordsAt
+  words-of-closed = function-words (before s k) (functionIn s k) sound
 
   pub record At (rest : List Node) (left : List ℕ) (spotted : List Spotted) (order spots laid : List ℕ) (here d m : ℕ) : Type 0 where
     pub count : m + length rest ≡ n
@@ -233,20 +242,170 @@ module _ (s : List ℕ) (k c : ℕ) (acc : Accepted s (suc k)) (outs ts places i
 
       -- what the code needs to know at this node
       pub record Here : Type 0 where
-        pub fit : NodeFit s p
-        pub few : length (reads (nodeAt s p)) ≤ 16
-        pub room : here + length (reads (nodeAt s p)) ≤ spotRoom
-        pub words : d + addsWords s k (nodeAt s p) ≤ 8192
+        pub fits : NodeFit s p
+        pub narrow-reads : length (reads (nodeAt s p)) ≤ 16
+        pub free : here + length (reads (nodeAt s p)) ≤ spotRoom
+        pub short : d + addsWords s k (nodeAt s p) ≤ 8192
 
       pub here-is : Here
       here-is =
           record {
-            fit = node-fit;
-            few = few-reads s p node-fit;
-            room = rw node-is (let a = st .unread in omega arith);
-            words = rw node-is (let a = st .words in omega arith);
+            fits = node-fit;
+            narrow-reads = few-reads s p node-fit;
+            free = rw node-is (let a = st .unread in omega arith);
+            short = rw node-is (let a = st .words in omega arith);
           }
 
+      adds-closed : (y : Node) (q : Payload) → nodeWords (resultWordsOf (before s k)) y q ≡ closedNode call spotted d y q .words
+      adds-closed y (consts ws) = refl
+      adds-closed y (refs rs) = refl
+      adds-closed y (calls e rs) = sym (closed-words (before s k) (sound .1) e)
+
+      -- the callee's outputs have their numbers
+      inner : calling (formOf (kindAt s p)) ≡ true → positionOf s k (u16 s (p + 4)) < k
+          → (inputs : ℕ) × Each (Within inputs 8192) (closedAt s (positionOf s k (u16 s (p + 4))) .outputs)
+          × PortsCoded (closedAt s (positionOf s k (u16 s (p + 4))) .outputs) outs (8 * positionOf s k (u16 s (p + 4)))
+      unfolding wordsAt earlier
+      inner f l =
+          let g = positionOf s k (u16 s (p + 4)) in
+          let a : addsWords s k (nodeAt s p) ≡ wordsAt s g =
+              added-words s k p (byte s (p + 2)) (portsOf (kindAt s p)) refl refl f (u16 s (p + 4)) g refl refl
+              ∙ words-at s k (u16 s (p + 4)) g refl (let z = k16 in omega arith) l in
+          let b = here-is .short in
+          let sg = sound-to s (suc k) acc (suc g) (omega arith) in
+          let w : closedAt s g .words ≡ wordsAt s g = function-words (before s g) (functionIn s g) sg in
+          (
+            length (functionIn s g .inputs),
+            each-wider (length (functionIn s g .inputs)) 8192 (closedAt s g .words) (closedAt s g .outputs) (omega arith) (outputs-within (before s g) (functionIn s g) sg),
+            all g l (omega arith),
+          )
+
       module _ (r : Reads) (er : ReadsOf s p r) where
-        count-is : length (reads x) ≡ r .count
-        count-is = ?
+        reads-are : reads x ≡ references (r .count) s (r .first)
+        reads-are = ap reads (sym node-is) ∙ er .refs
+
+        pub count-is : r .count ≡ length (reads (nodeAt s p))
+        count-is = sym (ap length (er .refs) ∙ refs-length (r .count) s (r .first))
+
+        abbrev codes : List ℕ
+        codes = readCodes s ts laid (16 * i) (r .count) (r .first)
+
+        codes-are : AllCodes codes (map (spotOf spotted) (references (r .count) s (r .first)))
+        unfolding functionAt
+        codes-are =
+            let l : length (nodesAt n s at) ≡ n = nodes-length n s at in
+            let f = fit-at s (suc k) acc k (omega arith) .count in
+            reads-coded ns (omega arith) laid spotted (st .known) s ts i x (λ j jl. slots .slots i j x stands jl)
+            (λ q w g. sound-closed (before s k) (functionIn s k) (sound .0) .closed x (q .node) (at-is ns i x stands) (ref-member (reads x) w q g))
+            (r .count) (r .first) reads-are (let z = here-is .narrow-reads in let y = count-is in omega arith)
+
+        codes-size : length codes ≡ r .count
+        codes-size =
+            codes-length codes (map (spotOf spotted) (references (r .count) s (r .first))) codes-are
+            ∙ length-map (references (r .count) s (r .first)) (spotOf spotted) ∙ refs-length (r .count) s (r .first)
+
+        module _ (spots' : List ℕ) (es : spots' ≡ sets spots here codes) where
+          fits-there : here + length codes ≤ length spots
+          fits-there = let a = here-is .free in let b = count-is in let e = codes-size in let z = st .sizes .1 in omega arith
+
+          given : (j : ℕ) → j < length (reads (nodeAt s p)) → Codes (getD spots' (here + j) 0) (getD (map (spotOf spotted) (reads (nodeAt s p))) j nowhere)
+          given j l =
+              subst (λ (qs : List Ref). Codes (getD spots' (here + j) 0) (getD (map (spotOf spotted) qs) j nowhere)) (sym (er .refs))
+              (subst (λ (ys : List ℕ). Codes (getD ys (here + j) 0) (getD (map (spotOf spotted) (references (r .count) s (r .first))) j nowhere)) (sym es)
+              (codes-stored spots here codes (map (spotOf spotted) (references (r .count) s (r .first))) codes-are fits-there j))
+
+          abbrev ports : List ℕ
+          ports = nodeCodes s outs spots' k p here d
+
+          abbrev one : Closed
+          one = closedNode call spotted d x (x .payload)
+
+          ports-are : AllCodes ports (one .outputs)
+          ports-are =
+              subst (λ (y : Node). AllCodes ports (closedNode call spotted d y (y .payload) .outputs)) node-is
+              (node-coded s outs spots' k p here d spotted node-fit (let z = k16 in omega arith) (let z = here-is .short in omega arith) inner given)
+
+          ports-few : length (one .outputs) ≤ 8
+          ports-few =
+              let a = node-few s outs spots' k p here d spotted node-fit (let z = k16 in omega arith) (let z = here-is .short in omega arith) inner given in
+              let b = codes-length ports (one .outputs) ports-are in
+              omega arith
+
+          module _ (order' laid' : List ℕ) (d' here' : ℕ) (eo : order' ≡ set order (256 * k + m) p) (el : laid' ≡ sets laid (8 * i) ports)
+            (ed : d' ≡ d + addsWords s k (nodeAt s p)) (eh : here' ≡ here + r .count) where
+            abbrev next : List Spotted
+            next = record { id = x .id; spots = one .outputs } ∷ spotted
+
+            low-m : m < 256
+            low-m = let a = st .count in let f = fit-at s (suc k) acc k (omega arith) .count in omega arith
+
+            order-below : (q : ℕ) → q < 256 * k + m → getD order' q 0 ≡ getD order q 0
+            order-below q l = ap (λ (ys : List ℕ). getD ys q 0) eo ∙ getD-set-other order (256 * k + m) q p 0 (λ e. omega arith)
+
+            order-here : getD order' (256 * k + m) 0 ≡ p
+            order-here =
+                ap (λ (ys : List ℕ). getD ys (256 * k + m) 0) eo
+                ∙ getD-set-same order (256 * k + m) p 0 (let a = st .sizes .0 in let b = k16 in let e = low-m in omega arith)
+
+            spots-below : (q : ℕ) → q < here → getD spots' q 0 ≡ getD spots q 0
+            spots-below q l = ap (λ (ys : List ℕ). getD ys q 0) es ∙ sets-below codes spots here q l
+
+            size-x : length (reads x) ≡ r .count
+            size-x = ap length reads-are ∙ refs-length (r .count) s (r .first)
+
+            words-x : d + one .words ≡ d'
+            words-x = sym (ed ∙ ap (λ (y : Node). d + addsWords s k y) node-is ∙ ap (λ (w : ℕ). d + w) (adds-closed x (x .payload)))
+
+            coded : (spots'' : List ℕ) → ((q : ℕ) → q < here' → getD spots'' q 0 ≡ getD spots' q 0) → Coded spots'' table here (reads x)
+            unfolding earlier functionAt
+            coded spots'' hs =
+                let f = fit-at s (suc k) acc k (omega arith) .inputs in
+                let a = sound .0 .resolved .formed .inputs in
+                let w : closedAt s k .words ≡ wordsAt s k = words-of-closed in
+                coded-reads (length (functionIn s k .inputs)) table spotted spots'' here (reads x) codes a
+                (subst (λ (qs : List Ref). AllCodes codes (map (spotOf spotted) qs)) (sym reads-are) codes-are)
+                (st .agrees .0)
+                (each-wider (length (functionIn s k .inputs)) 8192 (closedAt s k .words) (map table (reads x)) (omega arith)
+                (reads-within (before s k) (functionIn s k) sound x (at-is ns i x stands)))
+                (λ q ql. hs (here + q) (let z = codes-size in omega arith) ∙ ap (λ (ys : List ℕ). getD ys (here + q) 0) es ∙ sets-in codes spots here q ql fits-there)
+                (let z = size-x in let y = here-is .free in let v = count-is in omega arith)
+
+            pub stepped : At xs is next order' spots' laid' here' d' (m + 1)
+            stepped =
+                record {
+                  count = let a = st .count in omega arith;
+                  along = let e = st .along in cc;
+                  held = λ j jl. let z : m + 1 + j ≡ m + suc j = omega arith in ap (λ (q : ℕ). getD index q 0) z ∙ st .held (suc j) (omega arith);
+                  agrees = subst (λ (w : ℕ). Agrees call table xs next w) words-x (st .agrees .1);
+                  final = st .final ∙ ap (λ (w : ℕ). spread call xs next w) words-x;
+                  within = λ y h. st .within y (inr h);
+                  known = subst (λ (ys : List ℕ). Knows ns ys next) (sym el)
+                      (knows-step ns laid spotted i x ports (one .outputs) (st .known) stands
+                      (λ v y gv e. single-index ns (single-at s (suc k) acc k (omega arith)) v i y x gv stands e) ports-are ports-few
+                      (let a = st .sizes .2 in let b = low in let f = fit-at s (suc k) acc k (omega arith) .count in omega arith));
+                  words = let a = st .words in let b = ap (addsWords s k) node-is in omega arith;
+                  unread = let a = st .unread in let b = size-x in omega arith;
+                  sizes =
+                      (
+                        ap length eo ∙ length-set order (256 * k + m) p ∙ st .sizes .0,
+                        ap length es ∙ length-sets spots here codes ∙ st .sizes .1,
+                        ap length el ∙ length-sets laid (8 * i) ports ∙ st .sizes .2,
+                      );
+                  old-order = λ q l. order-below q (omega arith) ∙ st .old-order q l;
+                  old-spots = λ q l. spots-below q (let z = st .past in omega arith) ∙ st .old-spots q l;
+                  placed = λ order'' spots'' ho hs rest.
+                      st .placed order'' spots'' (λ q l. ho q (omega arith) ∙ order-below q l) (λ q l. hs q (let z = eh in omega arith) ∙ spots-below q l)
+                      (stand order'' spots'' ho hs rest);
+                  past = let z = st .past in omega arith;
+                }
+              where
+                stand : (order'' spots'' : List ℕ) → ((q : ℕ) → q < 256 * k + (m + 1) → getD order'' q 0 ≡ getD order' q 0) → ((q : ℕ) → q < here' → getD spots'' q 0 ≡ getD spots' q 0)
+                    → Placed s order'' spots'' table (256 * k + (m + 1)) here' xs → Placed s order'' spots'' table (256 * k + m) here (x ∷ xs)
+                stand order'' spots'' ho hs rest =
+                    let e : getD order'' (256 * k + m) 0 ≡ p = ho (256 * k + m) (omega arith) ∙ order-here in
+                    let z : 256 * k + (m + 1) ≡ 256 * k + m + 1 = omega arith in
+                    let y : here' ≡ here + length (reads x) = eh ∙ ap (λ (w : ℕ). here + w) (sym size-x) in
+                    (
+                      (ap (nodeAt s) e ∙ node-is, subst (NodeFit s) (sym e) node-fit, coded spots'' hs),
+                      subst (λ (b : ℕ). Placed s order'' spots'' table b (here + length (reads x)) xs) z (subst (λ (b : ℕ). Placed s order'' spots'' table (256 * k + (m + 1)) b xs) y rest),
+                    )

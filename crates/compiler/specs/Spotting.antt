@@ -8,7 +8,7 @@ use lib.Dec.{ltb, leb}
 use lib.ListN.{length, getD, getElem?}
 use Rattle.ports.specs.Ports.{width, own, portsOf, formOf}
 use Rattle.graph.specs.Outcome.{Outcome, ok}
-use Rattle.graph.specs.Bytes.{byte, u16}
+use Rattle.graph.specs.Bytes.{Bytes, byte, u16}
 use Rattle.graph.specs.Graph.{Ref, Node, Function}
 use Rattle.graph.specs.Judge.{table}
 use Rattle.graph.specs.Look.{member, reads}
@@ -29,6 +29,7 @@ pub record Accepted (s : List ℕ) (k : ℕ) : Type 0 where
   pub sound : AllSound (before s (byte s 5))
   pub most : k ≤ byte s 5
   pub short : length s < 65536
+  pub small : Bytes s
 
 -- ---- arrays that are read
 
