@@ -222,7 +222,7 @@ module _ (s : List ℕ) (k f at : ℕ) where
     unfolding functionAt
     call-node p e = (
       by-form Call c
-      ∙ (ap (λ (o : Option Function). referencesChecked s k f (inputsOf o) (references (byte s (at + 4 + 2)) s (at + 4 + 3))) e
-      ∙ ap (λ (n : ℕ). referencesChecked s k f (inputsAt n s (p + 6)) (references (byte s (at + 4 + 2)) s (at + 4 + 3))) (sym (call-count p e))),
+          ∙ (ap (λ (o : Option Function). referencesChecked s k f (inputsOf o) (references (byte s (at + 4 + 2)) s (at + 4 + 3))) e
+          ∙ ap (λ (n : ℕ). referencesChecked s k f (inputsAt n s (p + 6)) (references (byte s (at + 4 + 2)) s (at + 4 + 3))) (sym (call-count p e))),
       reads-form Call c,
     )

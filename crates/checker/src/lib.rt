@@ -234,13 +234,7 @@ fn want_at(s: &[u8], want: Want, n: usize, j: usize) -> u8
     ensures { λ r. ⌜ r ≡ getD (wantsList (now (s .entry)) n want) j 0 ⌝ }
 {
     match want {
-        Want::Types(a, b) => {
-            if j == 0 {
-                a
-            } else {
-                b
-            }
-        }
+        Want::Types(a, b) => { if j == 0 { a } else { b } }
         Want::Inputs(p) => s[p + 6 + j],
     }
 }
@@ -281,7 +275,17 @@ fn clear_row(targets: &mut [u16; 4096], i: usize)
 }
 
 // The n references at `begin`, which go to the slots of node i.
-fn references_good(s: &[u8], starts: &[usize; 16], k: usize, f: Head, want: Want, begin: usize, n: usize, i: usize, targets: &mut [u16; 4096]) -> Seen
+fn references_good(
+    s: &[u8],
+    starts: &[usize; 16],
+    k: usize,
+    f: Head,
+    want: Want,
+    begin: usize,
+    n: usize,
+    i: usize,
+    targets: &mut [u16; 4096],
+) -> Seen
     requires { ⌜ Scene (now s) (now starts) k f × WantFits (now s) n want × (begin + 3 * n ≤ length (now s)) × (n ≤ 16) × (i < 256) × (length (now targets) ≡ 4096) ⌝ }
     ensures { λ r. ⌜ r ≡ seen (referencesChecked (now (s .entry)) k (f .place) (wantsList (now (s .entry)) n want) (references n (now (s .entry)) begin)) ⌝ }
     ensures { λ r. ⌜ (r ≡ Seen.Good → Filled (now (s .entry)) (f .place) begin n i (now (targets .entry)) (now (targets .exit))) ⌝ }
@@ -304,7 +308,15 @@ fn references_good(s: &[u8], starts: &[usize; 16], k: usize, f: Head, want: Want
 }
 
 // The references of the node at `at`, whose index is i.
-fn node_good(s: &[u8], starts: &[usize; 16], k: usize, f: Head, at: usize, i: usize, targets: &mut [u16; 4096]) -> Seen
+fn node_good(
+    s: &[u8],
+    starts: &[usize; 16],
+    k: usize,
+    f: Head,
+    at: usize,
+    i: usize,
+    targets: &mut [u16; 4096],
+) -> Seen
     requires { ⌜ Scene (now s) (now starts) k f × ReadsNode (now s) at × (i < 256) × (callOk (earlier (version1 .header) (now s) k) at (nodeAt (now s) at .payload) ≡ ok tt) × (length (now targets) ≡ 4096) ⌝ }
     ensures { λ r. ⌜ r ≡ seen (nodeChecked (now (s .entry)) k (f .place) (nodeAt (now (s .entry)) at)) ⌝ }
     ensures { λ r. ⌜ (r ≡ Seen.Good → RowIs (functionAt (now (s .entry)) (f .place) .nodes) (nodeAt (now (s .entry)) at) i (now (targets .entry)) (now (targets .exit))) ⌝ }
@@ -318,12 +330,32 @@ fn node_good(s: &[u8], starts: &[usize; 16], k: usize, f: Head, at: usize, i: us
         Form::Constant => Seen::Good,
         Form::References => {
             let want = Want::Types(ports::own(ty, row.first), ports::own(ty, row.rest));
-            references_good(s, starts, k, f, want, at + 4, size(row.operands), i, targets)
+            references_good(
+                s,
+                starts,
+                k,
+                f,
+                want,
+                at + 4,
+                size(row.operands),
+                i,
+                targets,
+            )
         }
         Form::Call => {
             let found = reader::find_function(s, starts, k, reader::u16_at(s, at + 4));
             match found {
-                Found::At(_, p) => references_good(s, starts, k, f, Want::Inputs(p), at + 4 + 3, size(s[at + 4 + 2]), i, targets),
+                Found::At(_, p) => references_good(
+                    s,
+                    starts,
+                    k,
+                    f,
+                    Want::Inputs(p),
+                    at + 4 + 3,
+                    size(s[at + 4 + 2]),
+                    i,
+                    targets,
+                ),
                 Found::Nothing => Seen::Good,
             }
         }
@@ -376,7 +408,13 @@ fn loop_free(s: &[u8], f: Head, targets: &[u16; 4096]) -> Seen
 // ---- a function, and the table
 
 // The function at `at`, the k-th from 0; `targets` is room to work in.
-fn judge_function(s: &[u8], starts: &[usize; 16], k: usize, at: usize, targets: &mut [u16; 4096]) -> Seen
+fn judge_function(
+    s: &[u8],
+    starts: &[usize; 16],
+    k: usize,
+    at: usize,
+    targets: &mut [u16; 4096],
+) -> Seen
     requires { ⌜ Started (now s) (now starts) k × (k ≤ 16) × ReadsFunction (now s) at × (length (now targets) ≡ 4096) ⌝ }
     ensures { λ r. ⌜ r ≡ seen (judge (earlier (version1 .header) (now (s .entry)) k) (functionAt (now (s .entry)) at)) ⌝ }
     ensures { λ r. ⌜ (r ≡ Seen.Good → length (now (targets .exit)) ≡ 4096) ⌝ }
@@ -392,7 +430,11 @@ fn judge_function(s: &[u8], starts: &[usize; 16], k: usize, at: usize, targets: 
     let outputs = at + 6 + size(s[at + 2]);
     let first = outputs + 4 * nout;
     let count = wide(reader::u16_at(s, at + 4));
-    let f = Head { place: at, first, count };
+    let f = Head {
+        place: at,
+        first,
+        count,
+    };
     let fresh = fresh_nodes(s, first, count);
     let Seen::Good = fresh else {
         return fresh;

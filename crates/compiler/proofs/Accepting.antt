@@ -131,7 +131,7 @@ module _ (s : List ℕ) (k : ℕ) (acc : Accepted s k) where
       let o = f .outputs in
       let x : length (inputsAt (inputCount s (placeOf s j)) s (placeOf s j + 6)) ≡ inputCount s (placeOf s j) = inputs-length (inputCount s (placeOf s j)) (placeOf s j + 6) in
       let y : length (outputsAt (outputCount s (placeOf s j)) s (outputsPlace s (placeOf s j))) ≡ outputCount s (placeOf s j) =
-          outputs-length (outputCount s (placeOf s j)) (outputsPlace s (placeOf s j)) in
+      outputs-length (outputCount s (placeOf s j)) (outputsPlace s (placeOf s j)) in
       record {
         place = omega arith;
         inputs = omega arith;

@@ -95,7 +95,7 @@ module _ (ns : List Node) (few : length ns ≤ 256) (laid : List ℕ) (spotted :
           let l : indexOf (r .node) ns < length ns = in-index (r .node) ns i in
           let (m, g, f, e) = index-of (r .node) ns l in
           let c : PortsCoded (spotsOf (r .node) spotted) laid (8 * indexOf (r .node) ns) =
-              subst (λ (j : ℕ). PortsCoded (spotsOf j spotted) laid (8 * indexOf (r .node) ns)) e (known (indexOf (r .node) ns) m g) in
+          subst (λ (j : ℕ). PortsCoded (spotsOf j spotted) laid (8 * indexOf (r .node) ns)) e (known (indexOf (r .node) ns) m g) in
           byPort a w c (lt-ltb (indexOf (r .node) ns) 256 (omega arith))
         where
           byPort : (a : Bool) → leb 8 (r .port) ≡ a → PortsCoded (spotsOf (r .node) spotted) laid (8 * indexOf (r .node) ns) → ltb (indexOf (r .node) ns) 256 ≡ true
@@ -105,7 +105,7 @@ module _ (ns : List Node) (few : length ns ≤ 256) (laid : List ℕ) (spotted :
 
   -- the references of the i-th node
   module _ (s ts : List ℕ) (i : ℕ) (x : Node) (slots : (j : ℕ) → j < 16 → slot ts i j ≡ target ns (getElem? (reads x) j))
-    (inside : (r : Ref) (w : ℕ) → getElem? (reads x) w ≡ some r → (r .node ≡ 0) ⊎ In (r .node) (ids ns)) where
+      (inside : (r : Ref) (w : ℕ) → getElem? (reads x) w ≡ some r → (r .node ≡ 0) ⊎ In (r .node) (ids ns)) where
     reads-from : (m j q : ℕ) → ((w : ℕ) → getElem? (reads x) (j + w) ≡ getElem? (references m s q) w) → j + m ≤ 16
         → AllCodes (readCodes s ts laid (16 * i + j) m q) (map (spotOf spotted) (references m s q))
     unfolding readCodes
@@ -115,11 +115,10 @@ module _ (ns : List Node) (few : length ns ≤ 256) (laid : List ℕ) (spotted :
         let z : j ≡ j + 0 = omega arith in
         let g : getElem? (reads x) j ≡ some r = ap (getElem? (reads x)) z ∙ f 0 in
         let e : getD ts (16 * i + j) 0 ≡ target ns (some r) = slots j (omega arith) ∙ ap (target ns) g in
-        let y : 16 * i + (j + 1) ≡ 16 * i + j + 1 = omega arith in
-        (
+        let y : 16 * i + (j + 1) ≡ 16 * i + j + 1 = omega arith in (
           subst (λ (v : ℕ). Codes (portCode laid v (byte s (q + 2))) (spotOf spotted r)) (sym e) (port-coded r (inside r j g)),
           subst (λ (b : ℕ). AllCodes (readCodes s ts laid b m (q + 3)) (map (spotOf spotted) (references m s (q + 3)))) y
-          (reads-from m (j + 1) (q + 3) (λ w. let a : j + 1 + w ≡ j + suc w = omega arith in ap (getElem? (reads x)) a ∙ f (suc w)) (omega arith)),
+              (reads-from m (j + 1) (q + 3) (λ w. let a : j + 1 + w ≡ j + suc w = omega arith in ap (getElem? (reads x)) a ∙ f (suc w)) (omega arith)),
         )
 
     pub reads-coded : (m q : ℕ) → reads x ≡ references m s q → m ≤ 16 → AllCodes (readCodes s ts laid (16 * i) m q) (map (spotOf spotted) (references m s q))
@@ -137,7 +136,7 @@ results-coded d t (suc m) =
     (refl, subst (λ (b : ℕ). AllCodes (resultCodes b (width t) m) (map offset (places (d + width t) (replicate m t)))) e (results-coded (d + width t) t m))
 
 module _ (spots : List ℕ) (spot n d inputs : ℕ) (args : List Spot) (given : (j : ℕ) → j < n → Codes (getD spots (spot + j) 0) (getD args j nowhere))
-  (size : length args ≡ n) (few : n ≤ 8) (near : d ≤ 8192) where
+    (size : length args ≡ n) (few : n ≤ 8) (near : d ≤ 8192) where
   through-coded : (e : ℕ) (o : Spot) → Codes e o → Within inputs 8192 o → Codes (throughCode spots spot n d e) (through d args o)
   through-coded e nowhere c w = tt
   through-coded e (input i) c w = ⊎-elim below above (cmp i n)
@@ -156,8 +155,7 @@ module _ (spots : List ℕ) (spot n d inputs : ℕ) (args : List Spot) (given : 
   unfolding throughCodes
   throughs-coded outs b [] h w = tt
   throughs-coded outs b (o ∷ os) h (w, ws) =
-      let z : b + 0 ≡ b = omega arith in
-      (
+      let z : b + 0 ≡ b = omega arith in (
         through-coded (getD outs b 0) o (subst (λ (q : ℕ). Codes (getD outs q 0) o) z (h 0 (omega arith))) w,
         throughs-coded outs (b + 1) os (λ q l. let y : b + suc q ≡ b + 1 + q = omega arith in subst (λ (a : ℕ). Codes (getD outs a 0) (getD os q nowhere)) y (h (suc q) (omega arith))) ws,
       )
@@ -212,9 +210,9 @@ module _ (s outs spots : List ℕ) (k p spot d : ℕ) (spotted : List Spotted) w
   plain-node f = plain-by (formOf (kindAt s p)) refl f
 
   module _ (fit : NodeFit s p) (b16 : k ≤ 16) (near : d ≤ 8192)
-    (inner : calling (formOf (kindAt s p)) ≡ true → positionOf s k (u16 s (p + 4)) < k
-    → (inputs : ℕ) × Each (Within inputs 8192) (closedAt s (positionOf s k (u16 s (p + 4))) .outputs) × PortsCoded (closedAt s (positionOf s k (u16 s (p + 4))) .outputs) outs (8 * positionOf s k (u16 s (p + 4))))
-    (given : (j : ℕ) → j < length (reads (nodeAt s p)) → Codes (getD spots (spot + j) 0) (getD (map (spotOf spotted) (reads (nodeAt s p))) j nowhere)) where
+      (inner : calling (formOf (kindAt s p)) ≡ true → positionOf s k (u16 s (p + 4)) < k
+      → (inputs : ℕ) × Each (Within inputs 8192) (closedAt s (positionOf s k (u16 s (p + 4))) .outputs) × PortsCoded (closedAt s (positionOf s k (u16 s (p + 4))) .outputs) outs (8 * positionOf s k (u16 s (p + 4))))
+      (given : (j : ℕ) → j < length (reads (nodeAt s p)) → Codes (getD spots (spot + j) 0) (getD (map (spotOf spotted) (reads (nodeAt s p))) j nowhere)) where
     abbrev callee : ℕ
     callee = u16 s (p + 4)
 

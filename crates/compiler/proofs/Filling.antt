@@ -24,7 +24,7 @@ use Rattle.topology.proofs.Nodes.{at-below}
 use Rattle.topology.specs.Indices.{slot}
 use Rattle.topology.specs.Resolve.{indexOf, target}
 use Rattle.compiler.specs.Position.{NodeFit, NodesFit}
-use Rattle.compiler.specs.Spotting.{Places, Slots, portCode, readCodes, throughCode, throughCodes, resultCodes}
+use Rattle.compiler.specs.Spotting.{Places, Slots, portCode, readCodes, throughCode, throughCodes, resultCodes, outputCodes}
 use Rattle.compiler.proofs.Nodes.{Passing, pass-start, pass-step}
 use Rattle.compiler.proofs.Writing.{sets-below, sets-above, sets-in}
 
@@ -235,3 +235,14 @@ module _ (s : List ℕ) (at n : ℕ) where
         size = h .size;
         slots = λ v j x g jl. h .right v j x (let a = at-below ns v x g in let b : length ns ≡ n = nodes-length n s at in omega arith) g jl;
       }
+
+-- ---- the outputs
+
+pub outputs-next : (s laid : List ℕ) (xs : List Node) (m j q : ℕ) → j < m
+    → outputCodes s laid xs (m - j) q ≡ portCode laid (target xs (some (reference s (q + 1)))) (byte s (q + 1 + 2)) ∷ outputCodes s laid xs (m - (j + 1)) (q + 4)
+unfolding outputCodes
+outputs-next s laid xs m j q h = ap (λ (x : ℕ). outputCodes s laid xs x q) (one-less m j h)
+
+pub outputs-none : (s laid : List ℕ) (xs : List Node) (m j q : ℕ) → m ≤ j → outputCodes s laid xs (m - j) q ≡ []
+unfolding outputCodes
+outputs-none s laid xs m j q h = let z : m - j ≡ 0 = omega arith in ap (λ (x : ℕ). outputCodes s laid xs x q) z

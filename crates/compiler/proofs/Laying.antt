@@ -51,7 +51,7 @@ module _ (s outs spots : List ℕ) (k p spot d kind : ℕ) (row : Ports) (ek : k
   plain-codes f ty w count et ew en =
       let r : row ≡ portsOf (kindAt s p) = row-is s p kind row ek er in
       let a : w ≡ width (own (byte s (p + 3)) (portsOf (kindAt s p) .result)) =
-          ew ∙ ap (λ (t : ℕ). width (own t (row .result))) et ∙ ap (λ (y : Ports). width (own (byte s (p + 3)) (y .result))) r in
+      ew ∙ ap (λ (t : ℕ). width (own t (row .result))) et ∙ ap (λ (y : Ports). width (own (byte s (p + 3)) (y .result))) r in
       let b : count ≡ portsOf (kindAt s p) .results = en ∙ ap (λ (y : Ports). y .results) r in
       ap (λ (x : ℕ). resultCodes (8 + d) x count) a
       ∙ ap (resultCodes (8 + d) (width (own (byte s (p + 3)) (portsOf (kindAt s p) .result)))) b

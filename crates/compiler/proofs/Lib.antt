@@ -15,3 +15,5 @@ pub mod Laying
 pub mod Coding
 pub mod Accepting
 pub mod Spreading
+pub mod Outputs
+pub mod Tables

@@ -171,11 +171,11 @@ few-reads s p h = pickOne (calling (row .form)) refl
     pickOne : (b : Bool) → calling (row .form) ≡ b → length (reads (nodeAt s p)) ≤ 16
     pickOne true e =
         let a : length (reads (nodeAt s p)) ≡ byte s (p + 4 + 2) =
-            ap (λ (y : Payload). length (readsOf y)) (call-payload s p (byte s (p + 2)) row refl refl e) ∙ refs-length (byte s (p + 4 + 2)) s (p + 4 + 3) in
+        ap (λ (y : Payload). length (readsOf y)) (call-payload s p (byte s (p + 2)) row refl refl e) ∙ refs-length (byte s (p + 4 + 2)) s (p + 4 + 3) in
         let b = h .arguments (called s p (byte s (p + 2)) row refl refl e) in
         omega arith
     pickOne false e =
         let a : length (reads (nodeAt s p)) ≡ row .operands =
-            ap length (plain-reads s p (byte s (p + 2)) row refl refl e (row .operands) refl .refs) ∙ refs-length (row .operands) s (p + 4) in
+        ap length (plain-reads s p (byte s (p + 2)) row refl refl e (row .operands) refl .refs) ∙ refs-length (row .operands) s (p + 4) in
         let b = row-narrow s p (byte s (p + 2)) row refl refl .operands in
         omega arith

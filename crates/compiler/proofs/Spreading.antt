@@ -94,8 +94,7 @@ coded-reads a table spotted spots here [] es l h t w g r = omega arith
 coded-reads a table spotted spots here (r ∷ rs) [] l h t w g room = absurd h
 coded-reads a table spotted spots here (r ∷ rs) (e ∷ es) l (c, h) (t, ts) (w, ws) g room =
     let z : here + 0 ≡ here = omega arith in
-    let x : getD spots here 0 ≡ e = ap (λ (q : ℕ). getD spots q 0) (sym z) ∙ g 0 (omega arith) in
-    (
+    let x : getD spots here 0 ≡ e = ap (λ (q : ℕ). getD spots q 0) (sym z) ∙ g 0 (omega arith) in (
       subst (λ (y : ℕ). Stands y (table r)) (sym x) (strong a e (table r) l (subst (Codes e) (sym t) c) w),
       coded-reads a table spotted spots (here + 1) rs es l h ts ws (λ q ql. let y : here + 1 + q ≡ here + suc q = omega arith in ap (λ (b : ℕ). getD spots b 0) y ∙ g (suc q) (omega arith)) (omega arith),
     )
@@ -188,11 +187,10 @@ module _ (s : List ℕ) (k c : ℕ) (acc : Accepted s (suc k)) (outs ts places i
       let l : length (nodesAt n s at) ≡ n = nodes-length n s at in
       let size : length (schedule ns) ≡ length ns = right .size in
       let along : map (λ i. getElem? ns i) (indexOrder ts n) ≡ map some (schedule ns) =
-          subst (λ (m : ℕ). map (λ i. getElem? ns i) (indexOrder ts m) ≡ map some (schedule ns)) l (schedule-is ts ns (resolves h) (sound .0 .resolved .own)) in
+      subst (λ (m : ℕ). map (λ i. getElem? ns i) (indexOrder ts m) ≡ map some (schedule ns)) l (schedule-is ts ns (resolves h) (sound .0 .resolved .own)) in
       let same : length (indexOrder ts n) ≡ length (schedule ns) =
-          sym (length-map (indexOrder ts n) (λ i. getElem? ns i)) ∙ ap length along ∙ length-map (schedule ns) some in
-      let f = fit-at s (suc k) acc k (omega arith) .count in
-      (
+      sym (length-map (indexOrder ts n) (λ i. getElem? ns i)) ∙ ap length along ∙ length-map (schedule ns) some in
+      let f = fit-at s (suc k) acc k (omega arith) .count in (
         schedule ns,
         indexOrder ts n,
         [],
@@ -217,8 +215,8 @@ module _ (s : List ℕ) (k c : ℕ) (acc : Accepted s (suc k)) (outs ts places i
   -- ---- the node at hand
 
   module _ (x : Node) (xs : List Node) (i : ℕ) (is : List ℕ) (spotted : List Spotted) (order spots laid : List ℕ) (here d m : ℕ)
-    (st : At (x ∷ xs) (i ∷ is) spotted order spots laid here d m) (limit : wordsAt s k ≤ 8192) (room : c + readCount s k ≤ spotRoom)
-    (slots : Slots s at n ts) (held : Places s at places n) (all : AllOuts s outs k) where
+      (st : At (x ∷ xs) (i ∷ is) spotted order spots laid here d m) (limit : wordsAt s k ≤ 8192) (room : c + readCount s k ≤ spotRoom)
+      (slots : Slots s at n ts) (held : Places s at places n) (all : AllOuts s outs k) where
     stands : getElem? ns i ≡ some x
     stands = let e = st .along in cc
 
@@ -269,12 +267,11 @@ module _ (s : List ℕ) (k c : ℕ) (acc : Accepted s (suc k)) (outs ts places i
       inner f l =
           let g = positionOf s k (u16 s (p + 4)) in
           let a : addsWords s k (nodeAt s p) ≡ wordsAt s g =
-              added-words s k p (byte s (p + 2)) (portsOf (kindAt s p)) refl refl f (u16 s (p + 4)) g refl refl
-              ∙ words-at s k (u16 s (p + 4)) g refl (let z = k16 in omega arith) l in
+          added-words s k p (byte s (p + 2)) (portsOf (kindAt s p)) refl refl f (u16 s (p + 4)) g refl refl
+          ∙ words-at s k (u16 s (p + 4)) g refl (let z = k16 in omega arith) l in
           let b = here-is .short in
           let sg = sound-to s (suc k) acc (suc g) (omega arith) in
-          let w : closedAt s g .words ≡ wordsAt s g = function-words (before s g) (functionIn s g) sg in
-          (
+          let w : closedAt s g .words ≡ wordsAt s g = function-words (before s g) (functionIn s g) sg in (
             length (functionIn s g .inputs),
             each-wider (length (functionIn s g .inputs)) 8192 (closedAt s g .words) (closedAt s g .outputs) (omega arith) (outputs-within (before s g) (functionIn s g) sg),
             all g l (omega arith),
@@ -332,7 +329,7 @@ module _ (s : List ℕ) (k c : ℕ) (acc : Accepted s (suc k)) (outs ts places i
               omega arith
 
           module _ (order' laid' : List ℕ) (d' here' : ℕ) (eo : order' ≡ set order (256 * k + m) p) (el : laid' ≡ sets laid (8 * i) ports)
-            (ed : d' ≡ d + addsWords s k (nodeAt s p)) (eh : here' ≡ here + r .count) where
+              (ed : d' ≡ d + addsWords s k (nodeAt s p)) (eh : here' ≡ here + r .count) where
             abbrev next : List Spotted
             next = record { id = x .id; spots = one .outputs } ∷ spotted
 
@@ -385,12 +382,11 @@ module _ (s : List ℕ) (k c : ℕ) (acc : Accepted s (suc k)) (outs ts places i
                       (let a = st .sizes .2 in let b = low in let f = fit-at s (suc k) acc k (omega arith) .count in omega arith));
                   words = let a = st .words in let b = ap (addsWords s k) node-is in omega arith;
                   unread = let a = st .unread in let b = size-x in omega arith;
-                  sizes =
-                      (
-                        ap length eo ∙ length-set order (256 * k + m) p ∙ st .sizes .0,
-                        ap length es ∙ length-sets spots here codes ∙ st .sizes .1,
-                        ap length el ∙ length-sets laid (8 * i) ports ∙ st .sizes .2,
-                      );
+                  sizes = (
+                    ap length eo ∙ length-set order (256 * k + m) p ∙ st .sizes .0,
+                    ap length es ∙ length-sets spots here codes ∙ st .sizes .1,
+                    ap length el ∙ length-sets laid (8 * i) ports ∙ st .sizes .2,
+                  );
                   old-order = λ q l. order-below q (omega arith) ∙ st .old-order q l;
                   old-spots = λ q l. spots-below q (let z = st .past in omega arith) ∙ st .old-spots q l;
                   placed = λ order'' spots'' ho hs rest.
@@ -404,8 +400,63 @@ module _ (s : List ℕ) (k c : ℕ) (acc : Accepted s (suc k)) (outs ts places i
                 stand order'' spots'' ho hs rest =
                     let e : getD order'' (256 * k + m) 0 ≡ p = ho (256 * k + m) (omega arith) ∙ order-here in
                     let z : 256 * k + (m + 1) ≡ 256 * k + m + 1 = omega arith in
-                    let y : here' ≡ here + length (reads x) = eh ∙ ap (λ (w : ℕ). here + w) (sym size-x) in
-                    (
+                    let y : here' ≡ here + length (reads x) = eh ∙ ap (λ (w : ℕ). here + w) (sym size-x) in (
                       (ap (nodeAt s) e ∙ node-is, subst (NodeFit s) (sym e) node-fit, coded spots'' hs),
                       subst (λ (b : ℕ). Placed s order'' spots'' table b (here + length (reads x)) xs) z (subst (λ (b : ℕ). Placed s order'' spots'' table (256 * k + (m + 1)) b xs) y rest),
                     )
+
+  -- ---- the invariant, at the loop's head
+
+  module _ (limit : wordsAt s k ≤ 8192) (room : c + readCount s k ≤ spotRoom) (slots : Slots s at n ts) (held : Places s at places n) (all : AllOuts s outs k)
+      (order spots laid : List ℕ) (here d m : ℕ) where
+    pub index-low : State order spots laid here d m → m < n → (i : ℕ) → i ≡ getD index m 0 → i < n
+    index-low ([], left, spotted, st) lt i e = let a = st .count in absurd (omega arith)
+    index-low (x ∷ xs, [], spotted, st) lt i e = let z : _≡_ {A = ℕ} 0 1 = let q = st .along in cc in absurd (omega arith)
+    index-low (x ∷ xs, v ∷ vs, spotted, st) lt i e =
+        let a = low x xs v vs spotted order spots laid here d m st limit room slots held all in
+        let b = index-is x xs v vs spotted order spots laid here d m st limit room slots held all in
+        omega arith
+
+    -- the node at hand, which stands at p
+    abbrev pub Fits : ℕ → Type 0
+    Fits p = NodeFit s p × (length (reads (nodeAt s p)) ≤ 16) × (here + length (reads (nodeAt s p)) ≤ spotRoom) × (d + addsWords s k (nodeAt s p) ≤ 8192)
+
+    pub node-fits : State order spots laid here d m → m < n → (i p : ℕ) → i ≡ getD index m 0 → p ≡ getD places i 0 → Fits p
+    node-fits ([], left, spotted, st) lt i p e ep = let a = st .count in absurd (omega arith)
+    node-fits (x ∷ xs, [], spotted, st) lt i p e ep = let z : _≡_ {A = ℕ} 0 1 = let q = st .along in cc in absurd (omega arith)
+    node-fits (x ∷ xs, v ∷ vs, spotted, st) lt i p e ep =
+        let b : i ≡ v = e ∙ index-is x xs v vs spotted order spots laid here d m st limit room slots held all in
+        let h = here-is x xs v vs spotted order spots laid here d m st limit room slots held all p (ep ∙ ap (λ (q : ℕ). getD places q 0) b) in
+        (h .fits, h .narrow-reads, h .free, h .short)
+
+    pub advance : State order spots laid here d m → m < n → (i p : ℕ) → i ≡ getD index m 0 → p ≡ getD places i 0 → (r : Reads) → ReadsOf s p r
+        → (order' spots' laid' : List ℕ) (here' d' : ℕ) → order' ≡ set order (256 * k + m) p → spots' ≡ sets spots here (readCodes s ts laid (16 * i) (r .count) (r .first))
+        → laid' ≡ sets laid (8 * i) (nodeCodes s outs spots' k p here d) → d' ≡ d + addsWords s k (nodeAt s p) → here' ≡ here + r .count
+        → State order' spots' laid' here' d' (m + 1)
+    advance ([], left, spotted, st) lt i p e ep r er order' spots' laid' here' d' eo es el ed eh = let a = st .count in absurd (omega arith)
+    advance (x ∷ xs, [], spotted, st) lt i p e ep r er order' spots' laid' here' d' eo es el ed eh =
+        let z : _≡_ {A = ℕ} 0 1 = let q = st .along in cc in absurd (omega arith)
+    advance (x ∷ xs, v ∷ vs, spotted, st) lt i p e ep r er order' spots' laid' here' d' eo es el ed eh =
+        let b : i ≡ v = e ∙ index-is x xs v vs spotted order spots laid here d m st limit room slots held all in (
+          xs,
+          vs,
+          _,
+          stepped x xs v vs spotted order spots laid here d m st limit room slots held all p (ep ∙ ap (λ (q : ℕ). getD places q 0) b) r er spots'
+              (es ∙ ap (λ (q : ℕ). sets spots here (readCodes s ts laid (16 * q) (r .count) (r .first))) b) order' laid' d' here' eo
+              (el ∙ ap (λ (q : ℕ). sets laid (8 * q) (nodeCodes s outs spots' k p here d)) b) ed eh,
+        )
+
+  pub same-sizes : (order spots laid : List ℕ) (here d m : ℕ) → State order spots laid here d m → (length order ≡ 4096) × (length spots ≡ spotRoom) × (length laid ≡ 2048)
+  same-sizes order spots laid here d m (rest, left, spotted, st) = st .sizes
+
+  pub finished : (order spots laid : List ℕ) (here d m : ℕ) → State order spots laid here d m → n ≤ m → NodesLaid s k c order₀ order spots₀ spots laid here
+  finished order spots laid here d m (x ∷ xs, left, spotted, st) ge = let a = st .count in absurd (omega arith)
+  finished order spots laid here d m ([], left, spotted, st) ge =
+      record {
+        placed = st .placed order spots (λ q l. refl) (λ q l. refl) tt;
+        known = subst (λ (b : Spread). Knows ns laid (b .spotted)) (sym (st .final)) (st .known);
+        end = let a = st .unread in omega arith;
+        sizes = (st .sizes .0, st .sizes .1);
+        old-order = st .old-order;
+        old-spots = st .old-spots;
+      }

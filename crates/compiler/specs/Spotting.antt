@@ -12,6 +12,7 @@ use Rattle.graph.specs.Bytes.{Bytes, byte, u16}
 use Rattle.graph.specs.Graph.{Ref, Node, Function}
 use Rattle.graph.specs.Judge.{table}
 use Rattle.graph.specs.Look.{member, reads}
+use Rattle.graph.specs.Read.{reference}
 use Rattle.graph.specs.Schedule.{schedule}
 use Rattle.graph.specs.Sound.{AllSound}
 use Rattle.graph.specs.Sums.{sum}
@@ -21,7 +22,7 @@ use Rattle.topology.specs.Resolve.{target}
 use Rattle.compiler.specs.Static.{Spot, nowhere, input, offset, Spotted, spotsOf, Closed, closed, spread}
 use Rattle.compiler.specs.Position.{placeOf, functionIn, before, positionOf, calling, Fit}
 use Rattle.compiler.specs.Capped.{wordCap, wordsAt}
-use Rattle.compiler.specs.Emit.{spotRoom, spotTable, Placed, closedAt}
+use Rattle.compiler.specs.Emit.{spotRoom, spotTable, Placed, closedAt, AllLaid}
 
 -- an accepted table with at least k functions
 pub record Accepted (s : List ℕ) (k : ℕ) : Type 0 where
@@ -56,6 +57,11 @@ portCode laid v port = cond (leb 8 port) 0 (cond (ltb v 256) (getD laid (8 * v +
 unfoldable pub readCodes : List ℕ → List ℕ → List ℕ → ℕ → ℕ → ℕ → List ℕ
 readCodes s ts laid b zero q = []
 readCodes s ts laid b (suc n) q = portCode laid (getD ts b 0) (byte s (q + 2)) ∷ readCodes s ts laid (b + 1) n (q + 3)
+
+-- the n outputs at q, over these nodes
+unfoldable pub outputCodes : List ℕ → List ℕ → List Node → ℕ → ℕ → List ℕ
+outputCodes s laid ns zero q = []
+outputCodes s laid ns (suc n) q = portCode laid (target ns (some (reference s (q + 1)))) (byte s (q + 1 + 2)) ∷ outputCodes s laid ns n (q + 4)
 
 -- a callee's spot seen from its caller: the call's n arguments stand from `spot` on, and its results begin at d
 abbrev pub throughCode : List ℕ → ℕ → ℕ → ℕ → ℕ → ℕ
@@ -112,3 +118,21 @@ pub record NodesLaid (s : List ℕ) (k c : ℕ) (order₀ order spots₀ spots l
   pub sizes : (length order ≡ 4096) × (length spots ≡ spotRoom)
   pub old-order : (q : ℕ) → q < 256 * k → getD order q 0 ≡ getD order₀ q 0
   pub old-spots : (q : ℕ) → q < c → getD spots q 0 ≡ getD spots₀ q 0
+
+-- the function at position k is laid
+pub record FunctionLaid (s : List ℕ) (k c : ℕ) (order₀ order spots₀ spots outs₀ outs : List ℕ) (r : ℕ) : Type 0 where
+  pub placed : Placed s order spots (spotTable s k) (256 * k) c (schedule (functionIn s k .nodes))
+  pub ports : PortsCoded (closedAt s k .outputs) outs (8 * k)
+  pub end : r ≡ c + readCount s k
+  pub sizes : (length outs ≡ 128) × (length order ≡ 4096) × (length spots ≡ spotRoom)
+  pub old-order : (q : ℕ) → q < 256 * k → getD order q 0 ≡ getD order₀ q 0
+  pub old-spots : (q : ℕ) → q < c → getD spots q 0 ≡ getD spots₀ q 0
+  pub old-outs : (q : ℕ) → q < 8 * k → getD outs q 0 ≡ getD outs₀ q 0
+
+-- all functions before j that are within the word limit are laid, and their spots end at `spot`
+pub record LaidTo (s : List ℕ) (j : ℕ) (outs order spots begins : List ℕ) (spot : ℕ) : Type 0 where
+  pub laid : AllLaid s begins order spots j
+  pub ports : AllOuts s outs j
+  pub room : 13 * spot ≤ 4 * placeOf s j
+  pub ends : (g : ℕ) → g < j → closedAt s g .words ≤ 8192 → getD begins g 0 + readCount s g ≤ spot
+  pub sizes : (length outs ≡ 128) × (length order ≡ 4096) × (length spots ≡ spotRoom) × (length begins ≡ 16)

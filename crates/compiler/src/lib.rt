@@ -13,9 +13,10 @@ ghost use Rattle.graph.specs.Look.{reads};
 ghost use Rattle.graph.specs.Read.{reference};
 ghost use Rattle.topology.specs.Resolve as Resolve;
 ghost use Rattle.reader.specs.Find.{ReadsNodes};
-ghost use Rattle.compiler.specs.Spotting.{Places, Slots, WordsHeld, portCode, readCodes, throughCode, throughCodes, resultCodes, nodeCodes, AllOuts};
+ghost use Rattle.topology.specs.Indices.{indexOrder};
+ghost use Rattle.compiler.specs.Spotting.{Accepted, NodesLaid, FunctionLaid, LaidTo, readCount, outputCodes, Places, Slots, WordsHeld, portCode, readCodes, throughCode, throughCodes, resultCodes, nodeCodes, AllOuts};
 ghost use Rattle.list.specs.Code.{bytesOf, allBytes};
-ghost use Rattle.reader.specs.Layout.{kindAt, nodeAt, nodesAt, nodeEnd, nodePlace, nodesPlace, nodeCount};
+ghost use Rattle.reader.specs.Layout.{outputCount, outputsPlace, kindAt, nodeAt, nodesAt, nodeEnd, nodePlace, nodesPlace, nodeCount};
 ghost use Rattle.compiler.specs.Position.{placeOf, positionOf, Starts, calling, ReadsOf, NodeFit, NodesFit, Fit, AllFit};
 ghost use Rattle.compiler.specs.Capped.{operationsAt, wordsAt, instructionsAt, bytesAt, addsWords, operationCap, wordCap, byteCap, Caps, AllSummed};
 ghost use Rattle.compiler.specs.Emit.{copied, spotRoom, addressOf, addressesIn, nodeOpened, functionOpened, Room, Emits, AllLaid};
@@ -572,11 +573,24 @@ fn spot_of(laid: &[u16; 2048], v: usize, port: usize) -> u16
     if 8 <= port {
         return 0;
     }
-    if v < 256 { laid[8 * v + port] } else { port as u16 }
+    if v < 256 {
+        laid[8 * v + port]
+    } else {
+        port as u16
+    }
 }
 
 // The spots of n references, the first at q, of the i-th node.
-fn lay_reads(t: &[u8], targets: &[u16; 4096], laid: &[u16; 2048], i: usize, first: usize, n: usize, spots: &mut [u16; 20166], spot: usize)
+fn lay_reads(
+    t: &[u8],
+    targets: &[u16; 4096],
+    laid: &[u16; 2048],
+    i: usize,
+    first: usize,
+    n: usize,
+    spots: &mut [u16; 20166],
+    spot: usize,
+)
     requires { ⌜ (i < 256) × (n ≤ 16) × (first < 2 ^ 20) × (spot + n ≤ spotRoom) ⌝ }
     ensures { λ _. ⌜ now (spots .exit) ≡ sets (now (spots .entry)) spot
         (readCodes (now (t .entry)) (now (targets .entry)) (now (laid .entry)) (16 * i) n first) ⌝ }
@@ -605,7 +619,17 @@ fn through(spots: &[u16; 20166], spot: usize, n: usize, d: usize, e: usize) -> u
 }
 
 // The ports of the i-th node, which calls the function at position g.
-fn lay_call(outs: &[u16; 128], g: usize, count: usize, spots: &[u16; 20166], spot: usize, n: usize, laid: &mut [u16; 2048], i: usize, d: usize)
+fn lay_call(
+    outs: &[u16; 128],
+    g: usize,
+    count: usize,
+    spots: &[u16; 20166],
+    spot: usize,
+    n: usize,
+    laid: &mut [u16; 2048],
+    i: usize,
+    d: usize,
+)
     requires { ⌜ (g < 16) × (count ≤ 8) × (spot + n ≤ spotRoom) × (i < 256) × (d ≤ 8192) ⌝ }
     ensures { λ _. ⌜ now (laid .exit) ≡ sets (now (laid .entry)) (8 * i) (throughCodes (now (outs .entry)) (now (spots .entry)) spot n d (8 * g) count) ⌝ }
 {
@@ -672,5 +696,163 @@ fn lay_node(
         let all = ports::result_words(row, ty);
         lay_results(laid, i, d, count, w);
         d + all
+    }
+}
+
+// The nodes of the function at position k in their order; the answer is the place behind their spots.
+fn lay_nodes(
+    t: &[u8],
+    starts: &[u16; 16],
+    words: &[u32; 16],
+    outs: &[u16; 128],
+    targets: &[u16; 4096],
+    places: &[u16; 256],
+    index: &[u16; 256],
+    k: usize,
+    n: usize,
+    order: &mut [u16; 4096],
+    spots: &mut [u16; 20166],
+    laid: &mut [u16; 2048],
+    spot: usize,
+) -> usize
+    requires { ⌜ Accepted (now t) (suc k) × (n ≡ nodeCount (now t) (placeOf (now t) k)) × (wordsAt (now t) k ≤ 8192) × (spot + readCount (now t) k ≤ spotRoom) ⌝ }
+    requires { ⌜ Starts (now t) (now starts) k × WordsHeld (now t) (now words) k × AllOuts (now t) (now outs) k ⌝ }
+    requires { ⌜ Slots (now t) (nodesPlace (now t) (placeOf (now t) k)) n (now targets) × Places (now t) (nodesPlace (now t) (placeOf (now t) k)) (now places) n
+        × (now index ≡ sets (replicate 256 0) 0 (indexOrder (now targets) n)) ⌝ }
+    requires { ⌜ (length (now order) ≡ 4096) × (length (now spots) ≡ spotRoom) × (length (now laid) ≡ 2048) ⌝ }
+    ensures { λ r. ⌜ NodesLaid (now (t .entry)) k spot (now (order .entry)) (now (order .exit)) (now (spots .entry)) (now (spots .exit)) (now (laid .exit)) r ⌝ }
+{
+    let mut here = spot;
+    let mut d = 0;
+    let mut m = 0;
+    while m < n {
+        let i = wide16(index[m]);
+        let p = wide16(places[i]);
+        order[256 * k + m] = p as u16;
+        let r = reads_at(t, p);
+        let count = r.count;
+        lay_reads(t, targets, laid, i, r.first, count, spots, here);
+        d = lay_node(t, starts, words, outs, spots, k, i, p, here, count, laid, d);
+        here += count;
+        m += 1;
+    }
+    here
+}
+
+// The spots of the outputs of the function at p, the k-th, whose n nodes begin at `at`.
+fn lay_outputs(
+    t: &[u8],
+    p: usize,
+    at: usize,
+    n: usize,
+    laid: &[u16; 2048],
+    k: usize,
+    outs: &mut [u16; 128],
+)
+    requires { ⌜ (k < 16) × (p < 65536) × (outputCount (now t) p ≤ 8) × (n ≤ 256) × ReadsNodes n (now t) at ⌝ }
+    ensures { λ _. ⌜ now (outs .exit) ≡ sets (now (outs .entry)) (8 * k)
+        (outputCodes (now (t .entry)) (now (laid .entry)) (nodesAt n (now (t .entry)) at) (outputCount (now (t .entry)) p) (outputsPlace (now (t .entry)) p)) ⌝ }
+{
+    let count = wide(byte_at(t, p + 3));
+    let mut q = p + 6 + wide(byte_at(t, p + 2));
+    let mut j = 0;
+    while j < count {
+        let v = wide16(target(t, at, n, q + 1));
+        let port = wide(byte_at(t, q + 1 + 2));
+        outs[8 * k + j] = spot_of(laid, v, port);
+        q += 4;
+        j += 1;
+    }
+}
+
+// The function at position k; the answer is the place behind its spots.
+fn lay_function(
+    t: &[u8],
+    starts: &[u16; 16],
+    words: &[u32; 16],
+    k: usize,
+    outs: &mut [u16; 128],
+    order: &mut [u16; 4096],
+    spots: &mut [u16; 20166],
+    spot: usize,
+) -> usize
+    requires { ⌜ Accepted (now t) (suc k) × (wordsAt (now t) k ≤ 8192) × (spot + readCount (now t) k ≤ spotRoom) ⌝ }
+    requires { ⌜ Starts (now t) (now starts) (suc k) × WordsHeld (now t) (now words) k × AllOuts (now t) (now outs) k ⌝ }
+    requires { ⌜ (length (now outs) ≡ 128) × (length (now order) ≡ 4096) × (length (now spots) ≡ spotRoom) ⌝ }
+    ensures { λ r. ⌜ FunctionLaid (now (t .entry)) k spot (now (order .entry)) (now (order .exit)) (now (spots .entry)) (now (spots .exit)) (now (outs .entry)) (now (outs .exit)) r ⌝ }
+{
+    let p = wide16(starts[k]);
+    let n = u16_at(t, p + 4);
+    let at = nodes_place(t, p);
+    let mut places = [0u16; 256];
+    let mut targets = [256u16; 4096];
+    let mut index = [0u16; 256];
+    let mut laid = [0u16; 2048];
+    fill_places(t, at, n, &mut places);
+    resolve(t, at, n, &places, &mut targets);
+    topology::schedule(&targets, n, &mut index);
+    let end = lay_nodes(
+        t,
+        starts,
+        words,
+        outs,
+        &targets,
+        &places,
+        &index,
+        k,
+        n,
+        order,
+        spots,
+        &mut laid,
+        spot,
+    );
+    lay_outputs(t, p, at, n, &laid, k, outs);
+    end
+}
+
+// The function at position j, where it is within the word limit; the answer is the place behind all spots.
+fn lay_next(
+    t: &[u8],
+    starts: &[u16; 16],
+    words: &[u32; 16],
+    j: usize,
+    outs: &mut [u16; 128],
+    order: &mut [u16; 4096],
+    spots: &mut [u16; 20166],
+    begins: &mut [u16; 16],
+    spot: usize,
+) -> usize
+    requires { ⌜ Accepted (now t) (suc j) × Starts (now t) (now starts) (suc j) × WordsHeld (now t) (now words) (suc j) ⌝ }
+    requires { ⌜ LaidTo (now t) j (now outs) (now order) (now spots) (now begins) spot ⌝ }
+    ensures { λ r. ⌜ LaidTo (now (t .entry)) (suc j) (now (outs .exit)) (now (order .exit)) (now (spots .exit)) (now (begins .exit)) r ⌝ }
+{
+    let w = wide32(words[j]);
+    if 8192 < w {
+        return spot;
+    }
+    begins[j] = spot as u16;
+    lay_function(t, starts, words, j, outs, order, spots, spot)
+}
+
+// The functions before k that are within the word limit.
+fn lay_functions(
+    t: &[u8],
+    starts: &[u16; 16],
+    words: &[u32; 16],
+    k: usize,
+    outs: &mut [u16; 128],
+    order: &mut [u16; 4096],
+    spots: &mut [u16; 20166],
+    begins: &mut [u16; 16],
+)
+    requires { ⌜ Accepted (now t) k × Starts (now t) (now starts) k × WordsHeld (now t) (now words) k ⌝ }
+    requires { ⌜ (length (now outs) ≡ 128) × (length (now order) ≡ 4096) × (length (now spots) ≡ spotRoom) × (length (now begins) ≡ 16) ⌝ }
+    ensures { λ _. ⌜ AllLaid (now (t .entry)) (now (begins .exit)) (now (order .exit)) (now (spots .exit)) k × AllOuts (now (t .entry)) (now (outs .exit)) k ⌝ }
+{
+    let mut spot = 0;
+    let mut j = 0;
+    while j < k {
+        spot = lay_next(t, starts, words, j, outs, order, spots, begins, spot);
+        j += 1;
     }
 }

@@ -53,11 +53,11 @@ loop-again c =
     let e = sym (c .node-end .ensures) in (
       omega arith,
       subst (λ (n : ℕ). ReadsNodes n s (c .node-end .result)) m
-      (subst (λ (p : ℕ). ReadsNodes (a .count - l .j - 1) s p) e (rest-reads s (a .count - l .j) (l .at) (left d) (l .inv .1))),
+          (subst (λ (p : ℕ). ReadsNodes (a .count - l .j - 1) s p) e (rest-reads s (a .count - l .j) (l .at) (left d) (l .inv .1))),
       l .inv .2
-      ∙ each-on (test s (a .k)) s (a .count - l .j) (l .at) (left d) (need-passed _ _ 10 (l .at) (g .call-good .ensures) (c .before .if1 .taken))
-      ∙ ap (λ (p : ℕ). each (test s (a .k)) (nodesAt (a .count - l .j - 1) s p)) e
-      ∙ ap (λ (n : ℕ). each (test s (a .k)) (nodesAt n s (c .node-end .result))) m,
+          ∙ each-on (test s (a .k)) s (a .count - l .j) (l .at) (left d) (need-passed _ _ 10 (l .at) (g .call-good .ensures) (c .before .if1 .taken))
+          ∙ ap (λ (p : ℕ). each (test s (a .k)) (nodesAt (a .count - l .j - 1) s p)) e
+          ∙ ap (λ (n : ℕ). each (test s (a .k)) (nodesAt n s (c .node-end .result))) m,
     )
 
 returns : tie.Need-returns Inv-loop μ-loop

@@ -33,7 +33,7 @@ loop-holds c =
       omega arith,
       refl,
       subst (λ (n : ℕ). Passing (a .s .now) (replicate 256 0) (fresh [] (nodesAt (a .count) (a .s .now) (a .first))) 0 n (a .first)) (sym z)
-      (fresh-start (a .s .now) (replicate 256 0) (a .count) (a .first) (c .before .pre .0)),
+          (fresh-start (a .s .now) (replicate 256 0) (a .count) (a .first) (c .before .pre .0)),
     )
 
 returns : tie.Need-returns Inv-loop μ-loop
@@ -63,8 +63,8 @@ loop-again c =
       omega arith,
       length-set (l .ids) (l .j) _ ∙ l .inv .1,
       subst (λ (p : ℕ). Passing s (set (l .ids) (l .j) (u .u16-at .result)) (fresh [] (nodesAt (a .count) s (a .first))) (l .j + 1) (a .count - (l .j + 1)) p) (sym (c .node-end .ensures))
-      (subst (λ (n : ℕ). Passing s (set (l .ids) (l .j) (u .u16-at .result)) (fresh [] (nodesAt (a .count) s (a .first))) (l .j + 1) n (nodeEnd s (l .at))) m
-      (subst (λ (v : ℕ). Passing s (set (l .ids) (l .j) v) (fresh [] (nodesAt (a .count) s (a .first))) (l .j + 1) (a .count - l .j - 1) (nodeEnd s (l .at))) (sym (u .u16-at .ensures)) q)),
+          (subst (λ (n : ℕ). Passing s (set (l .ids) (l .j) (u .u16-at .result)) (fresh [] (nodesAt (a .count) s (a .first))) (l .j + 1) n (nodeEnd s (l .at))) m
+          (subst (λ (v : ℕ). Passing s (set (l .ids) (l .j) v) (fresh [] (nodesAt (a .count) s (a .first))) (l .j + 1) (a .count - l .j - 1) (nodeEnd s (l .at))) (sym (u .u16-at .ensures)) q)),
     )
 
 returns-2 : tie.Need-returns-2 Inv-loop μ-loop

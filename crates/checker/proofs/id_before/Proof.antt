@@ -22,7 +22,7 @@ loop-again c =
     let a = d .before .before .before .args in (
       omega arith,
       ⊎-elim (λ w. w .1 ∙ hit-one (a .ids .now) (l .i) (a .id) (w .0 .taken)) (λ w. w .1 ∙ l .inv .1 ∙ sym (hit-on (a .ids .now) (l .i) (a .id) (w .0 .left)))
-      (c .if1 .came),
+          (c .if1 .came),
     )
 
 returns : tie.Need-returns Inv-loop μ-loop

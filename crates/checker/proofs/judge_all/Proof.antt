@@ -78,13 +78,13 @@ loop-again c =
       e ∙ place-more s (l .k) (l .at) (l .inv .1),
       start-more s (l .starts) (l .k) (l .at) (l .inv .2) (omega (arith, l .inv .4, d .loop-test .taken, b .pre .1)) (l .inv .1) (here d),
       subst (λ (x : ℕ). Left s (a .count) (l .k + 1) (a .count - (l .k + 1)) x) (sym e)
-      (subst (λ (i : ℕ). Left s (a .count) (l .k + 1) i (functionEnd s (l .at))) m
-      (record {
-        reads = rest-functions s n (l .at) (left d) (l .inv .3 .reads);
-        same = l .inv .3 .same
-            ∙ all-on s (earlier (version1 .header) s (l .k)) n (l .at) (left d) q
-            ∙ ap (λ (fs : List Function). judgeAll fs (functionsAt (n - 1) s (functionEnd s (l .at)))) (early-more s (l .k) (l .at) (l .inv .1));
-      })),
+          (subst (λ (i : ℕ). Left s (a .count) (l .k + 1) i (functionEnd s (l .at))) m
+          (record {
+            reads = rest-functions s n (l .at) (left d) (l .inv .3 .reads);
+            same = l .inv .3 .same
+                ∙ all-on s (earlier (version1 .header) s (l .k)) n (l .at) (left d) q
+                ∙ ap (λ (fs : List Function). judgeAll fs (functionsAt (n - 1) s (functionEnd s (l .at)))) (early-more s (l .k) (l .at) (l .inv .1));
+          })),
       length-set (l .starts) (l .k) (l .at) ∙ l .inv .4,
       g .judge-function .ensures .1 good,
     )

@@ -151,8 +151,8 @@ returns-2 c =
     let a = start w .args in
     let g = c .enum-told4 .given in (
       g .1
-      ∙ ap seen (sym (judged-fresh (earlier (version1 .header) (a .s .now) (a .k)) (functionAt (a .s .now) (a .at)) (new (w .before .before .before .before .before .before)) _ _
-      (seen-fault _ _ _ (sym (g .1) ∙ fresh-is r)))),
+          ∙ ap seen (sym (judged-fresh (earlier (version1 .header) (a .s .now) (a .k)) (functionAt (a .s .now) (a .at)) (new (w .before .before .before .before .before .before)) _ _
+          (seen-fault _ _ _ (sym (g .1) ∙ fresh-is r)))),
       λ e. absurd (not-good _ _ (sym (g .1) ∙ e)),
     )
 
@@ -164,8 +164,8 @@ returns-3 c =
     let a = start w .args in
     let g = c .enum-told6 .given in (
       g .1
-      ∙ ap seen (sym (judged-calls (earlier (version1 .header) (a .s .now) (a .k)) (functionAt (a .s .now) (a .at)) (new (w .before .before .before .before .before .before))
-      (fresh-ok t3) _ _ (seen-fault _ _ _ (sym (g .1) ∙ calls-is r)))),
+          ∙ ap seen (sym (judged-calls (earlier (version1 .header) (a .s .now) (a .k)) (functionAt (a .s .now) (a .at)) (new (w .before .before .before .before .before .before))
+          (fresh-ok t3) _ _ (seen-fault _ _ _ (sym (g .1) ∙ calls-is r)))),
       λ e. absurd (not-good _ _ (sym (g .1) ∙ e)),
     )
 
@@ -178,8 +178,8 @@ returns-4 c =
     let a = start w .args in
     let g = c .enum-told8 .given in (
       g .1
-      ∙ ap seen (sym (judged-outputs (earlier (version1 .header) (a .s .now) (a .k)) (functionAt (a .s .now) (a .at)) (new (w .before .before .before .before .before .before))
-      (fresh-ok t3) (calls-ok t5) _ _ (seen-fault _ _ _ (sym (g .1) ∙ outputs-is r)))),
+          ∙ ap seen (sym (judged-outputs (earlier (version1 .header) (a .s .now) (a .k)) (functionAt (a .s .now) (a .at)) (new (w .before .before .before .before .before .before))
+          (fresh-ok t3) (calls-ok t5) _ _ (seen-fault _ _ _ (sym (g .1) ∙ outputs-is r)))),
       λ e. absurd (not-good _ _ (sym (g .1) ∙ e)),
     )
 
@@ -193,8 +193,8 @@ returns-5 c =
     let a = start w .args in
     let g = c .enum-told10 .given in (
       g .1
-      ∙ ap seen (sym (judged-nodes (earlier (version1 .header) (a .s .now) (a .k)) (functionAt (a .s .now) (a .at)) (new (w .before .before .before .before .before .before))
-      (fresh-ok t3) (calls-ok t5) (outputs-ok t7) _ _ (seen-fault _ _ _ (sym (g .1) ∙ r .nodes-good .ensures .0)))),
+          ∙ ap seen (sym (judged-nodes (earlier (version1 .header) (a .s .now) (a .k)) (functionAt (a .s .now) (a .at)) (new (w .before .before .before .before .before .before))
+          (fresh-ok t3) (calls-ok t5) (outputs-ok t7) _ _ (seen-fault _ _ _ (sym (g .1) ∙ r .nodes-good .ensures .0)))),
       λ e. absurd (not-good _ _ (sym (g .1) ∙ e)),
     )
 
@@ -223,8 +223,8 @@ returns-6 c =
     let w = t3 .before .before .before in
     let a = start w .args in (
       c .loop-free .ensures
-      ∙ ap seen (sym (judged-loops (earlier (version1 .header) (a .s .now) (a .k)) (functionAt (a .s .now) (a .at)) (new (w .before .before .before .before .before .before))
-      (fresh-ok t3) (calls-ok t5) (outputs-ok t7) (nodes-ok t9))),
+          ∙ ap seen (sym (judged-loops (earlier (version1 .header) (a .s .now) (a .k)) (functionAt (a .s .now) (a .at)) (new (w .before .before .before .before .before .before))
+          (fresh-ok t3) (calls-ok t5) (outputs-ok t7) (nodes-ok t9))),
       λ e. r .nodes-good .ensures .1 (t9 .enum-told9 .given .1) .size,
     )
 

@@ -91,10 +91,10 @@ returns-3 c =
     let e = z .size .ensures .0 in
     let check : ℕ → ℕ → ℕ → _ = λ m x y. seen (referencesChecked s (a .k) (a .f .place) (types m x y) (references m s (a .at + 4))) in (
       c .references-good .ensures .0
-      ∙ ap (λ (m : ℕ). check m (o1 .own .result) (o2 .own2 .result)) e
-      ∙ ap (λ (x : ℕ). check (row .operands) x (o2 .own2 .result)) (o1 .own .ensures)
-      ∙ ap (λ (y : ℕ). check (row .operands) (own (byte s (a .at + 3)) (row .first)) y) (o2 .own2 .ensures)
-      ∙ ap seen (sym (n .0)),
+          ∙ ap (λ (m : ℕ). check m (o1 .own .result) (o2 .own2 .result)) e
+          ∙ ap (λ (x : ℕ). check (row .operands) x (o2 .own2 .result)) (o1 .own .ensures)
+          ∙ ap (λ (y : ℕ). check (row .operands) (own (byte s (a .at + 3)) (row .first)) y) (o2 .own2 .ensures)
+          ∙ ap seen (sym (n .0)),
       λ q.
           row-filled s (a .f .place) (a .at + 4) (z .size .result) (a .i) (nodeAt s (a .at)) _ _ _ (k .clear-row .ensures) (c .references-good .ensures .1 q)
           (n .1 ∙ ap (λ (m : ℕ). references m s (a .at + 4)) (sym e)) (omega (arith, few d, e)),
@@ -165,8 +165,8 @@ returns-4 c =
     let e = z .size2 .ensures .0 in
     let n = call-node s (a .k) (a .f .place) (a .at) (calls t) (b .pre .3) p (callee d .2) in (
       c .references-good2 .ensures .0
-      ∙ ap (λ (m : ℕ). seen (referencesChecked s (a .k) (a .f .place) (inputsAt m s (p + 6)) (references m s (a .at + 4 + 3)))) e
-      ∙ ap seen (sym (n .0)),
+          ∙ ap (λ (m : ℕ). seen (referencesChecked s (a .k) (a .f .place) (inputsAt m s (p + 6)) (references m s (a .at + 4 + 3)))) e
+          ∙ ap seen (sym (n .0)),
       λ q.
           row-filled s (a .f .place) (a .at + 4 + 3) (z .size2 .result) (a .i) (nodeAt s (a .at)) _ _ _ (k .clear-row .ensures) (c .references-good2 .ensures .1 q)
           (n .1 ∙ ap (λ (m : ℕ). references m s (a .at + 4 + 3)) (sym e)) (omega (arith, room t .1, e)),

@@ -61,12 +61,12 @@ loop-holds c =
       omega arith,
       p .first,
       subst (λ (x : ℕ). Left s (a .k) (a .f .place) (a .f .count - 0) x) (sym (p .first))
-      (subst (λ (n : ℕ). Left s (a .k) (a .f .place) n (nodesPlace s (a .f .place))) z
-      (record {
-        reads = function-holds s (a .f .place) (p .reads) .nodes;
-        same = ap (each (nodeChecked s (a .k) (a .f .place))) (nodes-of s (a .f .place));
-        calls = ap (each (call s (a .k))) (sym (nodes-of s (a .f .place))) ∙ b .pre .1;
-      })),
+          (subst (λ (n : ℕ). Left s (a .k) (a .f .place) n (nodesPlace s (a .f .place))) z
+          (record {
+            reads = function-holds s (a .f .place) (p .reads) .nodes;
+            same = ap (each (nodeChecked s (a .k) (a .f .place))) (nodes-of s (a .f .place));
+            calls = ap (each (call s (a .k))) (sym (nodes-of s (a .f .place))) ∙ b .pre .1;
+          })),
       rows-start s (a .f .place) _ (b .pre .2),
     )
 
@@ -93,10 +93,10 @@ returns c =
     let a = d .before .before .before .args in
     let s = a .s .now in (
       ap seen
-      (sym
-      (l .inv .2 .same
-      ∙ each-fault (nodeChecked s (a .k) (a .f .place)) s (a .f .count - l .i) (l .at) _ _ (left d)
-      (seen-fault (nodeChecked s (a .k) (a .f .place) (nodeAt s (l .at))) _ _ (sym (c .before .found .given .1) ∙ g .node-good .ensures .0)))),
+          (sym
+          (l .inv .2 .same
+          ∙ each-fault (nodeChecked s (a .k) (a .f .place)) s (a .f .count - l .i) (l .at) _ _ (left d)
+          (seen-fault (nodeChecked s (a .k) (a .f .place) (nodeAt s (l .at))) _ _ (sym (c .before .found .given .1) ∙ g .node-good .ensures .0)))),
       λ e. absurd (not-good _ _ e),
     )
 
@@ -116,12 +116,12 @@ loop-again c =
       omega (arith, d .loop-test .taken),
       c .node-end .ensures ∙ ap (nodeEnd s) (l .inv .1) ∙ sym (place-next s (l .i) (nodesPlace s (a .f .place))),
       subst (λ (x : ℕ). Left s (a .k) (a .f .place) (a .f .count - (l .i + 1)) x) e
-      (subst (λ (x : ℕ). Left s (a .k) (a .f .place) x (nodeEnd s (l .at))) m
-      (record {
-        reads = rest-reads s n (l .at) (left d) (l .inv .2 .reads);
-        same = l .inv .2 .same ∙ each-on (nodeChecked s (a .k) (a .f .place)) s n (l .at) (left d) q;
-        calls = each-passed (call s (a .k)) s n (l .at) tt (left d) (l .inv .2 .calls) .1;
-      })),
+          (subst (λ (x : ℕ). Left s (a .k) (a .f .place) x (nodeEnd s (l .at))) m
+          (record {
+            reads = rest-reads s n (l .at) (left d) (l .inv .2 .reads);
+            same = l .inv .2 .same ∙ each-on (nodeChecked s (a .k) (a .f .place)) s n (l .at) (left d) q;
+            calls = each-passed (call s (a .k)) s n (l .at) tt (left d) (l .inv .2 .calls) .1;
+          })),
       rows-step s (a .f .place) (l .i) (l .at) _ _ (l .inv .3) (l .inv .1) (g .node-good .ensures .1 good),
     )
 

@@ -53,8 +53,8 @@ loop-again c =
     let a = i .before .before .before .args in (
       omega (arith, l .inv .0, i .loop-test .taken),
       l .inv .1
-      ∙ outputs-on (a .s .now) (a .k) (a .f .place) (l .left) (l .at) (i .loop-test .taken)
-      (welltyped (a .s .now) (a .k) (a .f .place) (l .at + 1) _ _ (sym (r .resolve .ensures) ∙ d .before .found .given .1) (byte (a .s .now) (l .at)) (c .if1 .left)),
+          ∙ outputs-on (a .s .now) (a .k) (a .f .place) (l .left) (l .at) (i .loop-test .taken)
+          (welltyped (a .s .now) (a .k) (a .f .place) (l .at + 1) _ _ (sym (r .resolve .ensures) ∙ d .before .found .given .1) (byte (a .s .now) (l .at)) (c .if1 .left)),
     )
 
 returns-3 : tie.Need-returns-3 Inv-loop μ-loop

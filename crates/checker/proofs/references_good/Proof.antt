@@ -47,10 +47,10 @@ returns c =
     let l = d .before .loop in
     let a = d .before .before .before .args in (
       ap seen
-      (sym
-      (l .inv .2
-      ∙ references-fault (a .s .now) (a .k) (a .f .place) (wantsList (a .s .now) (a .n) (a .want)) (a .n - l .j) (l .at) (l .j) 11 (l .at) (left d) (wanted d)
-      (lost (a .s .now) (a .k) (a .f .place) (l .at) _ (sym (r .resolve .ensures) ∙ c .enum-told .given .1)))),
+          (sym
+          (l .inv .2
+          ∙ references-fault (a .s .now) (a .k) (a .f .place) (wantsList (a .s .now) (a .n) (a .want)) (a .n - l .j) (l .at) (l .j) 11 (l .at) (left d) (wanted d)
+          (lost (a .s .now) (a .k) (a .f .place) (l .at) _ (sym (r .resolve .ensures) ∙ c .enum-told .given .1)))),
       λ e. absurd (not-good _ _ e),
     )
 
@@ -63,10 +63,10 @@ returns-2 c =
     let l = d .before .loop in
     let a = d .before .before .before .args in (
       ap seen
-      (sym
-      (l .inv .2
-      ∙ references-fault (a .s .now) (a .k) (a .f .place) (wantsList (a .s .now) (a .n) (a .want)) (a .n - l .j) (l .at) (l .j) 12 (l .at) (left d) (wanted d)
-      (mistyped (a .s .now) (a .k) (a .f .place) (l .at) _ _ (sym (r .resolve .ensures) ∙ t .before .found .given .1) _ (λ q. c .if1 .taken (q ∙ sym (w .want-at .ensures)))))),
+          (sym
+          (l .inv .2
+          ∙ references-fault (a .s .now) (a .k) (a .f .place) (wantsList (a .s .now) (a .n) (a .want)) (a .n - l .j) (l .at) (l .j) 12 (l .at) (left d) (wanted d)
+          (mistyped (a .s .now) (a .k) (a .f .place) (l .at) _ _ (sym (r .resolve .ensures) ∙ t .before .found .given .1) _ (λ q. c .if1 .taken (q ∙ sym (w .want-at .ensures)))))),
       λ e. absurd (not-good _ _ e),
     )
 
@@ -86,11 +86,11 @@ loop-again c =
       omega (arith, d .loop-test .taken),
       omega (arith, l .inv .1),
       l .inv .2
-      ∙ references-on (a .s .now) (a .k) (a .f .place) (wantsList (a .s .now) (a .n) (a .want)) (a .n - l .j) (l .at) (l .j) (left d) (wanted d)
-      (welltyped (a .s .now) (a .k) (a .f .place) (l .at) _ _ e _ (c .if1 .left ∙ w .want-at .ensures))
-      ∙ ap (λ (n : ℕ). referencesChecked (a .s .now) (a .k) (a .f .place) (drop (l .j + 1) (wantsList (a .s .now) (a .n) (a .want))) (references n (a .s .now) (l .at + 3))) m,
+          ∙ references-on (a .s .now) (a .k) (a .f .place) (wantsList (a .s .now) (a .n) (a .want)) (a .n - l .j) (l .at) (l .j) (left d) (wanted d)
+          (welltyped (a .s .now) (a .k) (a .f .place) (l .at) _ _ e _ (c .if1 .left ∙ w .want-at .ensures))
+          ∙ ap (λ (n : ℕ). referencesChecked (a .s .now) (a .k) (a .f .place) (drop (l .j + 1) (wantsList (a .s .now) (a .n) (a .want))) (references n (a .s .now) (l .at + 3))) m,
       fill-step (a .s .now) (a .f .place) (a .begin) (a .i) (l .j) _ (l .at) (a .targets .now) (l .targets) (l .inv .3)
-      (omega (arith, q, y .4, y .5, y .3, d .loop-test .taken)) (l .inv .1) (index-of (a .s .now) (a .k) (a .f .place) (l .at) _ _ e),
+          (omega (arith, q, y .4, y .5, y .3, d .loop-test .taken)) (l .inv .1) (index-of (a .s .now) (a .k) (a .f .place) (l .at) _ _ e),
     )
 
 returns-3 : tie.Need-returns-3 Inv-loop μ-loop

@@ -109,11 +109,10 @@ module _ (t : ℕ) where
       let a = c .before .before .before .before .before .before .before .before .before .before .before .before .args in
       let l = c .before .before .before .before .loop in
       let (room, fit, spots) =
-          node-ready (a .t .now) (a .order .now) (a .spots .now) (a .k) (a .ins .now) (a .code .now) (a .at) (a .next) (l .code) (l .spot) (l .here) (l .word) (l .i) (c .before .before .before .before .before .before .before .u16-at .result) (c .before .wide163 .result)
-          (l .inv) (c .before .before .before .loop-test .taken) (c .before .wide163 .ensures .0) (c .before .before .before .before .before .before .before .before .before .before .before .before .pre .1 .1 .1) in
+      node-ready (a .t .now) (a .order .now) (a .spots .now) (a .k) (a .ins .now) (a .code .now) (a .at) (a .next) (l .code) (l .spot) (l .here) (l .word) (l .i) (c .before .before .before .before .before .before .before .u16-at .result) (c .before .wide163 .result)
+      (l .inv) (c .before .before .before .loop-test .taken) (c .before .wide163 .ensures .0) (c .before .before .before .before .before .before .before .before .before .before .before .before .pre .1 .1 .1) in
       let m = c .before .before .before .before .before .before .before .before .before .before .before .before .pre .0 in
-      let (k16, starts) = c .before .before .before .before .before .before .before .before .before .before .before .before .pre .1 .0 in
-      (
+      let (k16, starts) = c .before .before .before .before .before .before .before .before .before .before .before .before .pre .1 .0 in (
         omega arith,
         (
           (k16, (λ j lt. starts j (omega arith)), fit),
@@ -154,10 +153,9 @@ module _ (t : ℕ) where
       let s = a .t .now in
       let f = sym (c .before .before .before .before .is-call .ensures) ∙ c .before .before .before .if1 .taken in
       let e = c .before .wide .ensures .0 ∙ c .before .before .byte-at2 .ensures in
-      let x = c .before .before .before .before .before .before .before .before .before .pre .1 .0 .2 .arguments (called s (a .p) (c .before .before .before .before .before .before .byte-at .result) (c .before .before .before .before .before .ports-of .result) (c .before .before .before .before .before .before .byte-at .ensures) (c .before .before .before .before .before .ports-of .ensures) f) in
-      (
+      let x = c .before .before .before .before .before .before .before .before .before .pre .1 .0 .2 .arguments (called s (a .p) (c .before .before .before .before .before .before .byte-at .result) (c .before .before .before .before .before .ports-of .result) (c .before .before .before .before .before .before .byte-at .ensures) (c .before .before .before .before .before .ports-of .ensures) f) in (
         count-is s (a .spots .now) (a .k) (a .p) (a .spot) (a .ins .now) (a .first) (a .next) (c .before .before .before .before .before .before .byte-at .result) (c .before .before .before .before .before .ports-of .result) (c .before .before .before .before .before .before .byte-at .ensures) (c .before .before .before .before .before .ports-of .ensures) f
-        (c .before .wide .result) (c .u16-at .result) e (c .u16-at .ensures .0),
+            (c .before .wide .result) (c .u16-at .result) e (c .u16-at .ensures .0),
         omega arith,
       )
 
@@ -194,8 +192,7 @@ module _ (t : ℕ) where
       let a = c .before .before .before .before .before .before .before .before .before .before .before .before .before .before .before .args in
       let (k16, starts, fit) = c .before .before .before .before .before .before .before .before .before .before .before .before .before .before .before .pre .1 .0 in
       let m = c .before .before .before .before .before .before .before .before .before .before .before .before .before .before .before .pre .0 in
-      let g : c .before .before .before .position-of .result < a .k = c .before .before .if2 .taken in
-      (
+      let g : c .before .before .before .position-of .result < a .k = c .before .before .if2 .taken in (
         omega arith,
         (
           (omega arith, (λ j lt. starts j (omega arith))),
@@ -212,8 +209,7 @@ module _ (t : ℕ) where
   emit-node-emit-single-requires : emit-node-lts.Need-emit-single-requires (KN t) (emit-node-at t) emit-node.Post
   emit-node-emit-single-requires c κs =
       let a = c .before .before .before .before .before .before .before .args in
-      let f = sym (c .before .before .is-call .ensures) ∙ c .before .if1 .left in
-      (
+      let f = sym (c .before .before .is-call .ensures) ∙ c .before .if1 .left in (
         (c .before .before .before .before .before .before .before .pre .1 .0 .2 .near, ap calling (sym (form-is (a .t .now) (a .p) (c .before .before .before .before .byte-at .result) (c .before .before .before .ports-of .result) (c .before .before .before .before .byte-at .ensures) (c .before .before .before .ports-of .ensures))) ∙ f),
         (c .before .before .before .before .before .before .before .pre .1 .1 .0, c .before .before .before .before .before .before .before .pre .1 .1 .1 .1),
       )
@@ -231,8 +227,7 @@ module _ (t : ℕ) where
   emit-node-returns-2 : emit-node-lts.Need-returns-2 (KN t) (emit-node-at t) emit-node.Post
   emit-node-returns-2 c =
       let a = c .before .before .before .before .before .before .before .before .before .before .before .before .before .args in
-      let e = no-callee (c .before) (c .if2 .left) in
-      (
+      let e = no-callee (c .before) (c .if2 .left) in (
         rw e (record { written = refl; end = omega arith; words = refl }),
         ap (λ (m : ℕ). a .spot + m) (sym (count (c .before .before .before .before) .0)),
       )

@@ -24,7 +24,7 @@ node c =
     (c .before .before .wide .result) (c .before .constant-words .result) (c .result-words .result) (c .before .before .wide .ensures .0) (c .before .constant-words .ensures .0) (c .result-words .ensures .0)
 
 -- the room for the whole
-fits : (c : tie.After-result-words) → 
+fits : (c : tie.After-result-words) →
     let a = c .before .before .before .before .before .before .before .before .args in
     (a .at + (2 + 2 * c .before .before .wide .result + 8 * c .before .constant-words .result) ≤ length (a .code .now))
     × (a .at + (2 + 2 * c .before .before .wide .result + 8 * c .before .constant-words .result) < 18446744073709551616)
@@ -85,8 +85,7 @@ returns c =
     let n = c .before .before .before .before .before .before .before .before .before .before .wide .result in
     let v = c .before .before .before .before .before .before .before .before .before .constant-words .result in
     let xs = allBytes 2 (addressesIn (a .spots .now) (a .ins .now) (a .first) (a .spot) n) in
-    let ys = copied (8 * v) (a .t .now) (a .p + 4) in
-    (
+    let ys = copied (8 * v) (a .t .now) (a .p + 4) in (
       record {
         written =
             c .before .before .copy .ensures

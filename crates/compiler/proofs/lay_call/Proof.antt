@@ -29,12 +29,11 @@ loop-again : tie.Need-loop-again Inv-loop μ-loop
 loop-again c =
     let a = c .before .before .before .before .before .args in
     let l = c .before .before .before .before .loop in
-    let e = c .through .ensures ∙ ap (throughCode (a .spots .now) (a .spot) (a .n) (a .d)) (c .before .wide16 .ensures .0) in
-    (
+    let e = c .through .ensures ∙ ap (throughCode (a .spots .now) (a .spot) (a .n) (a .d)) (c .before .wide16 .ensures .0) in (
       omega arith,
       run-step (throughCodes (a .outs .now) (a .spots .now) (a .spot) (a .n) (a .d) (8 * a .g) (a .count)) (a .laid .now) (8 * a .i) (l .laid) (l .q) (c .through .result) _ _ (l .inv .1)
-      (through-next (a .outs .now) (a .spots .now) (a .spot) (a .n) (a .d) (8 * a .g) (a .count) (l .q) (c .before .before .before .loop-test .taken)
-      ∙ ap (λ (x : ℕ). x ∷ throughCodes (a .outs .now) (a .spots .now) (a .spot) (a .n) (a .d) (8 * a .g + (l .q + 1)) (a .count - (l .q + 1))) (sym e)),
+          (through-next (a .outs .now) (a .spots .now) (a .spot) (a .n) (a .d) (8 * a .g) (a .count) (l .q) (c .before .before .before .loop-test .taken)
+          ∙ ap (λ (x : ℕ). x ∷ throughCodes (a .outs .now) (a .spots .now) (a .spot) (a .n) (a .d) (8 * a .g + (l .q + 1)) (a .count - (l .q + 1))) (sym e)),
     )
 
 returns : tie.Need-returns Inv-loop μ-loop

@@ -35,8 +35,8 @@ callee c =
     let x = c .before .before .wide .ensures .0 ∙ c .before .before .before .byte-at2 .ensures ∙ ap (λ (q : ℕ). byte s (q + 3)) e in
     let y = c .before .before .before .before .before .before .before .before .before .before .before .before .before .before .pre .1 .0 .0 g lt .outputs in
     let z =
-        added-words s (a .k) (a .p) (c .before .before .before .before .before .before .before .before .before .before .before .before .byte-at .result) (c .before .before .before .before .before .before .before .before .before .before .before .ports-of .result) (c .before .before .before .before .before .before .before .before .before .before .before .before .byte-at .ensures) (c .before .before .before .before .before .before .before .before .before .before .before .ports-of .ensures) f (c .before .before .before .before .before .before .before .before .u16-at .result) g (c .before .before .before .before .before .before .before .before .u16-at .ensures .0) (c .before .before .before .before .before .before .before .position-of .ensures)
-        ∙ words-at s (a .k) (c .before .before .before .before .before .before .before .before .u16-at .result) g (c .before .before .before .before .before .before .before .position-of .ensures) (c .before .before .before .before .before .before .before .before .before .before .before .before .before .before .pre .0 .0) lt in
+    added-words s (a .k) (a .p) (c .before .before .before .before .before .before .before .before .before .before .before .before .byte-at .result) (c .before .before .before .before .before .before .before .before .before .before .before .ports-of .result) (c .before .before .before .before .before .before .before .before .before .before .before .before .byte-at .ensures) (c .before .before .before .before .before .before .before .before .before .before .before .ports-of .ensures) f (c .before .before .before .before .before .before .before .before .u16-at .result) g (c .before .before .before .before .before .before .before .before .u16-at .ensures .0) (c .before .before .before .before .before .before .before .position-of .ensures)
+    ∙ words-at s (a .k) (c .before .before .before .before .before .before .before .before .u16-at .result) g (c .before .before .before .before .before .before .before .position-of .ensures) (c .before .before .before .before .before .before .before .before .before .before .before .before .before .before .pre .0 .0) lt in
     let w = c .wide32 .ensures .0 ∙ c .before .before .before .before .before .before .before .before .before .before .before .before .before .before .pre .0 .4 g lt in
     let v = c .before .before .before .before .before .before .before .before .before .before .before .before .before .before .pre .1 .1 in
     (x, omega arith, omega arith)
@@ -59,14 +59,13 @@ returns c =
     let (x, y, z) = callee (c .before .before) in
     let f = sym (c .before .before .before .before .before .before .before .before .before .before .before .before .is-call .ensures) ∙ c .before .before .before .before .before .before .before .before .before .before .before .if1 .taken in
     let n =
-        c .before .before .before .before .before .before .before .before .before .before .before .before .before .before .before .before .pre .1 .0 .3
-        ∙ count-is s (a .spots .now) (a .k) (a .p) (a .spot) (a .spots .now) 0 0 (c .before .before .before .before .before .before .before .before .before .before .before .before .before .before .byte-at .result) (c .before .before .before .before .before .before .before .before .before .before .before .before .before .ports-of .result) (c .before .before .before .before .before .before .before .before .before .before .before .before .before .before .byte-at .ensures) (c .before .before .before .before .before .before .before .before .before .before .before .before .before .ports-of .ensures) f
-        (byte s (a .p + 4 + 2)) (c .before .before .before .before .before .before .before .before .before .before .u16-at .result) refl (c .before .before .before .before .before .before .before .before .before .before .u16-at .ensures .0) in
-    (
+    c .before .before .before .before .before .before .before .before .before .before .before .before .before .before .before .before .pre .1 .0 .3
+    ∙ count-is s (a .spots .now) (a .k) (a .p) (a .spot) (a .spots .now) 0 0 (c .before .before .before .before .before .before .before .before .before .before .before .before .before .before .byte-at .result) (c .before .before .before .before .before .before .before .before .before .before .before .before .before .ports-of .result) (c .before .before .before .before .before .before .before .before .before .before .before .before .before .before .byte-at .ensures) (c .before .before .before .before .before .before .before .before .before .before .before .before .before .ports-of .ensures) f
+    (byte s (a .p + 4 + 2)) (c .before .before .before .before .before .before .before .before .before .before .u16-at .result) refl (c .before .before .before .before .before .before .before .before .before .before .u16-at .ensures .0) in (
       c .lay-call .ensures
-      ∙ ap (λ (l : List ℕ). sets (a .laid .now) (8 * a .i) l)
-      (call-codes s (a .outs .now) (a .spots .now) (a .k) (a .p) (a .spot) (a .d) (c .before .before .before .before .before .before .before .before .before .before .before .before .before .before .byte-at .result) (c .before .before .before .before .before .before .before .before .before .before .before .before .before .ports-of .result) (c .before .before .before .before .before .before .before .before .before .before .before .before .before .before .byte-at .ensures) (c .before .before .before .before .before .before .before .before .before .before .before .before .before .ports-of .ensures) f
-      (c .before .before .before .before .before .before .before .before .before .before .u16-at .result) (c .before .before .before .before .before .before .before .before .before .position-of .result) (c .before .before .before .before .before .before .before .before .before .before .u16-at .ensures .0) (c .before .before .before .before .before .before .before .before .before .position-of .ensures) (c .before .before .before .before .before .before .before .before .if2 .taken) (a .n) (c .before .before .before .before .wide .result) n x),
+          ∙ ap (λ (l : List ℕ). sets (a .laid .now) (8 * a .i) l)
+          (call-codes s (a .outs .now) (a .spots .now) (a .k) (a .p) (a .spot) (a .d) (c .before .before .before .before .before .before .before .before .before .before .before .before .before .before .byte-at .result) (c .before .before .before .before .before .before .before .before .before .before .before .before .before .ports-of .result) (c .before .before .before .before .before .before .before .before .before .before .before .before .before .before .byte-at .ensures) (c .before .before .before .before .before .before .before .before .before .before .before .before .before .ports-of .ensures) f
+          (c .before .before .before .before .before .before .before .before .before .before .u16-at .result) (c .before .before .before .before .before .before .before .before .before .position-of .result) (c .before .before .before .before .before .before .before .before .before .before .u16-at .ensures .0) (c .before .before .before .before .before .before .before .before .before .position-of .ensures) (c .before .before .before .before .before .before .before .before .if2 .taken) (a .n) (c .before .before .before .before .wide .result) n x),
       ap (λ (w : ℕ). a .d + w) (sym z),
     )
 
@@ -77,13 +76,12 @@ returns-2 c =
     let f = sym (c .before .before .before .before .is-call .ensures) ∙ c .before .before .before .if1 .taken in
     let g = c .before .position-of .result in
     let w =
-        added-words s (a .k) (a .p) (c .before .before .before .before .before .before .byte-at .result) (c .before .before .before .before .before .ports-of .result) (c .before .before .before .before .before .before .byte-at .ensures) (c .before .before .before .before .before .ports-of .ensures) f (c .before .before .u16-at .result) g (c .before .before .u16-at .ensures .0) (c .before .position-of .ensures)
-        ∙ words-none s (a .k) (c .before .before .u16-at .result) g (c .before .position-of .ensures) (c .if2 .left) in
-    (
+    added-words s (a .k) (a .p) (c .before .before .before .before .before .before .byte-at .result) (c .before .before .before .before .before .ports-of .result) (c .before .before .before .before .before .before .byte-at .ensures) (c .before .before .before .before .before .ports-of .ensures) f (c .before .before .u16-at .result) g (c .before .before .u16-at .ensures .0) (c .before .position-of .ensures)
+    ∙ words-none s (a .k) (c .before .before .u16-at .result) g (c .before .position-of .ensures) (c .if2 .left) in (
       ap (λ (l : List ℕ). sets (a .laid .now) (8 * a .i) l)
-      (sym
-      (no-codes s (a .outs .now) (a .spots .now) (a .k) (a .p) (a .spot) (a .d) (c .before .before .before .before .before .before .byte-at .result) (c .before .before .before .before .before .ports-of .result) (c .before .before .before .before .before .before .byte-at .ensures) (c .before .before .before .before .before .ports-of .ensures) f
-      (c .before .before .u16-at .result) g (c .before .before .u16-at .ensures .0) (c .before .position-of .ensures) (c .if2 .left))),
+          (sym
+          (no-codes s (a .outs .now) (a .spots .now) (a .k) (a .p) (a .spot) (a .d) (c .before .before .before .before .before .before .byte-at .result) (c .before .before .before .before .before .ports-of .result) (c .before .before .before .before .before .before .byte-at .ensures) (c .before .before .before .before .before .ports-of .ensures) f
+          (c .before .before .u16-at .result) g (c .before .before .u16-at .ensures .0) (c .before .position-of .ensures) (c .if2 .left))),
       omega arith,
     )
 
@@ -108,12 +106,11 @@ add-result-2 c = let w = all-words (c .before .before) in let v = c .before .bef
 returns-3 : tie.Need-returns-3
 returns-3 c =
     let a = c .before .before .before .before .before .before .before .before .before .before .before .before .args in
-    let s = a .t .now in
-    (
+    let s = a .t .now in (
       c .lay-results .ensures
-      ∙ ap (λ (l : List ℕ). sets (a .laid .now) (8 * a .i) l)
-      (plain-codes s (a .outs .now) (a .spots .now) (a .k) (a .p) (a .spot) (a .d) (c .before .before .before .before .before .before .before .before .before .before .byte-at .result) (c .before .before .before .before .before .before .before .before .before .ports-of .result) (c .before .before .before .before .before .before .before .before .before .before .byte-at .ensures) (c .before .before .before .before .before .before .before .before .before .ports-of .ensures)
-      (sym (c .before .before .before .before .before .before .before .before .is-call .ensures) ∙ c .before .before .before .before .before .before .before .if1 .left) (c .before .before .before .before .before .before .byte-at3 .result) (c .before .before .before .before .width .result) (c .before .before .before .wide2 .result) (c .before .before .before .before .before .before .byte-at3 .ensures) (c .before .before .before .before .width .ensures .0 ∙ ap PortList.width (c .before .before .before .before .before .own .ensures)) (c .before .before .before .wide2 .ensures .0)),
+          ∙ ap (λ (l : List ℕ). sets (a .laid .now) (8 * a .i) l)
+          (plain-codes s (a .outs .now) (a .spots .now) (a .k) (a .p) (a .spot) (a .d) (c .before .before .before .before .before .before .before .before .before .before .byte-at .result) (c .before .before .before .before .before .before .before .before .before .ports-of .result) (c .before .before .before .before .before .before .before .before .before .before .byte-at .ensures) (c .before .before .before .before .before .before .before .before .before .ports-of .ensures)
+          (sym (c .before .before .before .before .before .before .before .before .is-call .ensures) ∙ c .before .before .before .before .before .before .before .if1 .left) (c .before .before .before .before .before .before .byte-at3 .result) (c .before .before .before .before .width .result) (c .before .before .before .wide2 .result) (c .before .before .before .before .before .before .byte-at3 .ensures) (c .before .before .before .before .width .ensures .0 ∙ ap PortList.width (c .before .before .before .before .before .own .ensures)) (c .before .before .before .wide2 .ensures .0)),
       ap (λ (w : ℕ). a .d + w) (sym (all-words (c .before .before))),
     )
 

@@ -28,14 +28,13 @@ loop-again c =
     let a = c .before .before .before .before .before .before .before .before .args in
     let l = c .before .before .before .before .before .before .loop in
     let e =
-        c .spot-of .ensures ∙ ap (λ (v : ℕ). portCode (a .laid .now) v (c .before .wide .result)) (c .before .before .before .wide16 .ensures .0)
-        ∙ ap (portCode (a .laid .now) (getD (a .targets .now) (16 * a .i + l .j) 0)) (c .before .wide .ensures .0 ∙ c .before .before .byte-at .ensures) in
-    (
+    c .spot-of .ensures ∙ ap (λ (v : ℕ). portCode (a .laid .now) v (c .before .wide .result)) (c .before .before .before .wide16 .ensures .0)
+    ∙ ap (portCode (a .laid .now) (getD (a .targets .now) (16 * a .i + l .j) 0)) (c .before .wide .ensures .0 ∙ c .before .before .byte-at .ensures) in (
       omega arith,
       omega arith,
       run-step (readCodes (a .t .now) (a .targets .now) (a .laid .now) (16 * a .i) (a .n) (a .first)) (a .spots .now) (a .spot) (l .spots) (l .j) (c .spot-of .result) _ _ (l .inv .2)
-      (reads-next (a .t .now) (a .targets .now) (a .laid .now) (16 * a .i) (a .n) (l .j) (l .q) (c .before .before .before .before .before .loop-test .taken)
-      ∙ ap (λ (x : ℕ). x ∷ readCodes (a .t .now) (a .targets .now) (a .laid .now) (16 * a .i + (l .j + 1)) (a .n - (l .j + 1)) (l .q + 3)) (sym e)),
+          (reads-next (a .t .now) (a .targets .now) (a .laid .now) (16 * a .i) (a .n) (l .j) (l .q) (c .before .before .before .before .before .loop-test .taken)
+          ∙ ap (λ (x : ℕ). x ∷ readCodes (a .t .now) (a .targets .now) (a .laid .now) (16 * a .i + (l .j + 1)) (a .n - (l .j + 1)) (l .q + 3)) (sym e)),
     )
 
 returns : tie.Need-returns Inv-loop μ-loop

@@ -23,12 +23,11 @@ loop-holds c =
 loop-again : tie.Need-loop-again Inv-loop μ-loop
 loop-again c =
     let a = c .before .before .args in
-    let l = c .before .loop in
-    (
+    let l = c .before .loop in (
       omega arith,
       omega arith,
       run-step (resultCodes (8 + a .d) (a .width) (a .count)) (a .laid .now) (8 * a .i) (l .laid) (l .q) (l .e) _ _ (l .inv .2)
-      (results-next (l .e) (a .width) (a .count) (l .q) (c .loop-test .taken)),
+          (results-next (l .e) (a .width) (a .count) (l .q) (c .loop-test .taken)),
     )
 
 returns : tie.Need-returns Inv-loop μ-loop

@@ -76,12 +76,11 @@ loop-again c =
     let s = a .t .now in
     let l = c .before .before .loop in
     let r = c .before .before .before .reads-at .result in
-    let f : Ref → ℕ = λ x. target (nodesAt (a .n) s (a .at)) (some x) in
-    (
+    let f : Ref → ℕ = λ x. target (nodesAt (a .n) s (a .at)) (some x) in (
       omega arith,
       omega arith,
       run-step (map f (references (r .count) s (r .first))) (a .targets .now) (16 * a .i) (l .targets) (l .j) (c .target .result) _ _ (l .inv .2)
-      (refs-next f s (r .count) (l .j) (l .q) (c .before .loop-test .taken) ∙ ap (λ (x : ℕ). x ∷ map f (references (r .count - (l .j + 1)) s (l .q + 3))) (sym (c .target .ensures))),
+          (refs-next f s (r .count) (l .j) (l .q) (c .before .loop-test .taken) ∙ ap (λ (x : ℕ). x ∷ map f (references (r .count - (l .j + 1)) s (l .q + 3))) (sym (c .target .ensures))),
     )
 
 returns : tie.Need-returns Inv-loop μ-loop

@@ -49,7 +49,7 @@ loop-again c =
     let l = d .before .before .loop in (
       omega arith,
       l .inv .1
-      ∙ function-miss (version1 .header) (b .args .s .now) (b .args .id) (l .i) _ (d .before .loop-test .taken) (place d) (λ w. c .if1 .left (c .before .u16-at .ensures ∙ w)),
+          ∙ function-miss (version1 .header) (b .args .s .now) (b .args .id) (l .i) _ (d .before .loop-test .taken) (place d) (λ w. c .if1 .left (c .before .u16-at .ensures ∙ w)),
     )
 
 returns-2 : tie.Need-returns-2 Inv-loop μ-loop

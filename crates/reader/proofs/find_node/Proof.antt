@@ -65,8 +65,8 @@ end-by-requires c κs =
     let p = d .before .before .port-rows in (
       here d,
       ap (λ (rs : List Ports). getD rs (z .size .result) absent) (p .ensures)
-      ∙ ap (λ (k : ℕ). getD rows k absent) (z .size .ensures .0)
-      ∙ row-of (byte (a .s .now) (d .before .loop .at + 2)),
+          ∙ ap (λ (k : ℕ). getD rows k absent) (z .size .ensures .0)
+          ∙ row-of (byte (a .s .now) (d .before .loop .at + 2)),
     )
 
 loop-again : tie.Need-loop-again Inv-loop μ-loop
@@ -80,11 +80,11 @@ loop-again c =
     let e = sym (c .end-by .ensures) in (
       omega arith,
       subst (λ (n : ℕ). ReadsNodes n s (c .end-by .result)) m
-      (subst (λ (p : ℕ). ReadsNodes (a .count - l .i - 1) s p) e (rest-reads s (a .count - l .i) (l .at) (left d) (l .inv .1))),
+          (subst (λ (p : ℕ). ReadsNodes (a .count - l .i - 1) s p) e (rest-reads s (a .count - l .i) (l .at) (left d) (l .inv .1))),
       l .inv .2
-      ∙ node-miss s (a .id) (a .count - l .i) (l .at) (l .i) (left d) (λ w. z .before .before .if1 .left (z .before .before .before .u16-at .ensures ∙ w))
-      ∙ ap (λ (p : ℕ). nodeFound (l .i + 1) (a .id) (nodesAt (a .count - l .i - 1) s p)) e
-      ∙ ap (λ (n : ℕ). nodeFound (l .i + 1) (a .id) (nodesAt n s (c .end-by .result))) m,
+          ∙ node-miss s (a .id) (a .count - l .i) (l .at) (l .i) (left d) (λ w. z .before .before .if1 .left (z .before .before .before .u16-at .ensures ∙ w))
+          ∙ ap (λ (p : ℕ). nodeFound (l .i + 1) (a .id) (nodesAt (a .count - l .i - 1) s p)) e
+          ∙ ap (λ (n : ℕ). nodeFound (l .i + 1) (a .id) (nodesAt n s (c .end-by .result))) m,
     )
 
 returns-2 : tie.Need-returns-2 Inv-loop μ-loop
