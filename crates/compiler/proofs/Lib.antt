@@ -17,3 +17,4 @@ pub mod Accepting
 pub mod Spreading
 pub mod Outputs
 pub mod Tables
+pub mod Ending

@@ -3,3 +3,4 @@ pub mod Position
 pub mod Capped
 pub mod Emit
 pub mod Spotting
+pub mod Whole

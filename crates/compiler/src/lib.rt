@@ -7,7 +7,7 @@ ghost use Prim.Native.Nat.{ℕ, suc, _+_, _*_, _<_, _≤_, _^_, min};
 ghost use lib.ListN.{length, getD, set, replicate};
 ghost use lib.Seq.{sets};
 ghost use Rattle.ports.specs.Kinds.{kindOf};
-ghost use Rattle.ports.specs.Ports.{portsOf, formOf, constantIn};
+ghost use Rattle.ports.specs.Ports.{widths, portsOf, formOf, constantIn};
 ghost use Rattle.graph.specs.Bytes.{byte, u16};
 ghost use Rattle.graph.specs.Look.{reads};
 ghost use Rattle.graph.specs.Read.{reference};
@@ -15,7 +15,10 @@ ghost use Rattle.topology.specs.Resolve as Resolve;
 ghost use Rattle.reader.specs.Find.{ReadsNodes};
 ghost use Rattle.topology.specs.Indices.{indexOrder};
 ghost use Rattle.compiler.specs.Spotting.{Accepted, NodesLaid, FunctionLaid, LaidTo, readCount, outputCodes, Places, Slots, WordsHeld, portCode, readCodes, throughCode, throughCodes, resultCodes, nodeCodes, AllOuts};
-ghost use Rattle.list.specs.Code.{bytesOf, allBytes};
+ghost use Rattle.value.specs.Values.{span};
+ghost use Rattle.list.specs.Compile.{places, spans};
+ghost use Rattle.list.specs.Code.{bytesOf, allBytes, headerCode};
+ghost use Rattle.compiler.specs.Whole.{typesBy};
 ghost use Rattle.reader.specs.Layout.{outputCount, outputsPlace, kindAt, nodeAt, nodesAt, nodeEnd, nodePlace, nodesPlace, nodeCount};
 ghost use Rattle.compiler.specs.Position.{placeOf, positionOf, Starts, calling, ReadsOf, NodeFit, NodesFit, Fit, AllFit};
 ghost use Rattle.compiler.specs.Capped.{operationsAt, wordsAt, instructionsAt, bytesAt, addsWords, operationCap, wordCap, byteCap, Caps, AllSummed};
@@ -853,6 +856,116 @@ fn lay_functions(
     let mut j = 0;
     while j < k {
         spot = lay_next(t, starts, words, j, outs, order, spots, begins, spot);
+        j += 1;
+    }
+}
+
+// ---- the whole
+
+// The code's length, or the refusal with its number and place.
+pub enum Compiled {
+    Length(usize),
+    Refused(u8, usize),
+}
+
+// The words of n values, whose type bytes stand `step` bytes apart.
+fn port_words(t: &[u8], at: usize, n: usize, step: usize) -> usize
+    requires { ⌜ (at < 2 ^ 20) × (n ≤ 8) × (step ≤ 4) ⌝ }
+    ensures { λ r. ⌜ (r ≡ widths (typesBy step n (now (t .entry)) at)) × (r ≤ 128) ⌝ }
+{
+    let mut q = at;
+    let mut w = 0;
+    let mut j = 0;
+    while j < n {
+        w += ports::width(byte_at(t, q));
+        q += step;
+        j += 1;
+    }
+    w
+}
+
+// The addresses of n arguments, by their type bytes.
+fn input_places(t: &[u8], at: usize, n: usize, ins: &mut [u16; 8])
+    requires { ⌜ (at < 2 ^ 20) × (n ≤ 8) ⌝ }
+    ensures { λ _. ⌜ now (ins .exit) ≡ sets (now (ins .entry)) 0 (places 0 (typesBy 1 n (now (t .entry)) at)) ⌝ }
+{
+    let mut q = at;
+    let mut w = 0;
+    let mut j = 0;
+    while j < n {
+        ins[j] = w as u16;
+        w += ports::width(byte_at(t, q));
+        q += 1;
+        j += 1;
+    }
+}
+
+// n addresses, one after another.
+fn put_span(code: &mut [u8], at: usize, a: usize, n: usize)
+    requires { ⌜ (at + 2 * n ≤ length (now code)) × (a + n ≤ 65536) ⌝ }
+    ensures { λ _. ⌜ now (code .exit) ≡ sets (now (code .entry)) at (allBytes 2 (span a n)) ⌝ }
+{
+    let mut j = 0;
+    while j < n {
+        put16(code, at + 2 * j, (a + j) as u16);
+        j += 1;
+    }
+}
+
+// The addresses of the output words of the function at position k, whose n output entries begin at `entries`.
+fn put_outputs(t: &[u8], entries: usize, n: usize, outs: &[u16; 128], k: usize, ins: &[u16; 8], first: usize, code: &mut [u8], at: usize)
+    requires { ⌜ (entries < 2 ^ 20) × (n ≤ 8) × (k < 16) × (first ≤ 8192) × ((j : ℕ) → j < n → addressOf (now ins) first (getD (now outs) (8 * k + j) 0) ≤ 16384) ⌝ }
+    requires { ⌜ at + 2 * widths (typesBy 4 n (now t) entries) ≤ length (now code) ⌝ }
+    ensures { λ _. ⌜ now (code .exit) ≡ sets (now (code .entry)) at
+        (allBytes 2 (spans (typesBy 4 n (now (t .entry)) entries) (addressesIn (now (outs .entry)) (now (ins .entry)) first (8 * k) n))) ⌝ }
+{
+    let mut q = entries;
+    let mut here = at;
+    let mut j = 0;
+    while j < n {
+        let e = wide16(outs[8 * k + j]);
+        let a = wide16(address(ins, first, e));
+        let w = ports::width(byte_at(t, q));
+        put_span(code, here, a, w);
+        here += 2 * w;
+        q += 4;
+        j += 1;
+    }
+}
+
+fn put_header(code: &mut [u8], arguments: u8, outputs: u8, count: u16, words: u16)
+    requires { ⌜ 12 ≤ length (now code) ⌝ }
+    ensures { λ _. ⌜ now (code .exit) ≡ sets (now (code .entry)) 0 (headerCode arguments outputs count words) ⌝ }
+{
+    code[0] = 0x49;
+    code[1] = 0x46;
+    code[2] = 0x52;
+    code[3] = 1;
+    code[4] = 0;
+    code[5] = arguments;
+    code[6] = outputs;
+    code[7] = 0;
+    put16(code, 8, count);
+    put16(code, 10, words);
+}
+
+// The sums of the functions before k.
+fn fill_sums(
+    t: &[u8],
+    starts: &[u16; 16],
+    k: usize,
+    ops: &mut [u32; 16],
+    words: &mut [u32; 16],
+    counts: &mut [u32; 16],
+    sizes: &mut [u32; 16],
+)
+    requires { ⌜ (k ≤ 16) × AllFit (now t) k × Starts (now t) (now starts) k ⌝ }
+    requires { ⌜ (length (now ops) ≡ 16) × (length (now words) ≡ 16) × (length (now counts) ≡ 16) × (length (now sizes) ≡ 16) ⌝ }
+    ensures { λ _. ⌜ AllSummed (now (t .entry)) (now (ops .exit)) (now (words .exit)) (now (counts .exit)) (now (sizes .exit)) k ⌝ }
+{
+    let mut j = 0;
+    while j < k {
+        function_sums(t, starts, j, ops, words, counts, sizes);
         j += 1;
     }
 }
