@@ -28,7 +28,7 @@ use Rattle.compiler.proofs.Opening.{open-with}
 
 -- ---- addresses of spots
 
-stands-address : (ins : List ℕ) (first e : ℕ) (x : Spot) → first ≤ 8192 → Stands e x → addressOf ins first e ≡ spotAt ins first x
+pub stands-address : (ins : List ℕ) (first e : ℕ) (x : Spot) → first ≤ 8192 → Stands e x → addressOf ins first e ≡ spotAt ins first x
 stands-address ins first e nowhere n h = absurd h
 stands-address ins first e (input i) n (q, l) = rw q (rw (lt-ltb i 8 l))
 stands-address ins first e (offset d) n (h, l) = let z : (first + (8 + d - 8)) % 65536 ≡ first + d = omega arith in rw h (rw (le-ltb (8 + d) 8 (omega arith), z))

@@ -2,7 +2,7 @@
 use Prim.Native.Nat.{ℕ, zero, suc, _+_, _-_, _*_, _≤_, _<_, min}
 use mathlib.Core.Path.{_≡_, refl, sym, ap, _∙_, subst}
 use mathlib.Core.Bool.{Bool, true, false}
-use mathlib.Core.List.{List, [], _∷_, _++_}
+use mathlib.Core.List.{List, [], _∷_, _++_, append-assoc}
 use native.Mathlib.Omega.{arith}
 use native.Mathlib.Nat.{add-zero}
 use lib.Dec.{eqb}
@@ -15,6 +15,7 @@ use Rattle.graph.specs.Bytes.{byte}
 use Rattle.list.specs.Compile.{places, spans}
 use Rattle.list.specs.Code.{bytesOf, allBytes, headerCode}
 use Rattle.compiler.specs.Capped.{operationCap, wordCap, byteCap, operationsAt, wordsAt, instructionsAt, bytesAt, Summed, AllSummed}
+use Rattle.compiler.specs.Emit.{addressOf, addressesIn}
 use Rattle.compiler.specs.Whole.{typesBy}
 use Rattle.compiler.proofs.Writing.{sets-append}
 
@@ -106,3 +107,75 @@ sums-more s os ws cs bs os' ws' cs' bs' k low h (l1, l2, l3, l4) (e1, e2, e3, e4
           instructions = other cs cs' k _ j e3 d ∙ x .instructions;
           bytes = other bs bs' k _ j e4 d ∙ x .bytes;
         }
+
+-- ---- the output words
+
+bytes-append : (xs ys : List ℕ) → allBytes 2 (xs ++ ys) ≡ allBytes 2 xs ++ allBytes 2 ys
+bytes-append [] ys = refl
+bytes-append (x ∷ xs) ys = ap (λ (zs : List ℕ). bytesOf 2 x ++ zs) (bytes-append xs ys) ∙ sym (append-assoc (bytesOf 2 x) (allBytes 2 xs) (allBytes 2 ys))
+
+span-bytes : (a n : ℕ) → length (allBytes 2 (span a n)) ≡ 2 * n
+span-bytes a zero = refl
+span-bytes a (suc n) = let e : length (allBytes 2 (span (suc a) n)) ≡ 2 * n = span-bytes (suc a) n in omega arith
+
+addresses-next : (outs ins : List ℕ) (first b n j : ℕ) → j < n
+    → addressesIn outs ins first (b + j) (n - j) ≡ addressOf ins first (getD outs (b + j) 0) ∷ addressesIn outs ins first (b + (j + 1)) (n - (j + 1))
+unfolding addressesIn
+addresses-next outs ins first b n j h =
+    let z : b + (j + 1) ≡ b + j + 1 = omega arith in
+    rw z (ap (λ (m : ℕ). addressesIn outs ins first (b + j) m) (one-less n j h))
+
+module _ (s outs ins : List ℕ) (first b n entries : ℕ) (code₀ : List ℕ) (at : ℕ) where
+  abbrev left : ℕ → ℕ → List ℕ
+  left j q = spans (typesBy 4 (n - j) s q) (addressesIn outs ins first (b + j) (n - j))
+
+  abbrev whole : List ℕ
+  whole = spans (typesBy 4 n s entries) (addressesIn outs ins first b n)
+
+  pub record Outgoing (code : List ℕ) (q here j : ℕ) : Type 0 where
+    pub index : j ≤ n
+    pub near : q ≤ entries + 4 * j
+    pub same : length code ≡ length code₀
+    pub end : here + 2 * widths (typesBy 4 (n - j) s q) ≡ at + 2 * widths (typesBy 4 n s entries)
+    pub rest : sets code₀ at (allBytes 2 whole) ≡ sets code here (allBytes 2 (left j q))
+
+  pub out-start : Outgoing code₀ entries at 0
+  out-start =
+      let z : n - 0 ≡ n = omega arith in
+      let y : b + 0 ≡ b = omega arith in
+      record { index = omega arith; near = omega arith; same = refl; end = rw z refl; rest = rw (z, y) }
+
+  -- the words of the output at hand
+  pub out-room : (code : List ℕ) (q here j w : ℕ) → Outgoing code q here j → j < n → w ≡ width (byte s q) → here + 2 * w ≤ at + 2 * widths (typesBy 4 n s entries)
+  out-room code q here j w h lt ew = let e = words-next 4 n j s q lt in let d = h .end in omega arith
+
+  pub out-step : (code code' : List ℕ) (q here j a w : ℕ) → Outgoing code q here j → j < n → w ≡ width (byte s q) → a ≡ addressOf ins first (getD outs (b + j) 0)
+      → code' ≡ sets code here (allBytes 2 (span a w)) → Outgoing code' (q + 4) (here + 2 * w) (j + 1)
+  out-step code code' q here j a w h lt ew ea ec =
+      let e = words-next 4 n j s q lt in
+      let d = h .end in
+      let next : left j q ≡ span a w ++ left (j + 1) (q + 4) =
+          ap (λ (ts : List ℕ). spans ts (addressesIn outs ins first (b + j) (n - j))) (types-next 4 n j s q lt)
+          ∙ ap (spans (byte s q ∷ typesBy 4 (n - (j + 1)) s (q + 4))) (addresses-next outs ins first b n j lt)
+          ∙ ap (λ (x : ℕ). span x (width (byte s q)) ++ left (j + 1) (q + 4)) (sym ea)
+          ∙ ap (λ (x : ℕ). span a x ++ left (j + 1) (q + 4)) (sym ew) in
+      let size : here + length (allBytes 2 (span a w)) ≡ here + 2 * w = ap (λ (x : ℕ). here + x) (span-bytes a w) in
+      record {
+        index = omega arith;
+        near = let m = h .near in omega arith;
+        same = ap length ec ∙ length-sets code here (allBytes 2 (span a w)) ∙ h .same;
+        end = omega arith;
+        rest =
+            h .rest
+            ∙ ap (λ (xs : List ℕ). sets code here (allBytes 2 xs)) next
+            ∙ ap (λ (xs : List ℕ). sets code here xs) (bytes-append (span a w) (left (j + 1) (q + 4)))
+            ∙ sets-append (allBytes 2 (span a w)) (allBytes 2 (left (j + 1) (q + 4))) code here
+            ∙ ap (λ (m : ℕ). sets (sets code here (allBytes 2 (span a w))) m (allBytes 2 (left (j + 1) (q + 4)))) size
+            ∙ ap (λ (xs : List ℕ). sets xs (here + 2 * w) (allBytes 2 (left (j + 1) (q + 4)))) (sym ec);
+      }
+
+  pub out-done : (code : List ℕ) (q here j : ℕ) → Outgoing code q here j → n ≤ j → code ≡ sets code₀ at (allBytes 2 whole)
+  out-done code q here j h le =
+      sym
+      (h .rest
+      ∙ ap (λ (ts : List ℕ). sets code here (allBytes 2 (spans ts (addressesIn outs ins first (b + j) (n - j))))) (types-none 4 n j s q le))

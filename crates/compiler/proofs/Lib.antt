@@ -18,3 +18,4 @@ pub mod Spreading
 pub mod Outputs
 pub mod Tables
 pub mod Ending
+pub mod Assembly

@@ -72,7 +72,7 @@ single-index (n ∷ ns) (a, h) (suc v) (suc i) y x gv gi e = ap suc (single-inde
 
 -- ---- numbers that stand for spots
 
-each-wider : (a b w : ℕ) (xs : List Spot) → w ≤ b → Each (Within a w) xs → Each (Within a b) xs
+pub each-wider : (a b w : ℕ) (xs : List Spot) → w ≤ b → Each (Within a w) xs → Each (Within a b) xs
 each-wider a b w [] l h = tt
 each-wider a b w (x ∷ xs) l (h, hs) = (wider x h, each-wider a b w xs l hs)
   where
@@ -81,7 +81,7 @@ each-wider a b w (x ∷ xs) l (h, hs) = (wider x h, each-wider a b w xs l hs)
     wider (input i) h = h
     wider (offset d) h = omega arith
 
-strong : (a e : ℕ) (x : Spot) → a ≤ 8 → Codes e x → Within a 8192 x → Stands e x
+pub strong : (a e : ℕ) (x : Spot) → a ≤ 8 → Codes e x → Within a 8192 x → Stands e x
 strong a e nowhere l c w = absurd w
 strong a e (input i) l c w = (c (omega arith), omega arith)
 strong a e (offset d) l c w = (c, w)

@@ -18,7 +18,7 @@ ghost use Rattle.compiler.specs.Spotting.{Accepted, NodesLaid, FunctionL
 ghost use Rattle.value.specs.Values.{span};
 ghost use Rattle.list.specs.Compile.{places, spans};
 ghost use Rattle.list.specs.Code.{bytesOf, allBytes, headerCode};
-ghost use Rattle.compiler.specs.Whole.{typesBy};
+ghost use Rattle.compiler.specs.Whole.{typesBy, codeAt, Measured};
 ghost use Rattle.reader.specs.Layout.{outputCount, outputsPlace, kindAt, nodeAt, nodesAt, nodeEnd, nodePlace, nodesPlace, nodeCount};
 ghost use Rattle.compiler.specs.Position.{placeOf, positionOf, Starts, calling, ReadsOf, NodeFit, NodesFit, Fit, AllFit};
 ghost use Rattle.compiler.specs.Capped.{operationsAt, wordsAt, instructionsAt, bytesAt, addsWords, operationCap, wordCap, byteCap, Caps, AllSummed};
@@ -968,4 +968,35 @@ fn fill_sums(
         function_sums(t, starts, j, ops, words, counts, sizes);
         j += 1;
     }
+}
+
+// The whole code of the function at position k.
+fn write_list(
+    t: &[u8],
+    starts: &[u16; 16],
+    words: &[u32; 16],
+    k: usize,
+    count: usize,
+    inputs: usize,
+    outputs: usize,
+    code: &mut [u8],
+)
+    requires { ⌜ Accepted (now t) (suc k) × Starts (now t) (now starts) (suc k) × WordsHeld (now t) (now words) (suc k) ⌝ }
+    requires { ⌜ Measured (now t) k count inputs outputs × (length (codeAt (now t) k) ≤ length (now code)) ⌝ }
+    ensures { λ _. ⌜ now (code .exit) ≡ sets (now (code .entry)) 0 (codeAt (now (t .entry)) k) ⌝ }
+{
+    let p = wide16(starts[k]);
+    let nin = wide(byte_at(t, p + 2));
+    let nout = wide(byte_at(t, p + 3));
+    let all = inputs + wide32(words[k]);
+    let mut order = [0u16; 4096];
+    let mut spots = [0u16; 20166];
+    let mut outs = [0u16; 128];
+    let mut begins = [0u16; 16];
+    let mut ins = [0u16; 8];
+    lay_functions(t, starts, words, k + 1, &mut outs, &mut order, &mut spots, &mut begins);
+    input_places(t, p + 6, nin, &mut ins);
+    put_header(code, inputs as u8, outputs as u8, count as u16, all as u16);
+    let r = emit(t, starts, &begins, &order, &spots, k, &ins, code, 12, inputs);
+    put_outputs(t, p + 6 + nin, nout, &outs, k, &ins, inputs, code, r.at);
 }
