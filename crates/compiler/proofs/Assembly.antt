@@ -70,7 +70,7 @@ stood outs xs ys first b [] l h g = refl
 stood outs xs ys first b (o ∷ os) l h g =
     let z : b + 0 ≡ b = omega arith in
     let e : addressOf ys first (getD outs b 0) ≡ spotAt xs first o =
-        stands-address ys first (getD outs b 0) o l (subst (λ (q : ℕ). Stands (getD outs q 0) o) z (g 0 (omega arith))) ∙ spot-same xs ys first o h in
+    stands-address ys first (getD outs b 0) o l (subst (λ (q : ℕ). Stands (getD outs q 0) o) z (g 0 (omega arith))) ∙ spot-same xs ys first o h in
     ap (λ (a : ℕ). a ∷ addressesIn outs ys first (b + 1) (length os)) e
     ∙ ap (λ (ys : List ℕ). spotAt xs first o ∷ ys)
     (stood outs xs ys first (b + 1) os l h (λ q ql. let y : b + suc q ≡ b + 1 + q = omega arith in subst (λ (m : ℕ). Stands (getD outs m 0) (getD os q nowhere)) y (g (suc q) (omega arith))))
@@ -88,7 +88,7 @@ each-at P (x ∷ xs) (h, hs) (suc q) l = each-at P xs hs q (omega arith)
 -- ---- the whole
 
 module _ (s : List ℕ) (k : ℕ) (acc : Accepted s (suc k)) (count inputs outputs : ℕ) (ms : Measured s k count inputs outputs) (outs ins : List ℕ)
-  (ports : PortsCoded (closedAt s k .outputs) outs (8 * k)) (ei : ins ≡ sets (replicate 8 0) 0 (places 0 (functionIn s k .inputs))) where
+    (ports : PortsCoded (closedAt s k .outputs) outs (8 * k)) (ei : ins ≡ sets (replicate 8 0) 0 (places 0 (functionIn s k .inputs))) where
   abbrev f : Function
   f = functionIn s k
 
@@ -181,18 +181,18 @@ module _ (s : List ℕ) (k : ℕ) (acc : Accepted s (suc k)) (count inputs outpu
   out-words = ap widths (sym (outputs-types (outputCount s (placeOf s k)) s (outputsPlace s (placeOf s k)))) ∙ sym (ms .results)
 
   module _ (code code₁ code₂ code₃ : List ℕ) (r : Reached) (all : ℕ) (ea : all ≡ inputs + wordsAt s k)
-    (e₁ : code₁ ≡ sets code 0 (headerCode inputs outputs count all)) (e₂ : Emits code₁ code₂ 12 (functionOpened s k ins inputs) r) where
+      (e₁ : code₁ ≡ sets code 0 (headerCode inputs outputs count all)) (e₂ : Emits code₁ code₂ 12 (functionOpened s k ins inputs) r) where
     pub out-room : length (codeAt s k) ≤ length code → r .at + 2 * widths (typesBy 4 (outputCount s (placeOf s k)) s (outputsPlace s (placeOf s k))) ≤ length code₂
     out-room l =
         let a = size in
         let b : r .at ≡ 12 + length (instructionsCode (list .code)) = e₂ .end ∙ ap (λ (o : Opened). 12 + length (instructionsCode (o .code))) opened-is in
         let c : length code₂ ≡ length code =
-            ap length (e₂ .written) ∙ length-sets code₁ 12 (instructionsCode (functionOpened s k ins inputs .code)) ∙ ap length e₁ ∙ length-sets code 0 (headerCode inputs outputs count all) in
+        ap length (e₂ .written) ∙ length-sets code₁ 12 (instructionsCode (functionOpened s k ins inputs .code)) ∙ ap length e₁ ∙ length-sets code 0 (headerCode inputs outputs count all) in
         let w = out-words in
         omega arith
 
     pub assembled : code₃ ≡ sets code₂ (r .at)
-            (allBytes 2 (spans (typesBy 4 (outputCount s (placeOf s k)) s (outputsPlace s (placeOf s k))) (addressesIn outs ins inputs (8 * k) (outputCount s (placeOf s k)))))
+        (allBytes 2 (spans (typesBy 4 (outputCount s (placeOf s k)) s (outputsPlace s (placeOf s k))) (addressesIn outs ins inputs (8 * k) (outputCount s (placeOf s k)))))
         → code₃ ≡ sets code 0 (codeAt s k)
     unfolding encode
     assembled e₃ =
@@ -201,10 +201,10 @@ module _ (s : List ℕ) (k : ℕ) (acc : Accepted s (suc k)) (count inputs outpu
         let i = instructionsCode (b .instructions) in
         let o = allBytes 2 (b .outputs) in
         let eh : headerCode inputs outputs count all ≡ h =
-            ap (λ (x : ℕ). headerCode x outputs count all) (ms .arguments)
-            ∙ ap (λ (x : ℕ). headerCode (b .arguments) x count all) (ms .results ∙ sym (output-words (before s k) f sound))
-            ∙ ap (λ (x : ℕ). headerCode (b .arguments) (length (b .outputs)) x all) (ms .instructions)
-            ∙ ap (headerCode (b .arguments) (length (b .outputs)) (length (b .instructions))) (ea ∙ sym words-are) in
+        ap (λ (x : ℕ). headerCode x outputs count all) (ms .arguments)
+        ∙ ap (λ (x : ℕ). headerCode (b .arguments) x count all) (ms .results ∙ sym (output-words (before s k) f sound))
+        ∙ ap (λ (x : ℕ). headerCode (b .arguments) (length (b .outputs)) x all) (ms .instructions)
+        ∙ ap (headerCode (b .arguments) (length (b .outputs)) (length (b .instructions))) (ea ∙ sym words-are) in
         let ec : code₁ ≡ sets code 0 h = e₁ ∙ ap (sets code 0) eh in
         let ed : code₂ ≡ sets code₁ 12 i = e₂ .written ∙ ap (λ (x : Opened). sets code₁ 12 (instructionsCode (x .code))) opened-is in
         let et : r .at ≡ 12 + length i = e₂ .end ∙ ap (λ (x : Opened). 12 + length (instructionsCode (x .code))) opened-is in

@@ -155,10 +155,10 @@ module _ (s outs ins : List ℕ) (first b n entries : ℕ) (code₀ : List ℕ) 
       let e = words-next 4 n j s q lt in
       let d = h .end in
       let next : left j q ≡ span a w ++ left (j + 1) (q + 4) =
-          ap (λ (ts : List ℕ). spans ts (addressesIn outs ins first (b + j) (n - j))) (types-next 4 n j s q lt)
-          ∙ ap (spans (byte s q ∷ typesBy 4 (n - (j + 1)) s (q + 4))) (addresses-next outs ins first b n j lt)
-          ∙ ap (λ (x : ℕ). span x (width (byte s q)) ++ left (j + 1) (q + 4)) (sym ea)
-          ∙ ap (λ (x : ℕ). span a x ++ left (j + 1) (q + 4)) (sym ew) in
+      ap (λ (ts : List ℕ). spans ts (addressesIn outs ins first (b + j) (n - j))) (types-next 4 n j s q lt)
+      ∙ ap (spans (byte s q ∷ typesBy 4 (n - (j + 1)) s (q + 4))) (addresses-next outs ins first b n j lt)
+      ∙ ap (λ (x : ℕ). span x (width (byte s q)) ++ left (j + 1) (q + 4)) (sym ea)
+      ∙ ap (λ (x : ℕ). span a x ++ left (j + 1) (q + 4)) (sym ew) in
       let size : here + length (allBytes 2 (span a w)) ≡ here + 2 * w = ap (λ (x : ℕ). here + x) (span-bytes a w) in
       record {
         index = omega arith;

@@ -19,3 +19,4 @@ pub mod Outputs
 pub mod Tables
 pub mod Ending
 pub mod Assembly
+pub mod Answering

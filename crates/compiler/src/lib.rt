@@ -18,11 +18,13 @@ ghost use Rattle.compiler.specs.Spotting.{Accepted, NodesLaid, FunctionL
 ghost use Rattle.value.specs.Values.{span};
 ghost use Rattle.list.specs.Compile.{places, spans};
 ghost use Rattle.list.specs.Code.{bytesOf, allBytes, headerCode};
-ghost use Rattle.compiler.specs.Whole.{typesBy, codeAt, Measured};
+ghost use Rattle.compiler.specs.Whole.{typesBy, codeAt, Measured, answerOf, codeAfter};
+ghost use Rattle.list.specs.Answers.{compiled};
 ghost use Rattle.reader.specs.Layout.{outputCount, outputsPlace, kindAt, nodeAt, nodesAt, nodeEnd, nodePlace, nodesPlace, nodeCount};
 ghost use Rattle.compiler.specs.Position.{placeOf, positionOf, Starts, calling, ReadsOf, NodeFit, NodesFit, Fit, AllFit};
 ghost use Rattle.compiler.specs.Capped.{operationsAt, wordsAt, instructionsAt, bytesAt, addsWords, operationCap, wordCap, byteCap, Caps, AllSummed};
 ghost use Rattle.compiler.specs.Emit.{copied, spotRoom, addressOf, addressesIn, nodeOpened, functionOpened, Room, Emits, AllLaid};
+use checker::Verdict;
 use ports::Form;
 use ports::Ports;
 use reader::Found;
@@ -913,7 +915,17 @@ fn put_span(code: &mut [u8], at: usize, a: usize, n: usize)
 }
 
 // The addresses of the output words of the function at position k, whose n output entries begin at `entries`.
-fn put_outputs(t: &[u8], entries: usize, n: usize, outs: &[u16; 128], k: usize, ins: &[u16; 8], first: usize, code: &mut [u8], at: usize)
+fn put_outputs(
+    t: &[u8],
+    entries: usize,
+    n: usize,
+    outs: &[u16; 128],
+    k: usize,
+    ins: &[u16; 8],
+    first: usize,
+    code: &mut [u8],
+    at: usize,
+)
     requires { ⌜ (entries < 2 ^ 20) × (n ≤ 8) × (k < 16) × (first ≤ 8192) × ((j : ℕ) → j < n → addressOf (now ins) first (getD (now outs) (8 * k + j) 0) ≤ 16384) ⌝ }
     requires { ⌜ at + 2 * widths (typesBy 4 n (now t) entries) ≤ length (now code) ⌝ }
     ensures { λ _. ⌜ now (code .exit) ≡ sets (now (code .entry)) at
@@ -994,9 +1006,96 @@ fn write_list(
     let mut outs = [0u16; 128];
     let mut begins = [0u16; 16];
     let mut ins = [0u16; 8];
-    lay_functions(t, starts, words, k + 1, &mut outs, &mut order, &mut spots, &mut begins);
+    lay_functions(
+        t,
+        starts,
+        words,
+        k + 1,
+        &mut outs,
+        &mut order,
+        &mut spots,
+        &mut begins,
+    );
     input_places(t, p + 6, nin, &mut ins);
     put_header(code, inputs as u8, outputs as u8, count as u16, all as u16);
-    let r = emit(t, starts, &begins, &order, &spots, k, &ins, code, 12, inputs);
+    let r = emit(
+        t,
+        starts,
+        &begins,
+        &order,
+        &spots,
+        k,
+        &ins,
+        code,
+        12,
+        inputs,
+    );
     put_outputs(t, p + 6 + nin, nout, &outs, k, &ins, inputs, code, r.at);
+}
+
+// The function of an id, in an accepted table.
+fn compile_accepted(t: &[u8], functions: usize, id: u16, code: &mut [u8]) -> Compiled
+    requires { ⌜ Accepted (now t) functions × (functions ≡ byte (now t) 5) ⌝ }
+    ensures { λ r. ⌜ r ≡ answerOf (compiled (now (t .entry)) id (now (code .entry))) ⌝ }
+    ensures { λ r. ⌜ now (code .exit) ≡ codeAfter (now (code .entry)) (compiled (now (t .entry)) id (now (code .entry))) ⌝ }
+{
+    let mut starts = [0u16; 16];
+    find_starts(t, functions, &mut starts);
+    let k = position_of(t, &starts, functions, wide16(id));
+    if functions <= k {
+        return Compiled::Refused(14, 0);
+    }
+    let mut ops = [0u32; 16];
+    let mut words = [0u32; 16];
+    let mut counts = [0u32; 16];
+    let mut sizes = [0u32; 16];
+    fill_sums(
+        t,
+        &starts,
+        k + 1,
+        &mut ops,
+        &mut words,
+        &mut counts,
+        &mut sizes,
+    );
+    let o = wide32(ops[k]);
+    if 4096 < o {
+        return Compiled::Refused(15, 0);
+    }
+    let p = wide16(starts[k]);
+    let nin = wide(byte_at(t, p + 2));
+    let nout = wide(byte_at(t, p + 3));
+    let inputs = port_words(t, p + 6, nin, 1);
+    let w = wide32(words[k]);
+    if 8192 < inputs + w {
+        return Compiled::Refused(16, 0);
+    }
+    let outputs = port_words(t, p + 6 + nin, nout, 4);
+    let size = 12 + wide32(sizes[k]) + 2 * outputs;
+    if code.len() < size {
+        return Compiled::Refused(17, 0);
+    }
+    write_list(
+        t,
+        &starts,
+        &words,
+        k,
+        wide32(counts[k]),
+        inputs,
+        outputs,
+        code,
+    );
+    Compiled::Length(size)
+}
+
+// The board list of the function of an id: its code's length, or the refusal.
+pub fn compile(table: &[u8], id: u16, code: &mut [u8]) -> Compiled
+    ensures { λ r. ⌜ r ≡ answerOf (compiled (now (table .entry)) id (now (code .entry))) ⌝ }
+    ensures { λ r. ⌜ now (code .exit) ≡ codeAfter (now (code .entry)) (compiled (now (table .entry)) id (now (code .entry))) ⌝ }
+{
+    let verdict = checker::check(table);
+    match verdict {
+        Verdict::Accepted(count) => compile_accepted(table, count, id, code),
+        Verdict::Refused(number, place) => Compiled::Refused(number, place),
+    }
 }

@@ -31,8 +31,7 @@ loop-again c =
     let t = c .before .before .before .before .before .loop-test .taken in
     let k = c .before .before .before .before .before .before .before .before .pre .0 .0 in
     let (e1, e2, e3, e4) = c .function-sums .ensures in
-    let (l1, l2, l3, l4) = l .inv .2 in
-    (
+    let (l1, l2, l3, l4) = l .inv .2 in (
       omega arith,
       sums-more (a .t .now) (l .ops) (l .words) (l .counts) (l .sizes) _ _ _ _ (l .j) (omega arith) (l .inv .1) (l .inv .2) (c .function-sums .ensures),
       (

@@ -32,15 +32,14 @@ loop-again c =
     let s = a .t .now in
     let y = c .width .ensures .0 ∙ ap width (c .before .byte-at .ensures) in
     let b = c .width .ensures .1 in
-    let z : 0 + l .j ≡ l .j = omega arith in
-    (
+    let z : 0 + l .j ≡ l .j = omega arith in (
       omega arith,
       omega arith,
       omega arith,
       rw z at
-      (run-step (places 0 (typesBy 1 (a .n) s (a .at))) (a .ins .now) 0 (l .ins) (l .j) (l .w) (places (l .w) (typesBy 1 (a .n - l .j) s (l .q)))
-      (places (l .w + c .width .result) (typesBy 1 (a .n - (l .j + 1)) s (l .q + 1))) (l .inv .3)
-      (ap (places (l .w)) (types-next 1 (a .n) (l .j) s (l .q) (c .before .before .loop-test .taken)) ∙ ap (λ (x : ℕ). l .w ∷ places (l .w + x) (typesBy 1 (a .n - (l .j + 1)) s (l .q + 1))) (sym y))),
+          (run-step (places 0 (typesBy 1 (a .n) s (a .at))) (a .ins .now) 0 (l .ins) (l .j) (l .w) (places (l .w) (typesBy 1 (a .n - l .j) s (l .q)))
+          (places (l .w + c .width .result) (typesBy 1 (a .n - (l .j + 1)) s (l .q + 1))) (l .inv .3)
+          (ap (places (l .w)) (types-next 1 (a .n) (l .j) s (l .q) (c .before .before .loop-test .taken)) ∙ ap (λ (x : ℕ). l .w ∷ places (l .w + x) (typesBy 1 (a .n - (l .j + 1)) s (l .q + 1))) (sym y))),
     )
 
 returns : tie.Need-returns Inv-loop μ-loop

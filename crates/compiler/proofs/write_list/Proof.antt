@@ -64,8 +64,7 @@ add-lay-functions c = let l = low (c .before .before .before .before .before .be
 lay-functions-requires : tie.Need-lay-functions-requires
 lay-functions-requires c κs =
     let a = c .before .before .before .before .before .before .before .before .before .before .before .before .before .before .args in
-    let z : a .k + 1 ≡ suc (a .k) = omega arith in
-    (
+    let z : a .k + 1 ≡ suc (a .k) = omega arith in (
       rw z (c .before .before .before .before .before .before .before .before .before .before .before .before .before .before .pre .0),
       (length-replicate {A = ℕ} 128 0, length-replicate {A = ℕ} 4096 0, length-replicate {A = ℕ} 20166 0, length-replicate {A = ℕ} 16 0),
     )
@@ -119,13 +118,12 @@ same-header c = c .put-header .kept .0
 emit-requires : tie.Need-emit-requires
 emit-requires c κs =
     let a = c .before .before .before .before .before .before .before .before .before .before .before .before .before .before .before .before .before .before .before .before .before .before .before .before .before .before .args in
-    let z : a .k + 1 ≡ suc (a .k) = omega arith in
-    (
+    let z : a .k + 1 ≡ suc (a .k) = omega arith in (
       (low (c .before .before .before .before .before .before .before .before .before .before .before .before .before .before .before .before .before .before .before .before .before .before .before .before .before .before), c .before .before .before .before .before .before .before .before .before .before .before .before .before .before .before .before .before .before .before .before .before .before .before .before .before .before .pre .0 .1),
       (
         rw z at (c .before .before .before .before .before .before .before .before .before .before .before .lay-functions .ensures .0),
         emit-room (a .t .now) (a .k) (c .before .before .before .before .before .before .before .before .before .before .before .before .before .before .before .before .before .before .before .before .before .before .before .before .before .before .pre .0 .0) (a .count) (a .inputs) (a .outputs) (c .before .before .before .before .before .before .before .before .before .before .before .before .before .before .before .before .before .before .before .before .before .before .before .before .before .before .pre .1 .0) (c .before .before .before .before .before .before .before .before .before .before .before .lay-functions .last .1 .1 .1 .1 .0) (c .before .before .before .before .before .before .before .before .before .input-places .last .1 .1 .1 .0) (laid (c .before .before .before .before .before .before .before .before .before .before .before)) (ins-are (c .before .before .before .before .before .before .before .before .before)) (c .before .before .before .before .before .before .before .put-header .last .0)
-        (let e = same-header (c .before .before .before .before .before .before .before) in let l = c .before .before .before .before .before .before .before .before .before .before .before .before .before .before .before .before .before .before .before .before .before .before .before .before .before .before .pre .1 .1 in omega arith),
+            (let e = same-header (c .before .before .before .before .before .before .before) in let l = c .before .before .before .before .before .before .before .before .before .before .before .before .before .before .before .before .before .before .before .before .before .before .before .before .before .before .pre .1 .1 in omega arith),
       ),
     )
 
@@ -147,8 +145,7 @@ put-outputs-requires c κs =
     let q = entries (c .before .before .before .before .before .before .before .before .before .before .before .before .before .before .before .before .before .before .before .before .before .before .before .before .before .before) in
     let p = c .before .before .before .before .before .before .before .before .before .before .before .before .before .before .before .before .before .before .before .before .before .before .before .before .before .before .before .before .wide16 .ensures .1 in
     let (x, y) = nin (c .before .before .before .before .before .before .before .before .before .before .before .before .before .before .before .before .before .before .before .before .before .before .before .before .before .before) in
-    let w = c .before .before .before .before .before .before .before .before .before .before .before .before .before .before .before .before .before .before .before .before .before .before .before .before .before .before .before .before .before .before .before .before .pre .1 .0 .words in
-    (
+    let w = c .before .before .before .before .before .before .before .before .before .before .before .before .before .before .before .before .before .before .before .before .before .before .before .before .before .before .before .before .before .before .before .before .pre .1 .0 .words in (
       (
         omega arith,
         l,
@@ -157,8 +154,8 @@ put-outputs-requires c κs =
         λ j jl. outs-low s (a .k) (c .before .before .before .before .before .before .before .before .before .before .before .before .before .before .before .before .before .before .before .before .before .before .before .before .before .before .before .before .before .before .before .before .pre .0 .0) (a .count) (a .inputs) (a .outputs) (c .before .before .before .before .before .before .before .before .before .before .before .before .before .before .before .before .before .before .before .before .before .before .before .before .before .before .before .before .before .before .before .before .pre .1 .0) (c .before .before .before .before .before .before .before .before .before .before .before .before .before .before .before .before .before .lay-functions .last .1 .1 .1 .1 .0) (c .before .before .before .before .before .before .before .before .before .before .before .before .before .before .before .input-places .last .1 .1 .1 .0) (laid (c .before .before .before .before .before .before .before .before .before .before .before .before .before .before .before .before .before)) (ins-are (c .before .before .before .before .before .before .before .before .before .before .before .before .before .before .before)) j (omega arith),
       ),
       rw (e, q)
-      (out-room s (a .k) (c .before .before .before .before .before .before .before .before .before .before .before .before .before .before .before .before .before .before .before .before .before .before .before .before .before .before .before .before .before .before .before .before .pre .0 .0) (a .count) (a .inputs) (a .outputs) (c .before .before .before .before .before .before .before .before .before .before .before .before .before .before .before .before .before .before .before .before .before .before .before .before .before .before .before .before .before .before .before .before .pre .1 .0) (c .before .before .before .before .before .before .before .before .before .before .before .before .before .before .before .before .before .lay-functions .last .1 .1 .1 .1 .0) (c .before .before .before .before .before .before .before .before .before .before .before .before .before .before .before .input-places .last .1 .1 .1 .0) (laid (c .before .before .before .before .before .before .before .before .before .before .before .before .before .before .before .before .before)) (ins-are (c .before .before .before .before .before .before .before .before .before .before .before .before .before .before .before)) (a .code .now) (c .before .before .before .before .before .before .before .before .before .before .before .before .before .put-header .last .0) (c .before .before .before .before .before .emit .last .1 .1 .1 .1 .1 .1 .1 .0) (c .before .before .before .before .before .emit .last .1 .1 .1 .1 .1 .1 .1 .0)
-      (c .before .before .before .before .before .emit .result) (a .inputs + c .before .before .before .before .before .before .before .before .before .before .before .before .before .before .before .before .before .before .before .before .before .before .wide32 .result) (ap (λ (n : ℕ). a .inputs + n) (words (c .before .before .before .before .before .before .before .before .before .before .before .before .before .before .before .before .before .before .before .before .before .before))) (c .before .before .before .before .before .before .before .before .before .before .before .before .before .put-header .ensures) (c .before .before .before .before .before .emit .ensures) (c .before .before .before .before .before .before .before .before .before .before .before .before .before .before .before .before .before .before .before .before .before .before .before .before .before .before .before .before .before .before .before .before .pre .1 .1)),
+          (out-room s (a .k) (c .before .before .before .before .before .before .before .before .before .before .before .before .before .before .before .before .before .before .before .before .before .before .before .before .before .before .before .before .before .before .before .before .pre .0 .0) (a .count) (a .inputs) (a .outputs) (c .before .before .before .before .before .before .before .before .before .before .before .before .before .before .before .before .before .before .before .before .before .before .before .before .before .before .before .before .before .before .before .before .pre .1 .0) (c .before .before .before .before .before .before .before .before .before .before .before .before .before .before .before .before .before .lay-functions .last .1 .1 .1 .1 .0) (c .before .before .before .before .before .before .before .before .before .before .before .before .before .before .before .input-places .last .1 .1 .1 .0) (laid (c .before .before .before .before .before .before .before .before .before .before .before .before .before .before .before .before .before)) (ins-are (c .before .before .before .before .before .before .before .before .before .before .before .before .before .before .before)) (a .code .now) (c .before .before .before .before .before .before .before .before .before .before .before .before .before .put-header .last .0) (c .before .before .before .before .before .emit .last .1 .1 .1 .1 .1 .1 .1 .0) (c .before .before .before .before .before .emit .last .1 .1 .1 .1 .1 .1 .1 .0)
+          (c .before .before .before .before .before .emit .result) (a .inputs + c .before .before .before .before .before .before .before .before .before .before .before .before .before .before .before .before .before .before .before .before .before .before .wide32 .result) (ap (λ (n : ℕ). a .inputs + n) (words (c .before .before .before .before .before .before .before .before .before .before .before .before .before .before .before .before .before .before .before .before .before .before))) (c .before .before .before .before .before .before .before .before .before .before .before .before .before .put-header .ensures) (c .before .before .before .before .before .emit .ensures) (c .before .before .before .before .before .before .before .before .before .before .before .before .before .before .before .before .before .before .before .before .before .before .before .before .before .before .before .before .before .before .before .before .pre .1 .1)),
     )
 
 same-length : tie.Need-same-length
