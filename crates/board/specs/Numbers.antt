@@ -6,6 +6,8 @@ use Rattle.graph.specs.Outcome.{Outcome}
 use Rattle.list.specs.Answers.{Buffers}
 use Rattle.checker.specs.declared.Verdict.{Verdict}
 use Rattle.checker.specs.declared.Verdict.the-variants as verdict
+use Rattle.compiler.specs.declared.Compiled.{Compiled}
+use Rattle.compiler.specs.declared.Compiled.the-variants as compiled
 use Rattle.runner.specs.declared.Ran.{Ran}
 use Rattle.runner.specs.declared.Ran.the-variants as ran
 use Rattle.runner.specs.Runs.{answerOf, workAfter, outAfter}
@@ -17,6 +19,10 @@ refusalNumber n p = n * 0x1_0000_0000 + p % 0x1_0000_0000
 abbrev pub verdictNumber : Verdict → ℕ
 verdictNumber (verdict.Accepted n) = n
 verdictNumber (verdict.Refused n p) = refusalNumber n p
+
+abbrev pub compiledNumber : Compiled → ℕ
+compiledNumber (compiled.Length n) = n
+compiledNumber (compiled.Refused n p) = refusalNumber n p
 
 abbrev pub ranNumber : Ran → ℕ
 ranNumber (ran.Done n) = n

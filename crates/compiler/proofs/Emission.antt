@@ -1,5 +1,5 @@
 -- The emitter's loop over the nodes of a function in their order.
-use Prim.Native.Nat.{ℕ, zero, suc, _+_, _-_, _*_, _≤_, _<_}
+use Prim.Native.Nat.{ℕ, zero, suc, _+_, _-_, _*_, _%_, _≤_, _<_}
 use mathlib.Core.Path.{_≡_, refl, sym, ap, _∙_, subst}
 use mathlib.Core.Bool.{Bool, true, false, cond}
 use mathlib.Core.List.{List, [], _∷_, _++_, map}
@@ -28,18 +28,18 @@ use Rattle.compiler.proofs.Opening.{open-with}
 
 -- ---- addresses of spots
 
-stands-address : (ins : List ℕ) (first e : ℕ) (x : Spot) → Stands e x → addressOf ins first e ≡ spotAt ins first x
-stands-address ins first e nowhere h = absurd h
-stands-address ins first e (input i) (q, l) = rw q (rw (lt-ltb i 8 l))
-stands-address ins first e (offset d) h = let z : 8 + d - 8 ≡ d = omega arith in rw h (rw (le-ltb (8 + d) 8 (omega arith), z))
+pub stands-address : (ins : List ℕ) (first e : ℕ) (x : Spot) → first ≤ 8192 → Stands e x → addressOf ins first e ≡ spotAt ins first x
+stands-address ins first e nowhere n h = absurd h
+stands-address ins first e (input i) n (q, l) = rw q (rw (lt-ltb i 8 l))
+stands-address ins first e (offset d) n (h, l) = let z : (first + (8 + d - 8)) % 65536 ≡ first + d = omega arith in rw h (rw (le-ltb (8 + d) 8 (omega arith), z))
 
-pub coded-addresses : (spots : List ℕ) (table : Ref → Spot) (ins : List ℕ) (first c : ℕ) (rs : List Ref) → Coded spots table c rs
+pub coded-addresses : (spots : List ℕ) (table : Ref → Spot) (ins : List ℕ) (first c : ℕ) (rs : List Ref) → first ≤ 8192 → Coded spots table c rs
     → map (λ r. spotAt ins first (table r)) rs ≡ addressesIn spots ins first c (length rs)
 unfolding addressesIn
-coded-addresses spots table ins first c [] h = refl
-coded-addresses spots table ins first c (r ∷ rs) (h, hs) =
-    ap (λ (a : ℕ). a ∷ map (λ r. spotAt ins first (table r)) rs) (sym (stands-address ins first (getD spots c 0) (table r) h))
-    ∙ ap (λ (xs : List ℕ). addressOf ins first (getD spots c 0) ∷ xs) (coded-addresses spots table ins first (c + 1) rs hs)
+coded-addresses spots table ins first c [] n h = refl
+coded-addresses spots table ins first c (r ∷ rs) n (h, hs) =
+    ap (λ (a : ℕ). a ∷ map (λ r. spotAt ins first (table r)) rs) (sym (stands-address ins first (getD spots c 0) (table r) n h))
+    ∙ ap (λ (xs : List ℕ). addressOf ins first (getD spots c 0) ∷ xs) (coded-addresses spots table ins first (c + 1) rs n hs)
 
 coded-room : (spots : List ℕ) (table : Ref → Spot) (c : ℕ) (rs : List Ref) → Coded spots table c rs → c + length rs ≤ spotRoom
 coded-room spots table c [] h = omega arith
@@ -85,6 +85,7 @@ module _ (s order spots : List ℕ) (k : ℕ) (ins code₀ : List ℕ) (at next�
 
   -- i of the n nodes are written, `rest` are not
   pub record At (rest : List Node) (code : List ℕ) (spot here word i n : ℕ) : Type 0 where
+    pub near : next₀ ≤ 8192
     pub count : i + length rest ≡ n
     pub placed : Placed s order spots table (256 * k + i) spot rest
     pub same : length code ≡ length code₀
@@ -101,9 +102,9 @@ module _ (s order spots : List ℕ) (k : ℕ) (ins code₀ : List ℕ) (at next�
   unfolding functionOpened
   whole-words = function-next go call (opened-follows (before s k)) (functionIn s k) ins next₀
 
-  pub start : (begins : List ℕ) → Laid s begins order spots k → (spot n : ℕ) → spot ≡ getD begins k 0 → n ≡ nodeCount s (placeOf s k) → State code₀ spot at next₀ 0 n
+  pub start : (begins : List ℕ) → next₀ ≤ 8192 → Laid s begins order spots k → (spot n : ℕ) → spot ≡ getD begins k 0 → n ≡ nodeCount s (placeOf s k) → State code₀ spot at next₀ 0 n
   unfolding functionOpened
-  start begins l spot n es en =
+  start begins near l spot n es en =
       let rest = schedule (functionIn s k .nodes) in
       let e : whole .code ≡ emitNodes go table ins next₀ rest next₀ =
       function-table go call (opened-follows (before s k)) (functionIn s k) table (l .agrees) ins next₀ in
@@ -111,6 +112,7 @@ module _ (s order spots : List ℕ) (k : ℕ) (ins code₀ : List ℕ) (at next�
       let v = whole-words in (
         rest,
         record {
+          near = near;
           count = let z = l .size in omega arith;
           placed = rw (add-zero, es) (l .nodes);
           same = refl;
@@ -134,7 +136,7 @@ module _ (s order spots : List ℕ) (k : ℕ) (ins code₀ : List ℕ) (at next�
     node-is =
         ap (λ (y : Node). openWith go (addressesIn spots ins next₀ spot (length (reads y))) word y (y .payload)) stands
         ∙ sym (open-with go (λ r. spotAt ins next₀ (table r)) word x (x .payload) (addressesIn spots ins next₀ spot (length (reads x)))
-        (coded-addresses spots table ins next₀ spot (reads x) (st .placed .0 .2)))
+        (coded-addresses spots table ins next₀ spot (reads x) (st .near) (st .placed .0 .2)))
 
     abbrev bytes : List ℕ
     bytes = instructionsCode (one .code)
@@ -177,6 +179,7 @@ module _ (s order spots : List ℕ) (k : ℕ) (ins code₀ : List ℕ) (at next�
         let ei : 256 * k + (i + 1) ≡ 256 * k + i + 1 = omega arith in
         let a = next-is in
         record {
+          near = st .near;
           count = let z = st .count in omega arith;
           placed = rw (ei, ef) (st .placed .1);
           same = ap length ec ∙ length-sets code here bytes ∙ st .same;

@@ -10,3 +10,13 @@ pub mod Loops
 pub mod Single
 pub mod Opening
 pub mod Emission
+pub mod Filling
+pub mod Laying
+pub mod Coding
+pub mod Accepting
+pub mod Spreading
+pub mod Outputs
+pub mod Tables
+pub mod Ending
+pub mod Assembly
+pub mod Answering

@@ -17,6 +17,7 @@ use Rattle.graph.specs.Bytes.{byte, u16}
 use Rattle.graph.specs.Graph.{Ref, Payload, consts, refs, calls, Node}
 use Rattle.graph.specs.Look.{readsOf, reads}
 use Rattle.graph.specs.Read.{references}
+use Rattle.graph.proofs.Formed.{refs-length}
 use Rattle.reader.specs.Layout.{kindAt, payloadAt, payloadEnd, nodeAt, nodeEnd, nodePlace, nodesPlace, nodeCount, functionEnd, functionPlace}
 use Rattle.compiler.specs.declared.Reads.{Reads}
 use Rattle.compiler.specs.Position.{placeOf, Starts, calling, ReadsOf, NodeFit, NodesFit, Fit, AllFit}
@@ -157,3 +158,24 @@ module _ (s : List ℕ) (n : ℕ) where
       pickOne : (j : ℕ) (b : Bool) → eqb j k ≡ b → j < k + 1 → getD (set starts k p) j 0 ≡ placeOf s j
       pickOne j true e jl = let q : j ≡ k = eqb-true j k e in rw q (getD-set-same starts k p 0 (omega (arith, h .size)) ∙ h .place)
       pickOne j false e jl = let q : j ≡ k → ⊥ = eqb-false j k e in getD-set-other starts k j p 0 q ∙ h .starts-are j (omega arith)
+
+-- ---- few references
+
+-- a node that can be taken reads at most 16 values
+pub few-reads : (s : List ℕ) (p : ℕ) → NodeFit s p → length (reads (nodeAt s p)) ≤ 16
+few-reads s p h = pickOne (calling (row .form)) refl
+  where
+    row : Ports
+    row = portsOf (kindAt s p)
+
+    pickOne : (b : Bool) → calling (row .form) ≡ b → length (reads (nodeAt s p)) ≤ 16
+    pickOne true e =
+        let a : length (reads (nodeAt s p)) ≡ byte s (p + 4 + 2) =
+        ap (λ (y : Payload). length (readsOf y)) (call-payload s p (byte s (p + 2)) row refl refl e) ∙ refs-length (byte s (p + 4 + 2)) s (p + 4 + 3) in
+        let b = h .arguments (called s p (byte s (p + 2)) row refl refl e) in
+        omega arith
+    pickOne false e =
+        let a : length (reads (nodeAt s p)) ≡ row .operands =
+        ap length (plain-reads s p (byte s (p + 2)) row refl refl e (row .operands) refl .refs) ∙ refs-length (row .operands) s (p + 4) in
+        let b = row-narrow s p (byte s (p + 2)) row refl refl .operands in
+        omega arith

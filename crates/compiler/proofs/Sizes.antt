@@ -34,7 +34,7 @@ module _ (s : List ℕ) (k p kind : ℕ) (row : Ports) (ek : kind ≡ byte s (p 
         ap (nodeOperations (operationsOf (before s k))) (call-payload s p kind row ek er c)
         ∙ ap (λ (d : ℕ). 1 + operationsOf (before s k) d) (sym ec)
 
-    added-words : addsWords s k (nodeAt s p) ≡ resultWordsOf (before s k) callee
+    pub added-words : addsWords s k (nodeAt s p) ≡ resultWordsOf (before s k) callee
     added-words =
         ap (nodeWords (resultWordsOf (before s k)) (nodeAt s p)) (call-payload s p kind row ek er c) ∙ ap (resultWordsOf (before s k)) (sym ec)
 
@@ -115,6 +115,14 @@ module _ (s : List ℕ) (k p kind : ℕ) (row : Ports) (ek : kind ≡ byte s (p 
       here (nodeBytes (bytesOfFunction (before s k)) (nodeAt s p)) References e,
     )
     by-form Call e q = let z : _≡_ {A = ℕ} 0 1 = cc in absurd (omega arith)
+
+    pub plain-words : (ty w : ℕ) → ty ≡ byte s (p + 3) → w ≡ PortList.resultWords row ty → addsWords s k (nodeAt s p) ≡ w
+    plain-words ty w et ew =
+        let r : row ≡ portsOf (kindAt s p) = row-is s p kind row ek er in
+        let f : calling (formOf (kindAt s p)) ≡ false = ap calling (sym (form-is s p kind row ek er)) ∙ c in
+        by-form (formOf (kindAt s p)) refl f .1
+        ∙ sym
+        (ew ∙ ap (λ (y : Ports). PortList.resultWords y ty) r ∙ ap (λ (t : ℕ). PortList.resultWords (portsOf (kindAt s p)) t) et ∙ words-given (kindAt s p) (byte s (p + 3)))
 
     pub plain-sums : (ty w n v : ℕ) → ty ≡ byte s (p + 3) → w ≡ PortList.resultWords row ty → w < 256 → n ≡ row .operands → v ≡ constantIn (row .form) (row .words) → v < 256
         → Caps s k (nodeAt s p) (record { operations = 1; words = w; instructions = 1; bytes = 2 + 2 * n + 8 * v })

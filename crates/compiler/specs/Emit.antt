@@ -1,5 +1,5 @@
 -- What the emitter writes, by what its arrays hold.
-use Prim.Native.Nat.{ℕ, zero, suc, _+_, _-_, _*_, _≤_, _<_}
+use Prim.Native.Nat.{ℕ, zero, suc, _+_, _-_, _*_, _%_, _≤_, _<_}
 use mathlib.Core.Path.{_≡_}
 use mathlib.Core.Bool.{cond}
 use mathlib.Core.List.{List, [], _∷_}
@@ -31,15 +31,11 @@ spotRoom = 20166
 abbrev pub Stands : ℕ → Spot → Type 0
 Stands e nowhere = ⊥
 Stands e (input i) = (e ≡ i) × (i < 8)
-Stands e (offset d) = e ≡ 8 + d
-
--- the numbers are small enough to add
-abbrev pub Small : List ℕ → Type 0
-Small spots = (i : ℕ) → getD spots i 0 ≤ 16384
+Stands e (offset d) = (e ≡ 8 + d) × (d ≤ 8192)
 
 -- the address of a spot, where the inputs have these addresses and the results begin at `first`
 abbrev pub addressOf : List ℕ → ℕ → ℕ → ℕ
-addressOf ins first e = cond (ltb e 8) (getD ins e 0) (first + (e - 8))
+addressOf ins first e = cond (ltb e 8) (getD ins e 0) ((first + (e - 8)) % 65536)
 
 -- of the n spots from c on
 unfoldable pub addressesIn : List ℕ → List ℕ → ℕ → ℕ → ℕ → List ℕ

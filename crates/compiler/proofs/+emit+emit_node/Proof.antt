@@ -83,7 +83,7 @@ module _ (t : ℕ) where
       let a = c .before .before .before .before .before .before .before .args in
       let s = a .t .now in
       let p = c .before .before .before .wide16 .ensures .0 ∙ c .before .before .before .before .before .before .before .pre .1 .0 .1 (a .k) (omega arith) in
-      start s (a .order .now) (a .spots .now) (a .k) (a .ins .now) (a .code .now) (a .at) (a .next) (a .begins .now) (limit (c .before .before .before .before .before .before .before) .1) (c .wide162 .result) (c .before .before .u16-at .result)
+      start s (a .order .now) (a .spots .now) (a .k) (a .ins .now) (a .code .now) (a .at) (a .next) (a .begins .now) (limit (c .before .before .before .before .before .before .before) .0) (limit (c .before .before .before .before .before .before .before) .1) (c .wide162 .result) (c .before .before .u16-at .result)
       (c .wide162 .ensures .0) (c .before .before .u16-at .ensures .0 ∙ ap (λ (q : ℕ). u16 s (q + 4)) p)
 
   emit-element-copy-out-wide16-3 : emit-lts.Need-element-copy-out-wide16-3 (KE t) (emit-at t) emit.Post emit-Inv-loop emit-μ-loop
@@ -112,11 +112,11 @@ module _ (t : ℕ) where
       node-ready (a .t .now) (a .order .now) (a .spots .now) (a .k) (a .ins .now) (a .code .now) (a .at) (a .next) (l .code) (l .spot) (l .here) (l .word) (l .i) (c .before .before .before .before .before .before .before .u16-at .result) (c .before .wide163 .result)
       (l .inv) (c .before .before .before .loop-test .taken) (c .before .wide163 .ensures .0) (c .before .before .before .before .before .before .before .before .before .before .before .before .pre .1 .1 .1) in
       let m = c .before .before .before .before .before .before .before .before .before .before .before .before .pre .0 in
-      let (k16, starts, small) = c .before .before .before .before .before .before .before .before .before .before .before .before .pre .1 .0 in (
+      let (k16, starts) = c .before .before .before .before .before .before .before .before .before .before .before .before .pre .1 .0 in (
         omega arith,
         (
           (k16, (λ j lt. starts j (omega arith)), fit),
-          ((limit (c .before .before .before .before .before .before .before .before .before .before .before .before) .0, small, spots), ((λ j lt. c .before .before .before .before .before .before .before .before .before .before .before .before .pre .1 .1 .0 j (omega arith)), room)),
+          ((limit (c .before .before .before .before .before .before .before .before .before .before .before .before) .0, spots), ((λ j lt. c .before .before .before .before .before .before .before .before .before .before .before .before .pre .1 .1 .0 j (omega arith)), room)),
         ),
       )
 
@@ -162,8 +162,8 @@ module _ (t : ℕ) where
   emit-node-arguments-requires : emit-node-lts.Need-arguments-requires (KN t) (emit-node-at t) emit-node.Post
   emit-node-arguments-requires c κs =
       let (x, y) = count (c .before) in
-      let (first, small, spots) = c .before .before .before .before .before .before .before .before .before .before .pre .1 .1 .0 in
-      (first, small, omega arith, y)
+      let (first, spots) = c .before .before .before .before .before .before .before .before .before .before .pre .1 .1 .0 in
+      (first, omega arith, y)
 
   emit-node-position-of-requires : emit-node-lts.Need-position-of-requires (KN t) (emit-node-at t) emit-node.Post
   emit-node-position-of-requires c κs = let k16 = c .before .before .before .before .before .before .before .before .before .before .before .pre .1 .0 .0 in (omega arith, c .before .before .before .before .before .before .before .before .before .before .before .pre .1 .0 .1)
@@ -195,16 +195,16 @@ module _ (t : ℕ) where
       let g : c .before .before .before .position-of .result < a .k = c .before .before .if2 .taken in (
         omega arith,
         (
-          (omega arith, (λ j lt. starts j (omega arith)), c .before .before .before .before .before .before .before .before .before .before .before .before .before .before .before .pre .1 .1 .0 .1),
+          (omega arith, (λ j lt. starts j (omega arith))),
           ((λ j lt. c .before .before .before .before .before .before .before .before .before .before .before .before .before .before .before .pre .1 .1 .1 .0 j (omega arith)), subst (λ (o : Opened). Room (a .code .now) (a .at) o) (callee (c .before .before .before) g) (c .before .before .before .before .before .before .before .before .before .before .before .before .before .before .before .pre .1 .1 .1 .1)),
         ),
       )
 
   emit-node-add-t35 : emit-node-lts.Need-add-t35 (KN t) (emit-node-at t) emit-node.Post
-  emit-node-add-t35 c = let (x, y) = count (c .before .before .before .before .before .before .before .before .before) in let (first, small, spots) = c .before .before .before .before .before .before .before .before .before .before .before .before .before .before .before .before .before .before .pre .1 .1 .0 in omega arith
+  emit-node-add-t35 c = let (x, y) = count (c .before .before .before .before .before .before .before .before .before) in let (first, spots) = c .before .before .before .before .before .before .before .before .before .before .before .before .before .before .before .before .before .before .pre .1 .1 .0 in omega arith
 
   emit-node-add-t36 : emit-node-lts.Need-add-t36 (KN t) (emit-node-at t) emit-node.Post
-  emit-node-add-t36 c = let (x, y) = count (c .before .before .before .before) in let (first, small, spots) = c .before .before .before .before .before .before .before .before .before .before .before .before .before .pre .1 .1 .0 in omega arith
+  emit-node-add-t36 c = let (x, y) = count (c .before .before .before .before) in let (first, spots) = c .before .before .before .before .before .before .before .before .before .before .before .before .before .pre .1 .1 .0 in omega arith
 
   emit-node-emit-single-requires : emit-node-lts.Need-emit-single-requires (KN t) (emit-node-at t) emit-node.Post
   emit-node-emit-single-requires c κs =

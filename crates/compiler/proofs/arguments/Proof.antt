@@ -26,7 +26,7 @@ loop-again c =
     (c .address .ensures ∙ ap (addressOf (a .ins .now) (a .first)) (c .before .wide16 .ensures .0)))
 
 address-requires : tie.Need-address-requires Inv-loop μ-loop
-address-requires c κs = let x = c .wide16 .ensures .0 in let y = c .before .before .before .before .pre .1 (c .before .before .before .before .args .spot + c .before .before .before .loop .j) in (c .before .before .before .before .pre .0, omega arith)
+address-requires c κs = (c .before .before .before .before .pre .0, c .wide16 .ensures .1)
 
 returns : tie.Need-returns Inv-loop μ-loop
 returns c =

@@ -40,8 +40,8 @@ operands-requires : tie.Need-operands-requires
 operands-requires c κs =
     let (x, x') = fits (c .before) in
     let y = node (c .before) .count in
-    let z = c .before .before .before .before .before .before .before .before .before .pre .1 .0 .2 in
-    (c .before .before .before .before .before .before .before .before .before .pre .1 .0 .0, c .before .before .before .before .before .before .before .before .before .pre .1 .0 .1, omega arith, simp length-set (omega arith))
+    let z = c .before .before .before .before .before .before .before .before .before .pre .1 .0 .1 in
+    (c .before .before .before .before .before .before .before .before .before .pre .1 .0 .0, omega arith, simp length-set (omega arith))
 
 add-copy-2 : tie.Need-add-copy-2
 add-copy-2 c = let (x, x') = fits (c .before .before .before .before .before) in omega arith
@@ -71,7 +71,7 @@ add-t29 : tie.Need-add-t29
 add-t29 c = let x = node (c .before .before .before .before .before .before .before .before) .words in let y = c .before .before .before .before .before .before .before .before .before .before .before .before .before .before .before .before .pre .1 .1 .words in omega arith
 
 add-t30 : tie.Need-add-t30
-add-t30 c = let x = node (c .before .before .before .before .before .before .before .before) .count in let y = c .before .before .before .before .before .before .before .before .before .before .before .before .before .before .before .before .pre .1 .0 .2 in omega arith
+add-t30 c = let x = node (c .before .before .before .before .before .before .before .before) .count in let y = c .before .before .before .before .before .before .before .before .before .before .before .before .before .before .before .before .pre .1 .0 .1 in omega arith
 
 same-length : tie.Need-same-length
 same-length c =

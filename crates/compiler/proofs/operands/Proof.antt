@@ -24,7 +24,7 @@ loop-again c =
     (c .before .before .before .before .address .ensures ∙ ap (addressOf (a .ins .now) (a .first)) (c .before .before .before .before .before .wide16 .ensures .0)) (c .before .before .put16 .ensures)
 
 address-requires : tie.Need-address-requires Inv-loop μ-loop
-address-requires c κs = let x = c .wide16 .ensures .0 in let y = c .before .before .before .before .before .pre .1 (c .before .before .before .before .before .args .spot + c .before .before .before .loop .j) in (c .before .before .before .before .before .pre .0, omega arith)
+address-requires c κs = (c .before .before .before .before .before .pre .0, c .wide16 .ensures .1)
 
 same-length : tie.Need-same-length Inv-loop μ-loop
 same-length c = c .before .loop .inv .same

@@ -1,0 +1,198 @@
+-- The functions of a table are laid one after another.
+use Prim.Native.Nat.{ℕ, zero, suc, _+_, _-_, _*_, _≤_, _<_, min}
+use mathlib.Core.Path.{_≡_, refl, sym, ap, _∙_, subst}
+use mathlib.Core.Bool.{Bool, true, false}
+use mathlib.Core.List.{List, [], _∷_}
+use mathlib.Core.Logic.{_⊎_, inl, inr, ⊎-elim}
+use native.Mathlib.Omega.{arith}
+use lib.Dec.{eqb}
+use lib.ListN.{length, getD, set, length-set}
+use lib.Seq.{getD-set-same, getD-set-other}
+use borrow.Author.Tests.{eqb-true, eqb-false}
+use Rattle.ports.specs.Ports.{portsOf, constantIn}
+use Rattle.graph.specs.Bytes.{byte}
+use Rattle.graph.specs.Graph.{Ref, Payload, Node}
+use Rattle.graph.specs.Look.{reads, readsOf}
+use Rattle.graph.specs.Schedule.{schedule}
+use Rattle.graph.specs.Sound.{AllSound}
+use Rattle.graph.specs.Sums.{sum}
+use Rattle.graph.proofs.Formed.{refs-length}
+use Rattle.graph.proofs.Order.{scheduled}
+use Rattle.reader.specs.Layout.{kindAt, nodeAt, nodeEnd, nodesAt, nodePlace, nodesPlace, nodeCount, functionAt, functionEnd, functionPlace, earlier}
+use Rattle.reader.specs.Find.{ReadsNodes}
+use Rattle.reader.proofs.Passed.{end-fits, first-reads, rest-reads, function-holds}
+use Rattle.compiler.specs.Static.{Spot, nowhere, closed}
+use Rattle.compiler.specs.Position.{placeOf, functionIn, before, calling, NodeFit, NodesFit}
+use Rattle.compiler.specs.Capped.{wordCap, wordsAt}
+use Rattle.compiler.specs.Emit.{spotRoom, Stands, spotTable, Coded, Placed, closedAt, Laid, AllLaid}
+use Rattle.compiler.specs.Spotting.{Accepted, Codes, PortsCoded, AllOuts, readCount, FunctionLaid, LaidTo}
+use Rattle.compiler.proofs.Spots.{function-agrees}
+use Rattle.compiler.proofs.CodeSizes.{function-words}
+use Rattle.compiler.proofs.Nodes.{few-reads, call-payload, call-end, plain-reads, plain-end}
+use Rattle.compiler.proofs.Filling.{nodes-length}
+use Rattle.compiler.proofs.Accepting.{few, sound-to, single-at, fit-at, was-read, reads-nodes}
+
+-- ---- what a later store leaves
+
+coded-keep : (spots spots' : List ℕ) (table : Ref → Spot) (c : ℕ) (rs : List Ref) → ((q : ℕ) → q < c + length rs → getD spots' q 0 ≡ getD spots q 0) → Coded spots table c rs → Coded spots' table c rs
+coded-keep spots spots' table c [] h x = x
+coded-keep spots spots' table c (r ∷ rs) h (x, xs) =
+    (subst (λ (e : ℕ). Stands e (table r)) (sym (h c (omega arith))) x, coded-keep spots spots' table (c + 1) rs (λ q l. h q (omega arith)) xs)
+
+abbrev sizeOf : Node → ℕ
+sizeOf x = length (reads x)
+
+placed-keep : (s order order' spots spots' : List ℕ) (table : Ref → Spot) (b c : ℕ) (ns : List Node) → ((q : ℕ) → q < b + length ns → getD order' q 0 ≡ getD order q 0)
+    → ((q : ℕ) → q < c + sum sizeOf ns → getD spots' q 0 ≡ getD spots q 0) → Placed s order spots table b c ns → Placed s order' spots' table b c ns
+placed-keep s order order' spots spots' table b c [] ho hs x = x
+placed-keep s order order' spots spots' table b c (n ∷ ns) ho hs ((e, f, x), xs) =
+    let z : getD order' b 0 ≡ getD order b 0 = ho b (omega arith) in (
+      (ap (nodeAt s) z ∙ e, subst (NodeFit s) (sym z) f, coded-keep spots spots' table c (reads n) (λ q l. hs q (omega arith)) x),
+      placed-keep s order order' spots spots' table (b + 1) (c + length (reads n)) ns (λ q l. ho q (omega arith)) (λ q l. hs q (omega arith)) xs,
+    )
+
+-- ---- how many references fit into a table
+
+node-space : (s : List ℕ) (p : ℕ) → p + 4 + 3 * length (reads (nodeAt s p)) ≤ nodeEnd s p
+node-space s p = pickOne (calling (portsOf (kindAt s p) .form)) refl
+  where
+    pickOne : (b : Bool) → calling (portsOf (kindAt s p) .form) ≡ b → p + 4 + 3 * length (reads (nodeAt s p)) ≤ nodeEnd s p
+    pickOne true f =
+        let a : length (reads (nodeAt s p)) ≡ byte s (p + 4 + 2) =
+        ap (λ (y : Payload). length (readsOf y)) (call-payload s p (byte s (p + 2)) (portsOf (kindAt s p)) refl refl f) ∙ refs-length (byte s (p + 4 + 2)) s (p + 4 + 3) in
+        let b : p + 4 + 3 + 3 * byte s (p + 4 + 2) ≡ nodeEnd s p = call-end s p (byte s (p + 2)) (portsOf (kindAt s p)) refl refl f (byte s (p + 4 + 2)) refl in
+        omega arith
+    pickOne false f =
+        let n = portsOf (kindAt s p) .operands in
+        let w = constantIn (portsOf (kindAt s p) .form) (portsOf (kindAt s p) .words) in
+        let a : length (reads (nodeAt s p)) ≡ n = ap length (plain-reads s p (byte s (p + 2)) (portsOf (kindAt s p)) refl refl f n refl .refs) ∙ refs-length n s (p + 4) in
+        let b : p + 4 + 3 * n + 8 * w ≡ nodeEnd s p = plain-end s p (byte s (p + 2)) (portsOf (kindAt s p)) refl refl f n w refl refl in
+        omega arith
+
+nodes-space : (s : List ℕ) (n at : ℕ) → NodesFit s n at → 13 * sum sizeOf (nodesAt n s at) + 4 * at ≤ 4 * nodePlace s at n
+unfolding nodesAt nodePlace
+nodes-space s zero at h = omega arith
+nodes-space s (suc n) at (f, h) =
+    let a = nodes-space s n (nodeEnd s at) h in
+    let b = node-space s at in
+    let e = few-reads s at f in
+    omega arith
+
+nodes-end-low : (s : List ℕ) (n at : ℕ) → ReadsNodes n s at → at ≤ length s → nodePlace s at n ≤ length s
+unfolding nodePlace
+nodes-end-low s zero at h l = l
+nodes-end-low s (suc n) at h l =
+    let z : suc n - 1 ≡ n = omega arith in
+    let y = rest-reads s (suc n) at (omega arith) h in
+    nodes-end-low s n (nodeEnd s at) (rw z at y) (end-fits s at (first-reads s (suc n) at (omega arith) h))
+
+module _ (s : List ℕ) (j : ℕ) (acc : Accepted s (suc j)) where
+  function-space : (13 * readCount s j + 4 * placeOf s j ≤ 4 * placeOf s (suc j)) × (placeOf s (suc j) < 65536)
+  unfolding functionPlace functionEnd functionAt
+  function-space =
+      let f = fit-at s (suc j) acc j (omega arith) in
+      let a = nodes-space s (nodeCount s (placeOf s j)) (nodesPlace s (placeOf s j)) (f .nodes) in
+      let h = function-holds s (placeOf s j) (was-read s (suc j) acc j (omega arith)) in
+      let b = nodes-end-low s (nodeCount s (placeOf s j)) (nodesPlace s (placeOf s j)) (h .nodes) (h .outputs) in
+      let m = acc .short in
+      (omega arith, omega arith)
+
+  closed-is : closedAt s j .words ≡ wordsAt s j
+  unfolding wordsAt earlier
+  closed-is = function-words (before s j) (functionIn s j) (sound-to s (suc j) acc (suc j) (omega arith))
+
+  -- the schedule has all nodes
+  schedule-size : (length (schedule (functionIn s j .nodes)) ≡ nodeCount s (placeOf s j)) × (sum sizeOf (schedule (functionIn s j .nodes)) ≡ readCount s j)
+  unfolding functionAt earlier
+  schedule-size =
+      let right = scheduled (before s j) (functionIn s j) (sound-to s (suc j) acc (suc j) (omega arith) .0) in
+      (right .size ∙ nodes-length (nodeCount s (placeOf s j)) s (nodesPlace s (placeOf s j)), right .total sizeOf)
+
+-- an accepted table with fewer functions
+pub fewer : (s : List ℕ) (k j : ℕ) → Accepted s k → j ≤ k → Accepted s j
+fewer s k j acc l = record { read = acc .read; sound = acc .sound; most = let m = acc .most in omega arith; short = acc .short; small = acc .small }
+
+cmp : (a b : ℕ) → a < suc b → (a < b) ⊎ (a ≡ b)
+cmp zero zero l = inr refl
+cmp zero (suc b) l = inl (omega arith)
+cmp (suc a) zero l = absurd (omega arith)
+cmp (suc a) (suc b) l = ⊎-elim (λ h. inl (omega arith)) (λ e. inr (ap suc e)) (cmp a b (omega arith))
+
+module _ (s : List ℕ) (j : ℕ) (acc : Accepted s (suc j)) (outs order spots begins : List ℕ) (spot : ℕ) (st : LaidTo s j outs order spots begins spot) where
+  -- there is room for one function more
+  pub room-here : (spot + readCount s j ≤ spotRoom) × (spot < 65536) × (j < 16)
+  room-here =
+      let (a, b) = function-space s j acc in
+      let e = st .room in
+      let l = few s (suc j) acc in
+      (omega arith, omega arith, omega arith)
+
+  -- a function over the limit is passed over
+  pub passed-over : 8192 < wordsAt s j → LaidTo s (suc j) outs order spots begins spot
+  passed-over over =
+      let (a, b) = function-space s j acc in
+      let e = st .room in
+      let c = closed-is s j acc in
+      record {
+        laid = λ g l w. ⊎-elim (λ h. st .laid g h w) (λ q. absurd (let z = ap (λ (x : ℕ). closedAt s x .words) q in omega arith)) (cmp g j l);
+        ports = λ g l w. ⊎-elim (λ h. st .ports g h w) (λ q. absurd (let z = ap (wordsAt s) q in omega arith)) (cmp g j l);
+        room = omega arith;
+        ends = λ g l w. ⊎-elim (λ h. st .ends g h w) (λ q. absurd (let z = ap (λ (x : ℕ). closedAt s x .words) q in omega arith)) (cmp g j l);
+        sizes = st .sizes;
+      }
+
+  module _ (outs' order' spots' begins' : List ℕ) (r : ℕ) (f : FunctionLaid s j spot order order' spots spots' outs outs' r) (eb : begins' ≡ set begins j spot) where
+    begin-here : getD begins' j 0 ≡ spot
+    begin-here = ap (λ (ys : List ℕ). getD ys j 0) eb ∙ getD-set-same begins j spot 0 (let a = st .sizes .3 in let b = few s (suc j) acc in omega arith)
+
+    begin-below : (g : ℕ) → g < j → getD begins' g 0 ≡ getD begins g 0
+    begin-below g l = ap (λ (ys : List ℕ). getD ys g 0) eb ∙ getD-set-other begins j g spot 0 (λ e. omega arith)
+
+    here : Laid s begins' order' spots' j
+    unfolding earlier
+    here =
+        record {
+          count = fit-at s (suc j) acc j (omega arith) .count;
+          size = schedule-size s j acc .0;
+          nodes = subst (λ (b : ℕ). Placed s order' spots' (spotTable s j) (256 * j) b (schedule (functionIn s j .nodes))) (sym begin-here) (f .placed);
+          agrees = function-agrees (closed (before s j)) (before s j) (functionIn s j) (sound-to s (suc j) acc (suc j) (omega arith) .0) (single-at s (suc j) acc j (omega arith));
+        }
+
+    below : (g : ℕ) → g < j → closedAt s g .words ≤ 8192 → Laid s begins' order' spots' g
+    below g l w =
+        let x = st .laid g l w in
+        let e = st .ends g l w in
+        let (a, b) = schedule-size s g (fewer s (suc j) (suc g) acc (omega arith)) in
+        let m = x .count in
+        record {
+          count = x .count;
+          size = x .size;
+          nodes =
+              subst (λ (q : ℕ). Placed s order' spots' (spotTable s g) (256 * g) q (schedule (functionIn s g .nodes))) (sym (begin-below g l))
+              (placed-keep s order order' spots spots' (spotTable s g) (256 * g) (getD begins g 0) (schedule (functionIn s g .nodes)) (λ q ql. f .old-order q (omega arith)) (λ q ql. f .old-spots q (omega arith)) (x .nodes));
+          agrees = x .agrees;
+        }
+
+    ports-below : (g : ℕ) → g < j → wordsAt s g ≤ 8192 → PortsCoded (closedAt s g .outputs) outs' (8 * g)
+    ports-below g l w =
+        let x = st .ports g l w in
+        record { few = x .few; coded = λ q ql. subst (λ (e : ℕ). Codes e (getD (closedAt s g .outputs) q nowhere)) (sym (f .old-outs (8 * g + q) (omega arith))) (x .coded q ql) }
+
+    pub one-more : LaidTo s (suc j) outs' order' spots' begins' r
+    one-more =
+        let (a, b) = function-space s j acc in
+        let e = st .room in
+        let n = f .end in
+        record {
+          laid = λ g l w. ⊎-elim (λ h. below g h w) (λ q. subst (Laid s begins' order' spots') (sym q) here) (cmp g j l);
+          ports = λ g l w. ⊎-elim (λ h. ports-below g h w) (λ q. subst (λ (x : ℕ). PortsCoded (closedAt s x .outputs) outs' (8 * x)) (sym q) (f .ports)) (cmp g j l);
+          room = omega arith;
+          ends = λ g l w. ⊎-elim (λ h. let z = st .ends g h w in let y = begin-below g h in omega arith)
+              (λ q. let z : getD begins' g 0 ≡ spot = ap (λ (x : ℕ). getD begins' x 0) q ∙ begin-here in let y = ap (readCount s) q in omega arith) (cmp g j l);
+          sizes = (f .sizes .0, f .sizes .1, f .sizes .2, ap length eb ∙ length-set begins j spot ∙ st .sizes .3);
+        }
+
+-- at the start nothing is laid
+pub laid-none : (s outs order spots begins : List ℕ) → (length outs ≡ 128) × (length order ≡ 4096) × (length spots ≡ spotRoom) × (length begins ≡ 16) → LaidTo s 0 outs order spots begins 0
+laid-none s outs order spots begins h =
+    record { laid = λ g l w. absurd (omega arith); ports = λ g l w. absurd (omega arith); room = omega arith; ends = λ g l w. absurd (omega arith); sizes = h }

@@ -1,0 +1,60 @@
+use borrow.Author.Needs.{needs}
+use Prim.Native.Nat.{ℕ, suc, _+_, _≤_, _<_, min}
+use mathlib.Core.Path.{_≡_, refl, _∙_}
+use native.Mathlib.Omega.{arith}
+use Rattle.compiler.specs.Capped.{wordCap, wordsAt}
+use Rattle.compiler.specs.Spotting.{readCount}
+use Rattle.compiler.specs.Emit.{spotRoom}
+use Rattle.compiler.proofs.Tables.{room-here, passed-over, one-more}
+use Rattle.compiler.proofs.lay_next.Statement.{statement}
+use Rattle.compiler.proofs.lay_next.Tie as tie
+
+-- there is room for the function
+room : (c : tie.Start) → (c .args .spot + readCount (c .args .t .now) (c .args .j) ≤ spotRoom) × (c .args .spot < 65536) × (c .args .j < 16)
+room c =
+    let a = c .args in
+    room-here (a .t .now) (a .j) (c .pre .0 .0) (a .outs .now) (a .order .now) (a .spots .now) (a .begins .now) (a .spot) (c .pre .1)
+
+words : (c : tie.After-wide32) → c .wide32 .result ≡ min wordCap (wordsAt (c .before .before .before .args .t .now) (c .before .before .before .args .j))
+words c = c .wide32 .ensures .0 ∙ c .before .before .before .pre .0 .2 (c .before .before .before .args .j) (omega arith)
+
+mul-wide32 : tie.Need-mul-wide32
+mul-wide32 c = let (x, y, z) = room (c .before) in omega arith
+
+element-copy-out-wide32 : tie.Need-element-copy-out-wide32
+element-copy-out-wide32 c = let (x, y, z) = room (c .before) in omega arith
+
+returns : tie.Need-returns
+returns c =
+    let a = c .before .before .before .before .args in
+    let w = words (c .before) in
+    let t = c .if1 .taken in
+    passed-over (a .t .now) (a .j) (c .before .before .before .before .pre .0 .0) (a .outs .now) (a .order .now) (a .spots .now) (a .begins .now) (a .spot) (c .before .before .before .before .pre .1) (omega arith)
+
+cast-begins : tie.Need-cast-begins
+cast-begins c = let (x, y, z) = room (c .before .before .before .before) in omega arith
+
+mul-begins : tie.Need-mul-begins
+mul-begins c = let (x, y, z) = room (c .before .before .before .before) in omega arith
+
+element-write-begins : tie.Need-element-write-begins
+element-write-begins c = let (x, y, z) = room (c .before .before .before .before) in omega arith
+
+lay-function-requires : tie.Need-lay-function-requires
+lay-function-requires c κs =
+    let w = words (c .before .before .before .before) in
+    let t = c .before .before .before .if1 .left in
+    let (x, y, z) = room (c .before .before .before .before .before .before .before) in
+    let (l1, l2, l3, l4) = c .before .before .before .before .before .before .before .pre .1 .sizes in
+    ((c .before .before .before .before .before .before .before .pre .0 .0, omega arith, x), ((c .before .before .before .before .before .before .before .pre .0 .1, (λ g l. c .before .before .before .before .before .before .before .pre .0 .2 g (omega arith)), c .before .before .before .before .before .before .before .pre .1 .ports), (l1, l2, l3)))
+
+returns-2 : tie.Need-returns-2
+returns-2 c =
+    let a = c .before .before .before .before .before .before .before .before .args in
+    one-more (a .t .now) (a .j) (c .before .before .before .before .before .before .before .before .pre .0 .0) (a .outs .now) (a .order .now) (a .spots .now) (a .begins .now) (a .spot) (c .before .before .before .before .before .before .before .before .pre .1) _ _ _ _ (c .lay-function .result) (c .lay-function .ensures) refl
+
+pub lay-next-spec : {M : Type 1} → statement M
+lay-next-spec =
+    tie.close
+    (tie.spec mul-wide32 element-copy-out-wide32 (λ c κs. search needs) returns cast-begins mul-begins element-write-begins
+    lay-function-requires returns-2)

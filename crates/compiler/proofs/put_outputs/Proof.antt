@@ -1,0 +1,91 @@
+use borrow.Author.Needs.{needs}
+use Prim.Native.Nat.{ℕ, _+_, _-_, _*_, _≤_, _<_}
+use mathlib.Core.Path.{_≡_, sym, ap, _∙_}
+use native.Mathlib.Omega.{arith}
+use lib.ListN.{length, getD}
+use Rattle.ports.specs.Ports.{width, widths}
+use Rattle.graph.specs.Bytes.{byte}
+use Rattle.compiler.specs.Emit.{addressOf}
+use Rattle.compiler.specs.Whole.{typesBy}
+use Rattle.compiler.proofs.Ending.{Outgoing, out-start, out-room, out-step, out-done}
+use Rattle.compiler.proofs.put_outputs.Statement.{statement}
+use Rattle.compiler.proofs.put_outputs.Tie as tie
+
+abbrev Inv-loop : tie.InvT-loop
+Inv-loop t entries n outs k ins first code₀ at q₀ here₀ j₀ code q here j = Outgoing t outs ins first (8 * k) n entries code₀ at code q here j
+
+abbrev μ-loop : tie.MeasureT-loop
+μ-loop t entries n outs k ins first code₀ at q₀ here₀ j₀ code q here j = n - j
+
+loop-holds : tie.Need-loop-holds Inv-loop μ-loop
+loop-holds c = let a = c .before .before .args in out-start (a .t .now) (a .outs .now) (a .ins .now) (a .first) (8 * a .k) (a .n) (a .entries) (a .code .now) (a .at)
+
+-- the address, and the width
+addressed : (c : tie.After-wide162 Inv-loop μ-loop) → let a = c .before .before .before .before .before .before .before .before .args in c .wide162 .result ≡ addressOf (a .ins .now) (a .first) (getD (a .outs .now) (8 * a .k + c .before .before .before .before .before .loop .j) 0)
+addressed c = let a = c .before .before .before .before .before .before .before .before .args in c .wide162 .ensures .0 ∙ c .before .address .ensures ∙ ap (addressOf (a .ins .now) (a .first)) (c .before .before .wide16 .ensures .0)
+
+wide : (c : tie.After-width Inv-loop μ-loop) → c .width .result ≡ width (byte (c .before .before .before .before .before .before .before .before .before .before .args .t .now) (c .before .before .before .before .before .before .before .loop .q))
+wide c = c .width .ensures .0 ∙ ap width (c .before .byte-at .ensures)
+
+-- there is room for the words at hand
+room : (c : tie.After-width Inv-loop μ-loop) → c .before .before .before .before .before .before .before .loop .here + 2 * c .width .result ≤ length (c .before .before .before .before .before .before .before .before .before .before .args .code .now)
+room c =
+    let a = c .before .before .before .before .before .before .before .before .before .before .args in
+    let l = c .before .before .before .before .before .before .before .loop in
+    let x = out-room (a .t .now) (a .outs .now) (a .ins .now) (a .first) (8 * a .k) (a .n) (a .entries) (a .code .now) (a .at) (l .code) (l .q) (l .here) (l .j) (c .width .result) (l .inv) (c .before .before .before .before .before .before .loop-test .taken) (wide c) in
+    let y = c .before .before .before .before .before .before .before .before .before .before .pre .1 in
+    omega arith
+
+-- the position behind them is a number
+roomy : (c : tie.After-width Inv-loop μ-loop) → c .before .before .before .before .before .before .before .loop .here + 2 * c .width .result < 18446744073709551616
+roomy c = let x = room c in omega arith
+
+add-wide16 : tie.Need-add-wide16 Inv-loop μ-loop
+add-wide16 c = let t = c .loop-test .taken in let n = c .before .before .before .before .pre .0 .1 in let k = c .before .before .before .before .pre .0 .2 in omega arith
+
+element-copy-out-wide16 : tie.Need-element-copy-out-wide16 Inv-loop μ-loop
+element-copy-out-wide16 c = let t = c .loop-test .taken in let n = c .before .before .before .before .pre .0 .1 in let k = c .before .before .before .before .pre .0 .2 in omega arith
+
+address-requires : tie.Need-address-requires Inv-loop μ-loop
+address-requires c κs = (c .before .before .before .before .before .before .pre .0 .3, c .wide16 .ensures .1)
+
+put-span-requires : tie.Need-put-span-requires Inv-loop μ-loop
+put-span-requires c κs =
+    let x = room (c .before) in
+    let s = c .before .before .before .before .before .before .before .before .loop .inv .same in
+    let e = addressed (c .before .before .before) in
+    let f = c .before .before .before .before .before .before .before .before .before .before .before .pre .0 .4 (c .before .before .before .before .before .before .before .before .loop .j) (c .before .before .before .before .before .before .before .loop-test .taken) in
+    let w = c .before .width .ensures .1 in
+    (omega arith, omega arith)
+
+add-here : tie.Need-add-here Inv-loop μ-loop
+add-here c = let x = roomy (c .before .before .before .before) in omega arith
+
+add-q : tie.Need-add-q Inv-loop μ-loop
+add-q c = let x = c .before .before .before .before .before .before .before .before .before .before .before .loop .inv .near in let e = c .before .before .before .before .before .before .before .before .before .before .before .before .before .before .pre .0 .0 in let n = c .before .before .before .before .before .before .before .before .before .before .before .before .before .before .pre .0 .1 in let t = c .before .before .before .before .before .before .before .before .before .before .loop-test .taken in omega arith
+
+add-j : tie.Need-add-j Inv-loop μ-loop
+add-j c = let n = c .before .before .before .before .before .before .before .before .before .before .before .before .before .before .pre .0 .1 in let t = c .before .before .before .before .before .before .before .before .before .before .loop-test .taken in omega arith
+
+loop-again : tie.Need-loop-again Inv-loop μ-loop
+loop-again c =
+    let a = c .before .before .before .before .before .before .before .before .before .before .before .before .before .before .args in
+    let l = c .before .before .before .before .before .before .before .before .before .before .before .loop in
+    out-step (a .t .now) (a .outs .now) (a .ins .now) (a .first) (8 * a .k) (a .n) (a .entries) (a .code .now) (a .at) (l .code) (c .before .before .put-span .last .0) (l .q) (l .here) (l .j) (c .before .before .before .before .before .before .wide162 .result) (c .before .before .before .before .width .result)
+    (l .inv) (c .before .before .before .before .before .before .before .before .before .before .loop-test .taken) (wide (c .before .before .before .before)) (addressed (c .before .before .before .before .before .before)) (c .before .before .put-span .ensures)
+
+same-length : tie.Need-same-length Inv-loop μ-loop
+same-length c = c .before .loop .inv .same
+
+returns : tie.Need-returns Inv-loop μ-loop
+returns c =
+    let a = c .before .before .before .before .args in
+    let l = c .before .loop in
+    out-done (a .t .now) (a .outs .now) (a .ins .now) (a .first) (8 * a .k) (a .n) (a .entries) (a .code .now) (a .at) (l .code) (l .q) (l .here) (l .j) (l .inv) (c .loop-test .left)
+
+pub put-outputs-spec : {M : Type 1} → statement M
+put-outputs-spec =
+    tie.close
+    (tie.spec Inv-loop μ-loop loop-holds (λ c. search needs) add-wide16 (λ c. search needs) element-copy-out-wide16 (λ c κs. search needs)
+    address-requires (λ c κs. search needs) (λ c κs. search needs) (λ c κs. search needs) put-span-requires (λ c. search needs) add-here
+    add-q add-j (λ c. search needs) loop-again same-length returns)

@@ -1,0 +1,44 @@
+-- The whole code of a function, and what the compiler answers.
+use Prim.Native.Nat.{ℕ, zero, suc, _+_, _≤_}
+use mathlib.Core.Path.{_≡_}
+use mathlib.Core.List.{List, [], _∷_}
+use Rattle.graph.specs.Outcome.{Outcome, ok, fault}
+use lib.ListN.{length}
+use Rattle.ports.specs.Ports.{widths}
+use Rattle.graph.specs.Bytes.{byte}
+use Rattle.graph.specs.Judge.{outputTypes}
+use Rattle.list.specs.Compile.{boardListOf}
+use Rattle.list.specs.Code.{encode}
+use Rattle.list.specs.Answers as Answers
+use Rattle.compiler.specs.declared.Compiled.{Compiled}
+use Rattle.compiler.specs.Position.{functionIn, before}
+use Rattle.compiler.specs.Capped.{wordsAt}
+
+-- n type bytes, each `step` bytes behind the one before
+unfoldable pub typesBy : ℕ → ℕ → List ℕ → ℕ → List ℕ
+typesBy step zero s at = []
+typesBy step (suc n) s at = byte s at ∷ typesBy step n s (at + step)
+
+-- the code of the function at position k
+abbrev pub codeAt : List ℕ → ℕ → List ℕ
+codeAt s k = encode (boardListOf (before s k) (functionIn s k))
+
+-- the counts of the function at position k, which is within the limits
+pub record Measured (s : List ℕ) (k count inputs outputs : ℕ) : Type 0 where
+  pub instructions : count ≡ length (boardListOf (before s k) (functionIn s k) .instructions)
+  pub arguments : inputs ≡ widths (functionIn s k .inputs)
+  pub results : outputs ≡ widths (outputTypes (functionIn s k .outputs))
+  pub few : count ≤ 4096
+  pub narrow : (inputs ≤ 128) × (outputs ≤ 128)
+  pub words : inputs + wordsAt s k ≤ 8192
+
+-- ---- answers: the length, or the refusal with 01's number and place
+
+abbrev pub answerOf : Outcome Answers.Compiled → Compiled
+answerOf (ok r) = Compiled.Length (r .size)
+answerOf (fault n p) = Compiled.Refused n p
+
+-- the buffer after it: a refusal leaves every byte
+abbrev pub codeAfter : List ℕ → Outcome Answers.Compiled → List ℕ
+codeAfter code (ok r) = r .buffer
+codeAfter code (fault n p) = code
