@@ -567,8 +567,8 @@ fn resolve(t: &[u8], at: usize, n: usize, places: &[u16; 256], targets: &mut [u1
 {
     let mut i = 0;
     while i < n {
-        let p = wide16(places[i]);
-        resolve_node(t, at, n, i, p, targets);
+        let place = wide16(places[i]);
+        resolve_node(t, at, n, i, place, targets);
         i += 1;
     }
 }
