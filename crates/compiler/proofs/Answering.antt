@@ -8,7 +8,7 @@ use native.Mathlib.Omega.{arith}
 use lib.Dec.{eqb, leb}
 use lib.ListN.{length}
 use lib.Seq.{sets}
-use borrow.Author.Tests.{eqb-true, leb-true, leb-false, le-leb, lt-leb}
+use borrow.Author.Tests.{eqb-true, le-leb, lt-leb}
 use Rattle.ports.specs.Kinds.{kindOf}
 use Rattle.ports.specs.Ports.{widths, arity, constantWords, constantIn, formOf, portsOf}
 use Rattle.ports.specs.declared.Form.{Form}
@@ -33,8 +33,7 @@ use Rattle.compiler.specs.Static.{nodeInstructions, nodeBytes, functionI
 use Rattle.compiler.specs.Position.{placeOf, functionIn, before, positionOf}
 use Rattle.compiler.specs.Capped.{operationsAt, wordsAt, instructionsAt, bytesAt}
 use Rattle.compiler.specs.Spotting.{Accepted}
-use Rattle.compiler.specs.declared.Count.{Count}
-use Rattle.compiler.specs.Whole.{typesBy, codeAt, asked, limited, codeWithin}
+use Rattle.compiler.specs.Whole.{typesBy, codeAt}
 use Rattle.compiler.proofs.Rows.{narrow}
 use Rattle.compiler.proofs.CodeSizes.{function-instructions, function-operations, encode-length}
 use Rattle.compiler.proofs.Assembly.{inputs-types, outputs-types}
@@ -228,56 +227,3 @@ refuses s c code a b e = byTable (table s) refl (verdict-fault (verdict s) a b e
     byTable : (o : Outcome (List Function)) → table s ≡ o → (o >>= λ fs. ok (length fs)) ≡ fault a b → compiled s c code ≡ fault a b
     byTable (ok fs) q h = let z : _≡_ {A = ℕ} 0 1 = cc in absurd (omega arith)
     byTable (fault x y) q h = let z : _≡_ {A = Outcome ℕ} (fault x y) (fault a b) = h in rw q cc
-
--- ---- the counts
-
-module _ (s : List ℕ) (n c k : ℕ) (acc : Accepted s n) (en : n ≡ byte s 5) (ek : k ≡ positionOf s n c) where
-  pub asked-none : n ≤ k → asked s c ≡ fault 14 0
-  unfolding asked _>>=_
-  asked-none l =
-      let e : chosen c (before s n) ≡ none = chosen-none s c n (subst (λ (m : ℕ). n ≤ m) ek l) in
-      let r : table s ≡ ok (before s n) = acc .read ∙ ap (λ (m : ℕ). ok (before s m)) (sym en) in
-      rw (r, e) refl
-
-  pub asked-is : k < n → asked s c ≡ ok (choice s c k)
-  unfolding asked _>>=_
-  asked-is l =
-      let e : chosen c (before s n) ≡ some (choice s c k) =
-      chosen-at s c n (few s n acc) (subst (λ (m : ℕ). m < n) ek l) ∙ ap (λ (m : ℕ). some (choice s c m)) (sym ek) in
-      let r : table s ≡ ok (before s n) = acc .read ∙ ap (λ (m : ℕ). ok (before s m)) (sym en) in
-      rw (r, e) refl
-
--- a refused table
-pub asked-refused : (s : List ℕ) (c a b : ℕ) → verdictOf (verdict s) ≡ Verdict.Refused a b → asked s c ≡ fault a b
-unfolding verdict asked _>>=_
-asked-refused s c a b e = byTable (table s) refl (verdict-fault (verdict s) a b e)
-  where
-    byTable : (o : Outcome (List Function)) → table s ≡ o → (o >>= λ fs. ok (length fs)) ≡ fault a b → asked s c ≡ fault a b
-    byTable (ok fs) q h = let z : _≡_ {A = ℕ} 0 1 = cc in absurd (omega arith)
-    byTable (fault x y) q h = let z : _≡_ {A = Outcome ℕ} (fault x y) (fault a b) = h in rw q cc
-
--- a number that is capped above the limit
-pub record Capped (limit v x : ℕ) : Type 0 where
-  pub under : x ≤ limit → v ≡ x
-  pub over : limit < x → limit < v
-
-test-same : (limit v x : ℕ) → Capped limit v x → leb v limit ≡ leb x limit
-test-same limit v x h = pickOne (leb x limit) refl
-  where
-    pickOne : (b : Bool) → leb x limit ≡ b → leb v limit ≡ b
-    pickOne true e = let z = leb-true x limit e in le-leb v limit (let y = h .under z in omega arith)
-    pickOne false e = let z = leb-false x limit e in lt-leb v limit (h .over z)
-
-pub limited-same : (limit v x : ℕ) → Capped limit v x → limited limit v ≡ limited limit x
-limited-same limit v x h = pickOne (leb x limit) refl
-  where
-    pickOne : (b : Bool) → leb x limit ≡ b → limited limit v ≡ cond b (Count.Exact x) Count.Over
-    pickOne true e = let z = h .under (leb-true x limit e) in rw (test-same limit v x h, e) (ap Count.Exact z)
-    pickOne false e = rw (test-same limit v x h, e) refl
-
-pub code-same : (o w z x y m : ℕ) → Capped 4096 o x → Capped 8192 w y → (x ≤ 4096 → z ≡ m) → codeWithin o w z ≡ codeWithin x y m
-code-same o w z x y m ho hw hz = pickOne (leb x 4096) refl
-  where
-    pickOne : (b : Bool) → leb x 4096 ≡ b → codeWithin o w z ≡ cond b (cond (leb y 8192) (Count.Exact m) Count.Over) Count.Over
-    pickOne true e = rw (test-same 4096 o x ho, e, test-same 8192 w y hw) (ap (λ (n : ℕ). cond (leb y 8192) (Count.Exact n) Count.Over) (hz (leb-true x 4096 e)))
-    pickOne false e = rw (test-same 4096 o x ho, e) refl

@@ -1,22 +1,16 @@
 -- The whole code of a function, and what the compiler answers.
 use Prim.Native.Nat.{ℕ, zero, suc, _+_, _≤_}
 use mathlib.Core.Path.{_≡_}
-use mathlib.Core.Bool.{cond}
 use mathlib.Core.List.{List, [], _∷_}
-use lib.Dec.{leb}
-use Rattle.graph.specs.Outcome.{Outcome, ok, fault, _>>=_, orElse}
+use Rattle.graph.specs.Outcome.{Outcome, ok, fault}
 use lib.ListN.{length}
 use Rattle.ports.specs.Ports.{widths}
 use Rattle.graph.specs.Bytes.{byte}
-use Rattle.graph.specs.Judge.{table, outputTypes}
-use Rattle.graph.specs.Sums.{functionOperations, operationsOf, functionWords}
-use Rattle.graph.specs.Table.{Chosen, chosen}
+use Rattle.graph.specs.Judge.{outputTypes}
 use Rattle.list.specs.Compile.{boardListOf}
-use Rattle.list.specs.Code.{operationLimit, wordLimit, encode}
+use Rattle.list.specs.Code.{encode}
 use Rattle.list.specs.Answers as Answers
 use Rattle.compiler.specs.declared.Compiled.{Compiled}
-use Rattle.compiler.specs.declared.Count.{Count}
-use Rattle.compiler.specs.declared.Quantity.{Quantity}
 use Rattle.compiler.specs.Position.{functionIn, before}
 use Rattle.compiler.specs.Capped.{wordsAt}
 
@@ -48,27 +42,3 @@ answerOf (fault n p) = Compiled.Refused n p
 abbrev pub codeAfter : List ℕ → Outcome Answers.Compiled → List ℕ
 codeAfter code (ok r) = r .buffer
 codeAfter code (fault n p) = code
-
--- ---- the counts of a function
-
--- the function of an id in an accepted table
-unfoldable pub asked : List ℕ → ℕ → Outcome Chosen
-asked s c = do
-  fs ← table s
-  orElse (chosen c fs) 14 0
-
-abbrev pub limited : ℕ → ℕ → Count
-limited limit n = cond (leb n limit) (Count.Exact n) Count.Over
-
--- the code has a length where no count is over its limit
-abbrev pub codeWithin : ℕ → ℕ → ℕ → Count
-codeWithin operations words size = cond (leb operations operationLimit) (cond (leb words wordLimit) (Count.Exact size) Count.Over) Count.Over
-
-abbrev pub countOf : Quantity → Chosen → Count
-countOf Quantity.Operations x = limited operationLimit (functionOperations (operationsOf (x .early)) (x .function))
-countOf Quantity.Words x = limited wordLimit (functionWords (x .early) (x .function))
-countOf Quantity.Code x = codeWithin (functionOperations (operationsOf (x .early)) (x .function)) (functionWords (x .early) (x .function)) (length (Answers.codeOf x))
-
-abbrev pub counted : Quantity → Outcome Chosen → Count
-counted q (ok x) = countOf q x
-counted q (fault n p) = Count.Refused n p

@@ -18,9 +18,7 @@ ghost use Rattle.compiler.specs.Spotting.{Accepted, NodesLaid, FunctionL
 ghost use Rattle.value.specs.Values.{span};
 ghost use Rattle.list.specs.Compile.{places, spans};
 ghost use Rattle.list.specs.Code.{bytesOf, allBytes, headerCode};
-ghost use Rattle.compiler.specs.Whole.{typesBy, codeAt, Measured, answerOf, codeAfter, asked, counted, codeWithin};
-ghost use Rattle.compiler.specs.Whole as Whole;
-ghost use Rattle.compiler.specs.declared.Quantity as Quantities;
+ghost use Rattle.compiler.specs.Whole.{typesBy, codeAt, Measured, answerOf, codeAfter};
 ghost use Rattle.list.specs.Answers.{compiled};
 ghost use Rattle.reader.specs.Layout.{outputCount, outputsPlace, kindAt, nodeAt, nodesAt, nodeEnd, nodePlace, nodesPlace, nodeCount};
 ghost use Rattle.compiler.specs.Position.{placeOf, positionOf, Starts, calling, ReadsOf, NodeFit, NodesFit, Fit, AllFit};
@@ -1100,115 +1098,4 @@ pub fn compile(table: &[u8], id: u16, code: &mut [u8]) -> Compiled
         Verdict::Accepted(count) => compile_accepted(table, count, id, code),
         Verdict::Refused(number, place) => Compiled::Refused(number, place),
     }
-}
-
-// ---- counts
-
-// A count within its limit, one above it, or the refusal with its number and place.
-pub enum Count {
-    Exact(usize),
-    Over,
-    Refused(u8, usize),
-}
-
-// What is counted: operations, words, or bytes of code.
-pub enum Quantity {
-    Operations,
-    Words,
-    Code,
-}
-
-fn limited(n: usize, limit: usize) -> Count
-    ensures { λ r. ⌜ r ≡ Whole.limited limit n ⌝ }
-{
-    if n <= limit {
-        Count::Exact(n)
-    } else {
-        Count::Over
-    }
-}
-
-// The code's length, where operations and words are within their limits.
-fn limited_code(operations: usize, words: usize, size: usize) -> Count
-    ensures { λ r. ⌜ r ≡ codeWithin operations words size ⌝ }
-{
-    if operations <= 4096 {
-        if words <= 8192 {
-            Count::Exact(size)
-        } else {
-            Count::Over
-        }
-    } else {
-        Count::Over
-    }
-}
-
-// A count of the function of an id, in an accepted table.
-fn count_accepted(t: &[u8], functions: usize, id: u16, quantity: Quantity) -> Count
-    requires { ⌜ Accepted (now t) functions × (functions ≡ byte (now t) 5) ⌝ }
-    ensures { λ r. ⌜ r ≡ counted quantity (asked (now (t .entry)) id) ⌝ }
-{
-    let mut starts = [0u16; 16];
-    find_starts(t, functions, &mut starts);
-    let k = position_of(t, &starts, functions, wide16(id));
-    if functions <= k {
-        return Count::Refused(14, 0);
-    }
-    let mut ops = [0u32; 16];
-    let mut words = [0u32; 16];
-    let mut counts = [0u32; 16];
-    let mut sizes = [0u32; 16];
-    fill_sums(
-        t,
-        &starts,
-        k + 1,
-        &mut ops,
-        &mut words,
-        &mut counts,
-        &mut sizes,
-    );
-    let p = wide16(starts[k]);
-    let nin = wide(byte_at(t, p + 2));
-    let nout = wide(byte_at(t, p + 3));
-    let inputs = port_words(t, p + 6, nin, 1);
-    let outputs = port_words(t, p + 6 + nin, nout, 4);
-    let o = wide32(ops[k]);
-    let w = wide32(words[k]);
-    let b = wide32(sizes[k]);
-    match quantity {
-        Quantity::Operations => limited(o, 4096),
-        Quantity::Words => limited(inputs + w, 8192),
-        Quantity::Code => limited_code(o, inputs + w, 12 + b + 2 * outputs),
-    }
-}
-
-fn count_of(table: &[u8], id: u16, quantity: Quantity) -> Count
-    ensures { λ r. ⌜ r ≡ counted quantity (asked (now (table .entry)) id) ⌝ }
-{
-    let verdict = checker::check(table);
-    match verdict {
-        Verdict::Accepted(functions) => count_accepted(table, functions, id, quantity),
-        Verdict::Refused(number, place) => Count::Refused(number, place),
-    }
-}
-
-// The operations of the function of an id.
-pub fn operations(table: &[u8], id: u16) -> Count
-    ensures { λ r. ⌜ r ≡ counted Quantities.Quantity.Operations (asked (now (table .entry)) id) ⌝ }
-{
-    count_of(table, id, Quantity::Operations)
-}
-
-// The word count of the function of an id.
-pub fn words(table: &[u8], id: u16) -> Count
-    ensures { λ r. ⌜ r ≡ counted Quantities.Quantity.Words (asked (now (table .entry)) id) ⌝ }
-{
-    count_of(table, id, Quantity::Words)
-}
-
-// The code's length for the function of an id; over where operations or words are.
-pub fn code_length(table: &[u8], id: u16) -> Count
-    ensures { λ r. ⌜ r ≡ counted Quantities.Quantity.Code (asked (now (table .entry)) id) ⌝ }
-{
-    count_of(table, id, Quantity::Code)
 }
