@@ -1,0 +1,55 @@
+use borrow.Author.Needs.{needs}
+use Prim.Native.Nat.{ℕ, _<_}
+use mathlib.Core.Path.{_≡_, sym, ap, _∙_}
+use mathlib.Core.Bool.{cond}
+use native.Mathlib.Omega.{arith}
+use borrow.Author.Tests.{eq-eqb, ne-eqb}
+use lib.ListN.{length}
+use Rattle.graph.specs.Bytes.{u16}
+use Rattle.reader.specs.Layout.{nodesAt}
+use Rattle.topology.specs.Resolve.{indexOf}
+use Rattle.compiler.proofs.Filling.{nodes-length, found-index, none-index}
+use Rattle.compiler.proofs.target.Statement.{statement}
+use Rattle.compiler.proofs.target.Tie as tie
+
+find-node-requires : tie.Need-find-node-requires
+find-node-requires c κs = c .before .before .before .pre .2
+
+returns : tie.Need-returns
+returns c = let e = sym (c .before .u16-at .ensures .0) ∙ c .if1 .taken in rw (eq-eqb (u16 (c .before .before .before .args .t .now) (c .before .before .before .args .q)) 0 e)
+
+-- what was found
+index : (c : tie.After-known-told) →
+    let ns = nodesAt (c .before .before .before .before .before .before .before .args .n) (c .before .before .before .before .before .before .before .args .t .now) (c .before .before .before .before .before .before .before .args .at) in
+    (c .before .found .given .0 .0 ≡ indexOf (c .before .before .before .before .before .u16-at .result) ns) × (indexOf (c .before .before .before .before .before .u16-at .result) ns < length ns)
+index c = found-index (c .before .before .before .before .before .u16-at .result) (nodesAt (c .before .before .before .before .before .before .before .args .n) (c .before .before .before .before .before .before .before .args .t .now) (c .before .before .before .before .before .before .before .args .at)) (c .before .found .given .0 .0) _ (sym (c .before .found .given .1) ∙ c .before .before .before .find-node .ensures)
+
+cast-result : tie.Need-cast-result
+cast-result c =
+    let (x, y) = index c in
+    let z = nodes-length (c .before .before .before .before .before .before .before .args .n) (c .before .before .before .before .before .before .before .args .t .now) (c .before .before .before .before .before .before .before .args .at) in
+    let n = c .before .before .before .before .before .before .before .pre .0 in
+    omega arith
+
+returns-2 : tie.Need-returns-2
+returns-2 c =
+    let a = c .before .before .before .before .before .before .before .args in
+    let s = a .t .now in
+    let ns = nodesAt (a .n) s (a .at) in
+    let y = c .before .before .before .before .before .u16-at .ensures .0 in
+    rw (ne-eqb (u16 s (a .q)) 0 (λ z. c .before .before .before .before .if1 .left (y ∙ z))) (index c .0 ∙ ap (λ (i : ℕ). indexOf i ns) y)
+
+returns-3 : tie.Need-returns-3
+returns-3 c =
+    let a = c .before .before .before .before .before .before .args in
+    let s = a .t .now in
+    let ns = nodesAt (a .n) s (a .at) in
+    let x = none-index (c .before .before .before .before .u16-at .result) ns (sym (c .enum-told .given .1) ∙ c .before .before .find-node .ensures) in
+    let y = c .before .before .before .before .u16-at .ensures .0 in
+    rw (ne-eqb (u16 s (a .q)) 0 (λ z. c .before .before .before .if1 .left (y ∙ z))) (sym (ap (λ (i : ℕ). indexOf i ns) (sym y) ∙ x ∙ nodes-length (a .n) s (a .at)))
+
+pub target-spec : {M : Type 1} → statement M
+target-spec =
+    tie.close
+    (tie.spec (λ c κs. search needs) returns (λ c. search needs) find-node-requires (λ c. search needs) cast-result (λ c. search needs)
+    (λ c. search needs) returns-2 returns-3)
