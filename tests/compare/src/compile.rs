@@ -1,6 +1,5 @@
 //! The code of tables, and the buffer it is written to.
 
-use generate::graph::Graph;
 use generate::random::Random;
 use generate::shapes;
 
