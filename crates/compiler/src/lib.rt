@@ -839,7 +839,7 @@ fn lay_next(
     lay_function(t, starts, words, j, outs, order, spots, spot)
 }
 
-// The functions before k that are within the word limit.
+// The functions before k that are within the word limit; the answer is the place behind all spots.
 fn lay_functions(
     t: &[u8],
     starts: &[u16; 16],
@@ -849,10 +849,10 @@ fn lay_functions(
     order: &mut [u16; 4096],
     spots: &mut [u16; 20166],
     begins: &mut [u16; 16],
-)
+) -> usize
     requires { ⌜ Accepted (now t) k × Starts (now t) (now starts) k × WordsHeld (now t) (now words) k ⌝ }
     requires { ⌜ (length (now outs) ≡ 128) × (length (now order) ≡ 4096) × (length (now spots) ≡ spotRoom) × (length (now begins) ≡ 16) ⌝ }
-    ensures { λ _. ⌜ AllLaid (now (t .entry)) (now (begins .exit)) (now (order .exit)) (now (spots .exit)) k × AllOuts (now (t .entry)) (now (outs .exit)) k ⌝ }
+    ensures { λ r. ⌜ LaidTo (now (t .entry)) k (now (outs .exit)) (now (order .exit)) (now (spots .exit)) (now (begins .exit)) r ⌝ }
 {
     let mut spot = 0;
     let mut j = 0;
@@ -860,6 +860,7 @@ fn lay_functions(
         spot = lay_next(t, starts, words, j, outs, order, spots, begins, spot);
         j += 1;
     }
+    spot
 }
 
 // ---- the whole
@@ -1006,15 +1007,26 @@ fn write_list(
     let mut outs = [0u16; 128];
     let mut begins = [0u16; 16];
     let mut ins = [0u16; 8];
-    lay_functions(
+    let spot = lay_functions(
         t,
         starts,
         words,
-        k + 1,
+        k,
         &mut outs,
         &mut order,
         &mut spots,
         &mut begins,
+    );
+    lay_next(
+        t,
+        starts,
+        words,
+        k,
+        &mut outs,
+        &mut order,
+        &mut spots,
+        &mut begins,
+        spot,
     );
     input_places(t, p + 6, nin, &mut ins);
     put_header(code, inputs as u8, outputs as u8, count as u16, all as u16);

@@ -35,8 +35,7 @@ loop-again c = let z : c .before .before .before .before .before .before .loop .
 returns : tie.Need-returns Inv-loop μ-loop
 returns c =
     let z : c .before .before .before .args .k ≡ c .before .loop .j = omega arith in
-    let x = c .before .loop .inv .1 in
-    rw z (x .laid, x .ports)
+    rw z (c .before .loop .inv .1)
 
 pub lay-functions-spec : {M : Type 1} → statement M
 lay-functions-spec =

@@ -16,6 +16,7 @@ use Rattle.compiler.specs.Emit.{addressOf, addressesIn, closedAt}
 use Rattle.compiler.specs.Spotting.{PortsCoded}
 use Rattle.compiler.specs.Whole.{typesBy, codeAt}
 use Rattle.compiler.proofs.Accepting.{few, fit-at}
+use Rattle.compiler.proofs.Tables.{fewer}
 use Rattle.compiler.proofs.Assembly.{inputs-types, emit-room, outs-low, out-words, out-room, assembled}
 use Rattle.compiler.proofs.write_list.Statement.{statement}
 use Rattle.compiler.proofs.write_list.Tie as tie
@@ -58,80 +59,78 @@ words c =
     let w = c .before .before .before .before .before .before .before .before .before .before .pre .1 .0 .words in
     omega arith
 
-add-lay-functions : tie.Need-add-lay-functions
-add-lay-functions c = let l = low (c .before .before .before .before .before .before .before .before .before .before) in omega arith
-
 lay-functions-requires : tie.Need-lay-functions-requires
 lay-functions-requires c κs =
-    let a = c .before .before .before .before .before .before .before .before .before .before .before .before .before .before .args in
-    let z : a .k + 1 ≡ suc (a .k) = omega arith in (
-      rw z (c .before .before .before .before .before .before .before .before .before .before .before .before .before .before .pre .0),
+    let a = c .before .before .before .before .before .before .before .before .before .before .before .before .before .before .args in (
+      (fewer (a .t .now) (suc (a .k)) (a .k) (c .before .before .before .before .before .before .before .before .before .before .before .before .before .before .pre .0 .0) (omega arith), (λ j l. c .before .before .before .before .before .before .before .before .before .before .before .before .before .before .pre .0 .1 j (omega arith)), (λ j l. c .before .before .before .before .before .before .before .before .before .before .before .before .before .before .pre .0 .2 j (omega arith))),
       (length-replicate {A = ℕ} 128 0, length-replicate {A = ℕ} 4096 0, length-replicate {A = ℕ} 20166 0, length-replicate {A = ℕ} 16 0),
     )
 
+lay-next-requires : tie.Need-lay-next-requires
+lay-next-requires c κs = (c .before .before .before .before .before .before .before .before .before .before .before .before .before .before .before .before .before .before .before .pre .0, c .before .before .before .before .lay-functions .ensures)
+
 input-places-requires : tie.Need-input-places-requires
-input-places-requires c κs = let (x, y) = nin (c .before .before .before .before .before .before .before .before .before .before) in let p = c .before .before .before .before .before .before .before .before .before .before .before .before .wide16 .ensures .1 in (omega arith, y)
+input-places-requires c κs = let (x, y) = nin (c .before .before .before .before .before .before .before .before .before .before .before .before .before .before .before) in let p = c .before .before .before .before .before .before .before .before .before .before .before .before .before .before .before .before .before .wide16 .ensures .1 in (omega arith, y)
 
 -- what was laid
-laid : (c : tie.After-lay-functions) → PortsCoded (closedAt (c .before .before .before .before .before .before .before .before .before .before .before .before .before .before .before .args .t .now) (c .before .before .before .before .before .before .before .before .before .before .before .before .before .before .before .args .k) .outputs) (c .lay-functions .last .1 .1 .1 .1 .0) (8 * c .before .before .before .before .before .before .before .before .before .before .before .before .before .before .before .args .k)
+laid : (c : tie.After-lay-next) → PortsCoded (closedAt (c .before .before .before .before .before .before .before .before .before .before .before .before .before .before .before .before .before .before .before .before .args .t .now) (c .before .before .before .before .before .before .before .before .before .before .before .before .before .before .before .before .before .before .before .before .args .k) .outputs) (c .lay-next .last .1 .1 .1 .1 .0) (8 * c .before .before .before .before .before .before .before .before .before .before .before .before .before .before .before .before .before .before .before .before .args .k)
 laid c =
-    let a = c .before .before .before .before .before .before .before .before .before .before .before .before .before .before .before .args in
-    let w = c .before .before .before .before .before .before .before .before .before .before .before .before .before .before .before .pre .1 .0 .words in
-    c .lay-functions .ensures .1 (a .k) (omega arith) (omega arith)
+    let a = c .before .before .before .before .before .before .before .before .before .before .before .before .before .before .before .before .before .before .before .before .args in
+    let w = c .before .before .before .before .before .before .before .before .before .before .before .before .before .before .before .before .before .before .before .before .pre .1 .0 .words in
+    c .lay-next .ensures .ports (a .k) (omega arith) (omega arith)
 
 -- the addresses of the arguments
-ins-are : (c : tie.After-input-places) → (c .input-places .last .1 .1 .1 .0) ≡ sets (replicate 8 0) 0 (places 0 (functionIn (c .before .before .before .before .before .before .before .before .before .before .before .before .before .before .before .before .before .args .t .now) (c .before .before .before .before .before .before .before .before .before .before .before .before .before .before .before .before .before .args .k) .inputs))
+ins-are : (c : tie.After-input-places) → (c .input-places .last .1 .1 .1 .0) ≡ sets (replicate 8 0) 0 (places 0 (functionIn (c .before .before .before .before .before .before .before .before .before .before .before .before .before .before .before .before .before .before .before .before .before .before .args .t .now) (c .before .before .before .before .before .before .before .before .before .before .before .before .before .before .before .before .before .before .before .before .before .before .args .k) .inputs))
 unfolding functionAt
 ins-are c =
-    let a = c .before .before .before .before .before .before .before .before .before .before .before .before .before .before .before .before .before .args in
+    let a = c .before .before .before .before .before .before .before .before .before .before .before .before .before .before .before .before .before .before .before .before .before .before .args in
     let s = a .t .now in
-    let (e, l) = nin (c .before .before .before .before .before .before .before .before .before .before .before) in
+    let (e, l) = nin (c .before .before .before .before .before .before .before .before .before .before .before .before .before .before .before .before) in
     c .input-places .ensures
-    ∙ ap (λ (q : ℕ). sets (replicate 8 0) 0 (places 0 (typesBy 1 (c .before .before .before .before .before .before .before .before .before .before .before .wide .result) s (q + 6)))) (place (c .before .before .before .before .before .before .before .before .before .before .before .before .before))
+    ∙ ap (λ (q : ℕ). sets (replicate 8 0) 0 (places 0 (typesBy 1 (c .before .before .before .before .before .before .before .before .before .before .before .before .before .before .before .before .wide .result) s (q + 6)))) (place (c .before .before .before .before .before .before .before .before .before .before .before .before .before .before .before .before .before .before))
     ∙ ap (λ (n : ℕ). sets (replicate 8 0) 0 (places 0 (typesBy 1 n s (placeOf s (a .k) + 6)))) e
     ∙ ap (λ (ts : List ℕ). sets (replicate 8 0) 0 (places 0 ts)) (sym (inputs-types (inputCount s (placeOf s (a .k))) s (placeOf s (a .k) + 6)))
 
 cast-put-header : tie.Need-cast-put-header
-cast-put-header c = let (x, y) = c .before .before .before .before .before .before .before .before .before .before .before .before .before .before .before .before .before .before .pre .1 .0 .narrow in omega arith
+cast-put-header c = let (x, y) = c .before .before .before .before .before .before .before .before .before .before .before .before .before .before .before .before .before .before .before .before .before .before .before .pre .1 .0 .narrow in omega arith
 
 cast-put-header-2 : tie.Need-cast-put-header-2
-cast-put-header-2 c = let (x, y) = c .before .before .before .before .before .before .before .before .before .before .before .before .before .before .before .before .before .before .pre .1 .0 .narrow in omega arith
+cast-put-header-2 c = let (x, y) = c .before .before .before .before .before .before .before .before .before .before .before .before .before .before .before .before .before .before .before .before .before .before .before .pre .1 .0 .narrow in omega arith
 
 cast-put-header-3 : tie.Need-cast-put-header-3
-cast-put-header-3 c = let x = c .before .before .before .before .before .before .before .before .before .before .before .before .before .before .before .before .before .before .pre .1 .0 .few in omega arith
+cast-put-header-3 c = let x = c .before .before .before .before .before .before .before .before .before .before .before .before .before .before .before .before .before .before .before .before .before .before .before .pre .1 .0 .few in omega arith
 
 cast-put-header-4 : tie.Need-cast-put-header-4
-cast-put-header-4 c = let w = words (c .before .before .before .before .before .before .before .before) in let x = c .before .before .before .before .before .before .before .before .before .before .before .before .before .before .before .before .before .before .pre .1 .0 .words in omega arith
+cast-put-header-4 c = let w = words (c .before .before .before .before .before .before .before .before .before .before .before .before .before) in let x = c .before .before .before .before .before .before .before .before .before .before .before .before .before .before .before .before .before .before .before .before .before .before .before .pre .1 .0 .words in omega arith
 
-room : (c : tie.After-input-places) → 12 ≤ length (c .before .before .before .before .before .before .before .before .before .before .before .before .before .before .before .before .before .args .code .now)
+room : (c : tie.After-input-places) → 12 ≤ length (c .before .before .before .before .before .before .before .before .before .before .before .before .before .before .before .before .before .before .before .before .before .before .args .code .now)
 room c =
-    let a = c .before .before .before .before .before .before .before .before .before .before .before .before .before .before .before .before .before .args in
-    let r = emit-room (a .t .now) (a .k) (c .before .before .before .before .before .before .before .before .before .before .before .before .before .before .before .before .before .pre .0 .0) (a .count) (a .inputs) (a .outputs) (c .before .before .before .before .before .before .before .before .before .before .before .before .before .before .before .before .before .pre .1 .0) (c .before .before .lay-functions .last .1 .1 .1 .1 .0) (c .input-places .last .1 .1 .1 .0) (laid (c .before .before)) (ins-are c) (a .code .now) (c .before .before .before .before .before .before .before .before .before .before .before .before .before .before .before .before .before .pre .1 .1) .room in
+    let a = c .before .before .before .before .before .before .before .before .before .before .before .before .before .before .before .before .before .before .before .before .before .before .args in
+    let r = emit-room (a .t .now) (a .k) (c .before .before .before .before .before .before .before .before .before .before .before .before .before .before .before .before .before .before .before .before .before .before .pre .0 .0) (a .count) (a .inputs) (a .outputs) (c .before .before .before .before .before .before .before .before .before .before .before .before .before .before .before .before .before .before .before .before .before .before .pre .1 .0) (c .before .before .lay-next .last .1 .1 .1 .1 .0) (c .input-places .last .1 .1 .1 .0) (laid (c .before .before)) (ins-are c) (a .code .now) (c .before .before .before .before .before .before .before .before .before .before .before .before .before .before .before .before .before .before .before .before .before .before .pre .1 .1) .room in
     omega arith
 
 put-header-requires : tie.Need-put-header-requires
 put-header-requires c κs = room (c .before)
 
-same-header : (c : tie.After-put-header) → length (c .put-header .last .0) ≡ length (c .before .before .before .before .before .before .before .before .before .before .before .before .before .before .before .before .before .before .before .args .code .now)
+same-header : (c : tie.After-put-header) → length (c .put-header .last .0) ≡ length (c .before .before .before .before .before .before .before .before .before .before .before .before .before .before .before .before .before .before .before .before .before .before .before .before .args .code .now)
 same-header c = c .put-header .kept .0
 
 emit-requires : tie.Need-emit-requires
 emit-requires c κs =
-    let a = c .before .before .before .before .before .before .before .before .before .before .before .before .before .before .before .before .before .before .before .before .before .before .before .before .before .before .args in
-    let z : a .k + 1 ≡ suc (a .k) = omega arith in (
-      (low (c .before .before .before .before .before .before .before .before .before .before .before .before .before .before .before .before .before .before .before .before .before .before .before .before .before .before), c .before .before .before .before .before .before .before .before .before .before .before .before .before .before .before .before .before .before .before .before .before .before .before .before .before .before .pre .0 .1),
+    let a = c .before .before .before .before .before .before .before .before .before .before .before .before .before .before .before .before .before .before .before .before .before .before .before .before .before .before .before .before .before .before .before .args in (
+      (low (c .before .before .before .before .before .before .before .before .before .before .before .before .before .before .before .before .before .before .before .before .before .before .before .before .before .before .before .before .before .before .before), c .before .before .before .before .before .before .before .before .before .before .before .before .before .before .before .before .before .before .before .before .before .before .before .before .before .before .before .before .before .before .before .pre .0 .1),
       (
-        rw z at (c .before .before .before .before .before .before .before .before .before .before .before .lay-functions .ensures .0),
-        emit-room (a .t .now) (a .k) (c .before .before .before .before .before .before .before .before .before .before .before .before .before .before .before .before .before .before .before .before .before .before .before .before .before .before .pre .0 .0) (a .count) (a .inputs) (a .outputs) (c .before .before .before .before .before .before .before .before .before .before .before .before .before .before .before .before .before .before .before .before .before .before .before .before .before .before .pre .1 .0) (c .before .before .before .before .before .before .before .before .before .before .before .lay-functions .last .1 .1 .1 .1 .0) (c .before .before .before .before .before .before .before .before .before .input-places .last .1 .1 .1 .0) (laid (c .before .before .before .before .before .before .before .before .before .before .before)) (ins-are (c .before .before .before .before .before .before .before .before .before)) (c .before .before .before .before .before .before .before .put-header .last .0)
-            (let e = same-header (c .before .before .before .before .before .before .before) in let l = c .before .before .before .before .before .before .before .before .before .before .before .before .before .before .before .before .before .before .before .before .before .before .before .before .before .before .pre .1 .1 in omega arith),
+        c .before .before .before .before .before .before .before .before .before .before .before .lay-next .ensures .laid,
+        emit-room (a .t .now) (a .k) (c .before .before .before .before .before .before .before .before .before .before .before .before .before .before .before .before .before .before .before .before .before .before .before .before .before .before .before .before .before .before .before .pre .0 .0) (a .count) (a .inputs) (a .outputs) (c .before .before .before .before .before .before .before .before .before .before .before .before .before .before .before .before .before .before .before .before .before .before .before .before .before .before .before .before .before .before .before .pre .1 .0) (c .before .before .before .before .before .before .before .before .before .before .before .lay-next .last .1 .1 .1 .1 .0) (c .before .before .before .before .before .before .before .before .before .input-places .last .1 .1 .1 .0) (laid (c .before .before .before .before .before .before .before .before .before .before .before)) (ins-are (c .before .before .before .before .before .before .before .before .before)) (c .before .before .before .before .before .before .before .put-header .last .0)
+            (let e = same-header (c .before .before .before .before .before .before .before) in let l = c .before .before .before .before .before .before .before .before .before .before .before .before .before .before .before .before .before .before .before .before .before .before .before .before .before .before .before .before .before .before .before .pre .1 .1 in omega arith),
       ),
     )
 
 add-put-outputs : tie.Need-add-put-outputs
-add-put-outputs c = let p = c .before .before .before .before .before .before .before .before .before .before .before .before .before .before .before .before .before .before .before .before .before .before .before .before .before .wide16 .ensures .1 in omega arith
+add-put-outputs c = let p = c .before .before .before .before .before .before .before .before .before .before .before .before .before .before .before .before .before .before .before .before .before .before .before .before .before .before .before .before .before .before .wide16 .ensures .1 in omega arith
 
 add-put-outputs-2 : tie.Need-add-put-outputs-2
-add-put-outputs-2 c = let p = c .before .before .before .before .before .before .before .before .before .before .before .before .before .before .before .before .before .before .before .before .before .before .before .before .before .wide16 .ensures .1 in let (x, y) = nin (c .before .before .before .before .before .before .before .before .before .before .before .before .before .before .before .before .before .before .before .before .before .before .before) in omega arith
+add-put-outputs-2 c = let p = c .before .before .before .before .before .before .before .before .before .before .before .before .before .before .before .before .before .before .before .before .before .before .before .before .before .before .before .before .before .before .wide16 .ensures .1 in let (x, y) = nin (c .before .before .before .before .before .before .before .before .before .before .before .before .before .before .before .before .before .before .before .before .before .before .before .before .before .before .before .before) in omega arith
 
 -- where the output entries begin
 entries : (c : tie.After-wide) → c .before .before .wide16 .result + 6 + c .wide .result ≡ outputsPlace (c .before .before .before .before .before .before .args .t .now) (placeOf (c .before .before .before .before .before .before .args .t .now) (c .before .before .before .before .before .before .args .k))
@@ -139,23 +138,23 @@ entries c = ap (λ (q : ℕ). q + 6 + c .wide .result) (place (c .before .before
 
 put-outputs-requires : tie.Need-put-outputs-requires
 put-outputs-requires c κs =
-    let a = c .before .before .before .before .before .before .before .before .before .before .before .before .before .before .before .before .before .before .before .before .before .before .before .before .before .before .before .before .before .before .before .before .args in
+    let a = c .before .before .before .before .before .before .before .before .before .before .before .before .before .before .before .before .before .before .before .before .before .before .before .before .before .before .before .before .before .before .before .before .before .before .before .before .before .args in
     let s = a .t .now in
-    let (e, l) = nout (c .before .before .before .before .before .before .before .before .before .before .before .before .before .before .before .before .before .before .before .before .before .before .before .before) in
-    let q = entries (c .before .before .before .before .before .before .before .before .before .before .before .before .before .before .before .before .before .before .before .before .before .before .before .before .before .before) in
-    let p = c .before .before .before .before .before .before .before .before .before .before .before .before .before .before .before .before .before .before .before .before .before .before .before .before .before .before .before .before .wide16 .ensures .1 in
-    let (x, y) = nin (c .before .before .before .before .before .before .before .before .before .before .before .before .before .before .before .before .before .before .before .before .before .before .before .before .before .before) in
-    let w = c .before .before .before .before .before .before .before .before .before .before .before .before .before .before .before .before .before .before .before .before .before .before .before .before .before .before .before .before .before .before .before .before .pre .1 .0 .words in (
+    let (e, l) = nout (c .before .before .before .before .before .before .before .before .before .before .before .before .before .before .before .before .before .before .before .before .before .before .before .before .before .before .before .before .before) in
+    let q = entries (c .before .before .before .before .before .before .before .before .before .before .before .before .before .before .before .before .before .before .before .before .before .before .before .before .before .before .before .before .before .before .before) in
+    let p = c .before .before .before .before .before .before .before .before .before .before .before .before .before .before .before .before .before .before .before .before .before .before .before .before .before .before .before .before .before .before .before .before .before .wide16 .ensures .1 in
+    let (x, y) = nin (c .before .before .before .before .before .before .before .before .before .before .before .before .before .before .before .before .before .before .before .before .before .before .before .before .before .before .before .before .before .before .before) in
+    let w = c .before .before .before .before .before .before .before .before .before .before .before .before .before .before .before .before .before .before .before .before .before .before .before .before .before .before .before .before .before .before .before .before .before .before .before .before .before .pre .1 .0 .words in (
       (
         omega arith,
         l,
-        low (c .before .before .before .before .before .before .before .before .before .before .before .before .before .before .before .before .before .before .before .before .before .before .before .before .before .before .before .before .before .before .before .before),
+        low (c .before .before .before .before .before .before .before .before .before .before .before .before .before .before .before .before .before .before .before .before .before .before .before .before .before .before .before .before .before .before .before .before .before .before .before .before .before),
         omega arith,
-        λ j jl. outs-low s (a .k) (c .before .before .before .before .before .before .before .before .before .before .before .before .before .before .before .before .before .before .before .before .before .before .before .before .before .before .before .before .before .before .before .before .pre .0 .0) (a .count) (a .inputs) (a .outputs) (c .before .before .before .before .before .before .before .before .before .before .before .before .before .before .before .before .before .before .before .before .before .before .before .before .before .before .before .before .before .before .before .before .pre .1 .0) (c .before .before .before .before .before .before .before .before .before .before .before .before .before .before .before .before .before .lay-functions .last .1 .1 .1 .1 .0) (c .before .before .before .before .before .before .before .before .before .before .before .before .before .before .before .input-places .last .1 .1 .1 .0) (laid (c .before .before .before .before .before .before .before .before .before .before .before .before .before .before .before .before .before)) (ins-are (c .before .before .before .before .before .before .before .before .before .before .before .before .before .before .before)) j (omega arith),
+        λ j jl. outs-low s (a .k) (c .before .before .before .before .before .before .before .before .before .before .before .before .before .before .before .before .before .before .before .before .before .before .before .before .before .before .before .before .before .before .before .before .before .before .before .before .before .pre .0 .0) (a .count) (a .inputs) (a .outputs) (c .before .before .before .before .before .before .before .before .before .before .before .before .before .before .before .before .before .before .before .before .before .before .before .before .before .before .before .before .before .before .before .before .before .before .before .before .before .pre .1 .0) (c .before .before .before .before .before .before .before .before .before .before .before .before .before .before .before .before .before .lay-next .last .1 .1 .1 .1 .0) (c .before .before .before .before .before .before .before .before .before .before .before .before .before .before .before .input-places .last .1 .1 .1 .0) (laid (c .before .before .before .before .before .before .before .before .before .before .before .before .before .before .before .before .before)) (ins-are (c .before .before .before .before .before .before .before .before .before .before .before .before .before .before .before)) j (omega arith),
       ),
       rw (e, q)
-          (out-room s (a .k) (c .before .before .before .before .before .before .before .before .before .before .before .before .before .before .before .before .before .before .before .before .before .before .before .before .before .before .before .before .before .before .before .before .pre .0 .0) (a .count) (a .inputs) (a .outputs) (c .before .before .before .before .before .before .before .before .before .before .before .before .before .before .before .before .before .before .before .before .before .before .before .before .before .before .before .before .before .before .before .before .pre .1 .0) (c .before .before .before .before .before .before .before .before .before .before .before .before .before .before .before .before .before .lay-functions .last .1 .1 .1 .1 .0) (c .before .before .before .before .before .before .before .before .before .before .before .before .before .before .before .input-places .last .1 .1 .1 .0) (laid (c .before .before .before .before .before .before .before .before .before .before .before .before .before .before .before .before .before)) (ins-are (c .before .before .before .before .before .before .before .before .before .before .before .before .before .before .before)) (a .code .now) (c .before .before .before .before .before .before .before .before .before .before .before .before .before .put-header .last .0) (c .before .before .before .before .before .emit .last .1 .1 .1 .1 .1 .1 .1 .0) (c .before .before .before .before .before .emit .last .1 .1 .1 .1 .1 .1 .1 .0)
-          (c .before .before .before .before .before .emit .result) (a .inputs + c .before .before .before .before .before .before .before .before .before .before .before .before .before .before .before .before .before .before .before .before .before .before .wide32 .result) (ap (λ (n : ℕ). a .inputs + n) (words (c .before .before .before .before .before .before .before .before .before .before .before .before .before .before .before .before .before .before .before .before .before .before))) (c .before .before .before .before .before .before .before .before .before .before .before .before .before .put-header .ensures) (c .before .before .before .before .before .emit .ensures) (c .before .before .before .before .before .before .before .before .before .before .before .before .before .before .before .before .before .before .before .before .before .before .before .before .before .before .before .before .before .before .before .before .pre .1 .1)),
+          (out-room s (a .k) (c .before .before .before .before .before .before .before .before .before .before .before .before .before .before .before .before .before .before .before .before .before .before .before .before .before .before .before .before .before .before .before .before .before .before .before .before .before .pre .0 .0) (a .count) (a .inputs) (a .outputs) (c .before .before .before .before .before .before .before .before .before .before .before .before .before .before .before .before .before .before .before .before .before .before .before .before .before .before .before .before .before .before .before .before .before .before .before .before .before .pre .1 .0) (c .before .before .before .before .before .before .before .before .before .before .before .before .before .before .before .before .before .lay-next .last .1 .1 .1 .1 .0) (c .before .before .before .before .before .before .before .before .before .before .before .before .before .before .before .input-places .last .1 .1 .1 .0) (laid (c .before .before .before .before .before .before .before .before .before .before .before .before .before .before .before .before .before)) (ins-are (c .before .before .before .before .before .before .before .before .before .before .before .before .before .before .before)) (a .code .now) (c .before .before .before .before .before .before .before .before .before .before .before .before .before .put-header .last .0) (c .before .before .before .before .before .emit .last .1 .1 .1 .1 .1 .1 .1 .0) (c .before .before .before .before .before .emit .last .1 .1 .1 .1 .1 .1 .1 .0)
+          (c .before .before .before .before .before .emit .result) (a .inputs + c .before .before .before .before .before .before .before .before .before .before .before .before .before .before .before .before .before .before .before .before .before .before .before .before .before .before .before .wide32 .result) (ap (λ (n : ℕ). a .inputs + n) (words (c .before .before .before .before .before .before .before .before .before .before .before .before .before .before .before .before .before .before .before .before .before .before .before .before .before .before .before))) (c .before .before .before .before .before .before .before .before .before .before .before .before .before .put-header .ensures) (c .before .before .before .before .before .emit .ensures) (c .before .before .before .before .before .before .before .before .before .before .before .before .before .before .before .before .before .before .before .before .before .before .before .before .before .before .before .before .before .before .before .before .before .before .before .before .before .pre .1 .1)),
     )
 
 same-length : tie.Need-same-length
@@ -163,21 +162,21 @@ same-length c = c .before .before .put-outputs .kept .1 .1 .1 .1 .1 .1 .1 .0 ∙
 
 returns : tie.Need-returns
 returns c =
-    let a = c .before .before .before .before .before .before .before .before .before .before .before .before .before .before .before .before .before .before .before .before .before .before .before .before .before .before .before .before .before .before .before .before .before .before .before .args in
+    let a = c .before .before .before .before .before .before .before .before .before .before .before .before .before .before .before .before .before .before .before .before .before .before .before .before .before .before .before .before .before .before .before .before .before .before .before .before .before .before .before .before .args in
     let s = a .t .now in
-    let (e, l) = nout (c .before .before .before .before .before .before .before .before .before .before .before .before .before .before .before .before .before .before .before .before .before .before .before .before .before .before .before) in
-    let q = entries (c .before .before .before .before .before .before .before .before .before .before .before .before .before .before .before .before .before .before .before .before .before .before .before .before .before .before .before .before .before) in
-    assembled s (a .k) (c .before .before .before .before .before .before .before .before .before .before .before .before .before .before .before .before .before .before .before .before .before .before .before .before .before .before .before .before .before .before .before .before .before .before .before .pre .0 .0) (a .count) (a .inputs) (a .outputs) (c .before .before .before .before .before .before .before .before .before .before .before .before .before .before .before .before .before .before .before .before .before .before .before .before .before .before .before .before .before .before .before .before .before .before .before .pre .1 .0) (c .before .before .before .before .before .before .before .before .before .before .before .before .before .before .before .before .before .before .before .before .lay-functions .last .1 .1 .1 .1 .0) (c .before .before .before .before .before .before .before .before .before .before .before .before .before .before .before .before .before .before .input-places .last .1 .1 .1 .0) (laid (c .before .before .before .before .before .before .before .before .before .before .before .before .before .before .before .before .before .before .before .before)) (ins-are (c .before .before .before .before .before .before .before .before .before .before .before .before .before .before .before .before .before .before)) (a .code .now) (c .before .before .before .before .before .before .before .before .before .before .before .before .before .before .before .before .put-header .last .0) (c .before .before .before .before .before .before .before .before .emit .last .1 .1 .1 .1 .1 .1 .1 .0) (c .before .before .put-outputs .last .1 .1 .1 .1 .1 .1 .1 .0)
-    (c .before .before .before .before .before .before .before .before .emit .result) (a .inputs + c .before .before .before .before .before .before .before .before .before .before .before .before .before .before .before .before .before .before .before .before .before .before .before .before .before .wide32 .result) (ap (λ (n : ℕ). a .inputs + n) (words (c .before .before .before .before .before .before .before .before .before .before .before .before .before .before .before .before .before .before .before .before .before .before .before .before .before))) (c .before .before .before .before .before .before .before .before .before .before .before .before .before .before .before .before .put-header .ensures) (c .before .before .before .before .before .before .before .before .emit .ensures)
+    let (e, l) = nout (c .before .before .before .before .before .before .before .before .before .before .before .before .before .before .before .before .before .before .before .before .before .before .before .before .before .before .before .before .before .before .before .before) in
+    let q = entries (c .before .before .before .before .before .before .before .before .before .before .before .before .before .before .before .before .before .before .before .before .before .before .before .before .before .before .before .before .before .before .before .before .before .before) in
+    assembled s (a .k) (c .before .before .before .before .before .before .before .before .before .before .before .before .before .before .before .before .before .before .before .before .before .before .before .before .before .before .before .before .before .before .before .before .before .before .before .before .before .before .before .before .pre .0 .0) (a .count) (a .inputs) (a .outputs) (c .before .before .before .before .before .before .before .before .before .before .before .before .before .before .before .before .before .before .before .before .before .before .before .before .before .before .before .before .before .before .before .before .before .before .before .before .before .before .before .before .pre .1 .0) (c .before .before .before .before .before .before .before .before .before .before .before .before .before .before .before .before .before .before .before .before .lay-next .last .1 .1 .1 .1 .0) (c .before .before .before .before .before .before .before .before .before .before .before .before .before .before .before .before .before .before .input-places .last .1 .1 .1 .0) (laid (c .before .before .before .before .before .before .before .before .before .before .before .before .before .before .before .before .before .before .before .before)) (ins-are (c .before .before .before .before .before .before .before .before .before .before .before .before .before .before .before .before .before .before)) (a .code .now) (c .before .before .before .before .before .before .before .before .before .before .before .before .before .before .before .before .put-header .last .0) (c .before .before .before .before .before .before .before .before .emit .last .1 .1 .1 .1 .1 .1 .1 .0) (c .before .before .put-outputs .last .1 .1 .1 .1 .1 .1 .1 .0)
+    (c .before .before .before .before .before .before .before .before .emit .result) (a .inputs + c .before .before .before .before .before .before .before .before .before .before .before .before .before .before .before .before .before .before .before .before .before .before .before .before .before .before .before .before .before .before .wide32 .result) (ap (λ (n : ℕ). a .inputs + n) (words (c .before .before .before .before .before .before .before .before .before .before .before .before .before .before .before .before .before .before .before .before .before .before .before .before .before .before .before .before .before .before))) (c .before .before .before .before .before .before .before .before .before .before .before .before .before .before .before .before .put-header .ensures) (c .before .before .before .before .before .before .before .before .emit .ensures)
     (c .before .before .put-outputs .ensures
-    ∙ ap (λ (n : ℕ). sets (c .before .before .before .before .before .before .before .before .emit .last .1 .1 .1 .1 .1 .1 .1 .0) (c .before .before .before .before .before .before .before .before .emit .result .at) (allBytes 2 (spans (typesBy 4 n s (c .before .before .before .before .before .before .before .before .before .before .before .before .before .before .before .before .before .before .before .before .before .before .before .before .before .before .before .before .before .before .before .wide16 .result + 6 + c .before .before .before .before .before .before .before .before .before .before .before .before .before .before .before .before .before .before .before .before .before .before .before .before .before .before .before .before .before .wide .result)) (addressesIn (c .before .before .before .before .before .before .before .before .before .before .before .before .before .before .before .before .before .before .before .before .lay-functions .last .1 .1 .1 .1 .0) (c .before .before .before .before .before .before .before .before .before .before .before .before .before .before .before .before .before .before .input-places .last .1 .1 .1 .0) (a .inputs) (8 * a .k) n)))) e
-    ∙ ap (λ (m : ℕ). sets (c .before .before .before .before .before .before .before .before .emit .last .1 .1 .1 .1 .1 .1 .1 .0) (c .before .before .before .before .before .before .before .before .emit .result .at) (allBytes 2 (spans (typesBy 4 (outputCount s (placeOf s (a .k))) s m) (addressesIn (c .before .before .before .before .before .before .before .before .before .before .before .before .before .before .before .before .before .before .before .before .lay-functions .last .1 .1 .1 .1 .0) (c .before .before .before .before .before .before .before .before .before .before .before .before .before .before .before .before .before .before .input-places .last .1 .1 .1 .0) (a .inputs) (8 * a .k) (outputCount s (placeOf s (a .k))))))) q)
+    ∙ ap (λ (n : ℕ). sets (c .before .before .before .before .before .before .before .before .emit .last .1 .1 .1 .1 .1 .1 .1 .0) (c .before .before .before .before .before .before .before .before .emit .result .at) (allBytes 2 (spans (typesBy 4 n s (c .before .before .before .before .before .before .before .before .before .before .before .before .before .before .before .before .before .before .before .before .before .before .before .before .before .before .before .before .before .before .before .before .before .before .before .before .wide16 .result + 6 + c .before .before .before .before .before .before .before .before .before .before .before .before .before .before .before .before .before .before .before .before .before .before .before .before .before .before .before .before .before .before .before .before .before .before .wide .result)) (addressesIn (c .before .before .before .before .before .before .before .before .before .before .before .before .before .before .before .before .before .before .before .before .lay-next .last .1 .1 .1 .1 .0) (c .before .before .before .before .before .before .before .before .before .before .before .before .before .before .before .before .before .before .input-places .last .1 .1 .1 .0) (a .inputs) (8 * a .k) n)))) e
+    ∙ ap (λ (m : ℕ). sets (c .before .before .before .before .before .before .before .before .emit .last .1 .1 .1 .1 .1 .1 .1 .0) (c .before .before .before .before .before .before .before .before .emit .result .at) (allBytes 2 (spans (typesBy 4 (outputCount s (placeOf s (a .k))) s m) (addressesIn (c .before .before .before .before .before .before .before .before .before .before .before .before .before .before .before .before .before .before .before .before .lay-next .last .1 .1 .1 .1 .0) (c .before .before .before .before .before .before .before .before .before .before .before .before .before .before .before .before .before .before .input-places .last .1 .1 .1 .0) (a .inputs) (8 * a .k) (outputCount s (placeOf s (a .k))))))) q)
 
 pub write-list-spec : {M : Type 1} → statement M
 write-list-spec =
     tie.close
     (tie.spec mul-wide16 element-copy-out-wide16 (λ c κs. search needs) (λ c. search needs) (λ c κs. search needs) (λ c κs. search needs)
     (λ c. search needs) (λ c κs. search needs) (λ c κs. search needs) mul-wide32 element-copy-out-wide32 (λ c κs. search needs)
-    (λ c. search needs) add-lay-functions lay-functions-requires (λ c. search needs) input-places-requires cast-put-header cast-put-header-2
+    (λ c. search needs) lay-functions-requires lay-next-requires (λ c. search needs) input-places-requires cast-put-header cast-put-header-2
     cast-put-header-3 cast-put-header-4 put-header-requires emit-requires add-put-outputs add-put-outputs-2 put-outputs-requires same-length
     returns)
