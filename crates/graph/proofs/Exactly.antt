@@ -91,11 +91,17 @@ not-member i (x ∷ ns) e n h = go (eqb (x .id) i) refl e h (λ f j. not-member 
     go false q e (inl r) ih = subst (λ (y : Node). eqb i (y .id) ≡ false) (sym r) (eqb-sym i (x .id) ∙ q)
     go false q e (inr h) ih = ih e h
 
+pub fresh-distinct : (ns : List Node) → fresh [] ns ≡ ok tt → Distinct (map (λ n. n .id) ns)
+fresh-distinct ns e = fresh-there [] ns tt e .1
+
 fresh-back : (before ns : List Node) → Apart before ns → Distinct (ids ns) → fresh before ns ≡ ok tt
 fresh-back before [] a d = refl
 fresh-back before (x ∷ ns) a (m, d) =
     passes (not (found (findNode (x .id) before))) 9 (x .place) (fresh (x ∷ before) ns) (rw (a x (inl refl)) refl)
     ∙ fresh-back (x ∷ before) ns (λ n i. rw (not-member (x .id) ns m n i) (a n (inr i))) d
+
+pub distinct-fresh : (ns : List Node) → Distinct (map (λ n. n .id) ns) → fresh [] ns ≡ ok tt
+distinct-fresh ns d = fresh-back [] ns (λ n h. refl) d
 
 -- ---- 10
 

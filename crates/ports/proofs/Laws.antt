@@ -15,6 +15,25 @@ row-of k = List·getD-map portsOf kinds k unknown
 pub no-kind : (k : ℕ) → 25 ≤ k → portsOf (kindOf k) ≡ absent
 no-kind k h = ap portsOf (List·getD-eq-default kinds unknown h)
 
+pub row-at : {k n : ℕ} → k ≡ n → portsOf (kindOf n) ≡ portsOf (kindOf k)
+row-at e = ap (λ (i : ℕ). portsOf (kindOf i)) (sym e)
+
+-- what the last arm of a `match` with the arms 1 to n knows of its number
+abbrev pub NoneOf : ℕ → ℕ → Type 0
+NoneOf zero k = Unit {0}
+NoneOf (suc n) k = NoneOf n k × (k ≡ suc n → ⊥)
+
+past : (n k : ℕ) → n ≤ k → (k ≡ n → ⊥) → suc n ≤ k
+past n k h r = omega arith
+
+above : (n k : ℕ) → 1 ≤ k → NoneOf n k → suc n ≤ k
+above zero k p r = p
+above (suc n) k p r = past (suc n) k (above n k p (r .0)) (r .1)
+
+pub no-row : (k : ℕ) → NoneOf 24 k → portsOf (kindOf k) ≡ absent
+no-row zero r = refl
+no-row (suc k) r = no-kind (suc k) (above 24 (suc k) (omega arith) r)
+
 pub length-types : (n a b : ℕ) → length (types n a b) ≡ n
 length-types zero a b = refl
 length-types (suc n) a b = ap suc (length-replicate n b)

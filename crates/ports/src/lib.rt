@@ -253,12 +253,44 @@ pub const PORTS: [Ports; 25] = [
     CALL,
 ];
 
-// The row of a kind byte.
+// The whole table.
+pub fn rows() -> [Ports; 25]
+    ensures { λ r. ⌜ r ≡ Definition.rows ⌝ }
+{
+    PORTS
+}
+
+// The row of a kind byte, as the table has it. A look into the table would build all of it anew.
 pub fn ports_of(kind: u8) -> Ports
     ensures { λ r. ⌜ r ≡ portsOf (kindOf kind) ⌝ }
 {
-    let k = kind as usize;
-    if k < 25 { PORTS[k] } else { ABSENT }
+    match kind {
+        1 => TYPED_2,
+        2 => TYPED_2,
+        3 => TYPED_2,
+        4 => TYPED_2,
+        5 => CONSTANT,
+        6 => CONSTVEC,
+        7 => CONSTMAT,
+        8 => COMPOSE_VECTOR,
+        9 => VECTOR_FROM_SCALAR,
+        10 => DECOMPOSE_VECTOR,
+        11 => COMPOSE_MATRIX,
+        12 => MATRIX_FROM_VECTORS,
+        13 => MATRIX_FROM_VECTORS,
+        14 => DOT,
+        15 => CROSS,
+        16 => MATVEC,
+        17 => TRANSPOSE,
+        18 => TYPED_2,
+        19 => TYPED_2,
+        20 => TYPED_1,
+        21 => TYPED_2,
+        22 => TYPED_4,
+        23 => TYPED_3,
+        24 => CALL,
+        _ => ABSENT,
+    }
 }
 
 // The words of a type.

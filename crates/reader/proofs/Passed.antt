@@ -24,7 +24,7 @@ use Rattle.graph.specs.Read.{version1, inRange, inputs, outputs, Part, payload,
 use Rattle.graph.proofs.Loops.{and-inv}
 use Rattle.graph.proofs.Steps.{took, passed}
 use Rattle.reader.specs.Layout.{kindAt, payloadEnd, nodeAt, nodeEnd, nodesAt, nodePlace, inputCount, outputCount, nodeCount, outputsPlace, nodesPlace, functionAt, functionEnd, functionPlace, earlier}
-use Rattle.reader.specs.Sizes.{sizeBy, nodeSize, nodeSizes}
+use Rattle.reader.specs.Sizes.{sizeBy, nodeSize, nodeSizes, operandCounts}
 use Rattle.reader.specs.Find.{ReadsNode, ReadsNodes, ReadsFunction, nodeFound, functionFound}
 use Rattle.reader.specs.declared.Found.the-variants.{At, Nothing}
 use Rattle.reader.proofs.Standing.{node-read, nodes-read, function-read}
@@ -144,6 +144,10 @@ any-default (x ∷ xs) (suc i) a b h = any-default xs i a b (omega arith)
 -- the sizes by numbers and by kinds
 pub size-of : (k : ℕ) → k < 25 → getD nodeSizes k 0 ≡ nodeSize (portsOf (kindOf k))
 size-of k h = any-default nodeSizes k 0 4 h ∙ List·getD-map nodeSize rows k absent ∙ ap nodeSize (row-of k)
+
+-- so too the references
+pub operands-of : (k : ℕ) → getD operandCounts k 0 ≡ arity (kindOf k)
+operands-of k = List·getD-map (λ (r : Ports). r .operands) rows k absent ∙ ap (λ (r : Ports). r .operands) (row-of k)
 
 -- ---- several nodes
 

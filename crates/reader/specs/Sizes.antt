@@ -1,4 +1,4 @@
--- The bytes of a node, by its kind's row.
+-- The bytes and the references of a node, by its kind's row.
 use Prim.Native.Nat.{ℕ, _+_, _*_}
 use mathlib.Core.List.{List, map}
 use Rattle.ports.specs.declared.Form.{Form}
@@ -19,3 +19,7 @@ nodeSize r = sizeBy (r .form) r
 -- kind n stands at n
 abbrev pub nodeSizes : List ℕ
 nodeSizes = map nodeSize rows
+
+-- how many references a node of kind n has; a call's argument count tells its own
+abbrev pub operandCounts : List ℕ
+operandCounts = map (λ r. r .operands) rows

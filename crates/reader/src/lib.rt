@@ -12,7 +12,7 @@ ghost use Rattle.value.specs.Values.{constantWord, every, valueOf};
 ghost use Rattle.graph.specs.Bytes.{u16, u64};
 ghost use Rattle.graph.specs.Read.{version1, constants, inputs, outputs, inRange, payload, node, nodes, function, functions, parse};
 ghost use Rattle.reader.specs.Layout.{kindAt, nodeEnd, nodesAt, nodePlace, earlier};
-ghost use Rattle.reader.specs.Sizes.{nodeSize, nodeSizes};
+ghost use Rattle.reader.specs.Sizes.{nodeSize, nodeSizes, operandCounts};
 ghost use Rattle.reader.specs.Find.{ReadsNode, ReadsNodes, Started, nodeFound, functionFound};
 ghost use Rattle.reader.specs.Records.{recordAt, rowAt, matrixAt, vectorAt, payloadRead, nodeRead, seen, next, behind};
 use ports::Form;
@@ -495,10 +495,45 @@ const SIZES: [u8; 25] = [
 ];
 
 // Held in a local, they are not built anew at each use.
-fn node_sizes() -> [u8; 25]
+pub fn node_sizes() -> [u8; 25]
     ensures { λ r. ⌜ r ≡ nodeSizes ⌝ }
 {
     SIZES
+}
+
+// How many references a node of each kind has. A call's argument count tells its own.
+const OPERANDS: [u8; 25] = [
+    0,
+    2,
+    2,
+    2,
+    2,
+    0,
+    0,
+    0,
+    3,
+    1,
+    1,
+    16,
+    4,
+    4,
+    2,
+    2,
+    2,
+    1,
+    2,
+    2,
+    1,
+    2,
+    4,
+    3,
+    0,
+];
+
+pub fn operand_counts() -> [u8; 25]
+    ensures { λ r. ⌜ r ≡ operandCounts ⌝ }
+{
+    OPERANDS
 }
 
 fn node_size(kind: u8) -> u8
@@ -510,7 +545,7 @@ fn node_size(kind: u8) -> u8
 }
 
 // Where the node at `at` ends, by the size of its kind.
-fn end_by(s: &[u8], at: usize, bytes: u8) -> usize
+pub fn end_by(s: &[u8], at: usize, bytes: u8) -> usize
     requires { ⌜ ReadsNode (now s) at × (bytes ≡ nodeSize (portsOf (kindAt (now s) at))) ⌝ }
     ensures { λ r. ⌜ r ≡ nodeEnd (now (s .entry)) at ⌝ }
 {

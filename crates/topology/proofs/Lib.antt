@@ -6,7 +6,9 @@ pub mod Scheduled
 pub mod Closure
 pub mod Reached
 pub mod Edges
+pub mod AnyOrder
 pub mod Complete
+pub mod Descent
 pub mod LoopFree
 pub mod Slots
 pub mod Stored

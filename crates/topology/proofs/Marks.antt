@@ -49,7 +49,7 @@ mark-one ms done i l h v = pickOne (eqb i v) refl
     pickOne false e = mark-other ms i v (λ q. eqb-false i v e (sym q)) ∙ h v
 
 module _ (ts : List ℕ) (n : ℕ) (p q : ℕ → Bool) (h : (v : ℕ) → p v ≡ q v) where
-  ready-same : (i : ℕ) → ready ts n p i ≡ ready ts n q i
+  pub ready-same : (i : ℕ) → ready ts n p i ≡ ready ts n q i
   ready-same i =
       all-same (λ j. settled n p (slot ts i j)) (λ j. settled n q (slot ts i j)) 16 0
       (λ j a b. ap (λ (x : Bool). leb n (slot ts i j) || x) (h (slot ts i j)))

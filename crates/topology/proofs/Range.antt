@@ -1,7 +1,7 @@
 -- The first, all and any of some numbers.
 use Prim.Native.Nat.{ℕ, zero, suc, _+_, _-_, _≤_, _<_}
 use mathlib.Core.Path.{_≡_, refl, ap, sym, _∙_}
-use mathlib.Core.Bool.{Bool, true, false, _&&_, _||_, cond}
+use mathlib.Core.Bool.{Bool, true, false, _||_, cond}
 use mathlib.Core.Logic.{⊎-elim}
 use native.Mathlib.Omega.{arith}
 use native.Mathlib.Numerals.{add-one}
@@ -73,21 +73,6 @@ module _ (p : ℕ → Bool) where
       ap (λ (m : ℕ). firstOf p 0 m) e ∙ first-past low 0 (n - low) (λ v a b. h v (omega arith)) ∙ ap (λ (s : ℕ). firstOf p s (n - low)) f
 
   -- ---- all
-
-  pub all-one : (n i : ℕ) → i < n → allOf p i (n - i) ≡ p i && allOf p (i + 1) (n - (i + 1))
-  unfolding allOf
-  all-one n i h =
-      ap (λ (k : ℕ). allOf p i k) (one-more n i h) ∙ ap (λ (s : ℕ). p i && allOf p s (n - (i + 1))) (sym (add-one i))
-
-  pub all-hit : (n i : ℕ) → i < n → p i ≡ true → allOf p i (n - i) ≡ allOf p (i + 1) (n - (i + 1))
-  all-hit n i h e = all-one n i h ∙ ap (λ (b : Bool). b && allOf p (i + 1) (n - (i + 1))) e
-
-  pub all-miss : (n i : ℕ) → i < n → p i ≡ false → allOf p i (n - i) ≡ false
-  all-miss n i h e = all-one n i h ∙ ap (λ (b : Bool). b && allOf p (i + 1) (n - (i + 1))) e
-
-  pub all-end : (n i : ℕ) → n ≤ i → allOf p i (n - i) ≡ true
-  unfolding allOf
-  all-end n i h = let e : n - i ≡ 0 = omega arith in ap (λ (k : ℕ). allOf p i k) e
 
   pub all-each : (k i : ℕ) → allOf p i k ≡ true → (v : ℕ) → i ≤ v → v < i + k → p v ≡ true
   unfolding allOf

@@ -19,12 +19,12 @@ use Rattle.topology.proofs.Closure.{read-below, read-slot, slot-read, f
 
 -- ---- marks that are not set
 
-unmarked-none : (k : ℕ) → unmarked (replicate k false) ≡ k
+pub unmarked-none : (k : ℕ) → unmarked (replicate k false) ≡ k
 unmarked-none zero = refl
 unmarked-none (suc k) = ap suc (unmarked-none k)
 
 -- one more is set
-unmarked-set : (ms : List Bool) (v : ℕ) → v < length ms → marked ms v ≡ false → unmarked ms ≡ suc (unmarked (set ms v true))
+pub unmarked-set : (ms : List Bool) (v : ℕ) → v < length ms → marked ms v ≡ false → unmarked ms ≡ suc (unmarked (set ms v true))
 unmarked-set [] v h e = absurd (omega arith)
 unmarked-set (m ∷ ms) zero h e = ap (λ (b : Bool). cond b (unmarked ms) (suc (unmarked ms))) e
 unmarked-set (true ∷ ms) (suc v) h e = unmarked-set ms v (omega arith) e

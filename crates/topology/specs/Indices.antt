@@ -38,6 +38,10 @@ settled n done v = leb n v || done v
 abbrev pub ready : List ℕ → ℕ → (ℕ → Bool) → ℕ → Bool
 ready ts n done i = allOf (λ j. settled n done (slot ts i j)) 0 16
 
+-- the first node that node i waits for, or n
+abbrev pub waits : List ℕ → ℕ → (ℕ → Bool) → ℕ → ℕ
+waits ts n done i = let j = firstOf (λ j. not (settled n done (slot ts i j))) 0 16 in cond (ltb j 16) (slot ts i j) n
+
 -- not done, and ready
 abbrev pub eligible : List ℕ → ℕ → (ℕ → Bool) → ℕ → Bool
 eligible ts n done i = not (done i) && ready ts n done i

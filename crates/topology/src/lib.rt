@@ -1,9 +1,11 @@
 // The order and the loops of a function's nodes, by indices alone.
 ghost use mathlib.Core.Path.{_≡_};
-ghost use mathlib.Core.Bool.{not};
-ghost use Prim.Native.Nat.{_+_, _-_, _<_, _≤_};
-ghost use lib.ListN.{length};
+ghost use mathlib.Core.Bool.{false, not};
+ghost use Prim.Native.Nat.{ℕ, _+_, _-_, _<_, _≤_};
+ghost use lib.Dec.{eqb};
+ghost use lib.ListN.{length, replicate};
 ghost use lib.Seq.{sets};
+ghost use Rattle.graph.specs.Look.{member};
 ghost use Rattle.topology.specs.Indices as Definition;
 ghost use Rattle.topology.specs.Indices.{firstOf, indexOrder, marked};
 ghost use Rattle.topology.specs.Paths.{onLoop, firstOnLoop};
@@ -30,10 +32,10 @@ fn settled(n: usize, taken: &[bool; 256], v: usize) -> bool
     if v < n { taken[v] } else { true }
 }
 
-// All that node i reads is taken.
-fn ready(targets: &[u16; 4096], n: usize, taken: &[bool; 256], i: usize) -> bool
+// The first node that node i waits for, or n.
+fn waits(targets: &[u16; 4096], n: usize, taken: &[bool; 256], i: usize) -> usize
     requires { ⌜ (n ≤ 256) × (i < n) ⌝ }
-    ensures { λ r. ⌜ r ≡ Definition.ready (now (targets .entry)) n (marked (now (taken .entry))) i ⌝ }
+    ensures { λ r. ⌜ r ≡ Definition.waits (now (targets .entry)) n (marked (now (taken .entry))) i ⌝ }
 {
     let mut j = 0;
     while j < 16 {
@@ -41,10 +43,22 @@ fn ready(targets: &[u16; 4096], n: usize, taken: &[bool; 256], i: usize) -> bool
         if settled(n, taken, v) {
             j += 1;
         } else {
-            return false;
+            return v;
         }
     }
-    true
+    n
+}
+
+// All that node i reads is taken.
+fn ready(targets: &[u16; 4096], n: usize, taken: &[bool; 256], i: usize) -> bool
+    requires { ⌜ (n ≤ 256) × (i < n) ⌝ }
+    ensures { λ r. ⌜ r ≡ Definition.ready (now (targets .entry)) n (marked (now (taken .entry))) i ⌝ }
+{
+    if waits(targets, n, taken, i) < n {
+        false
+    } else {
+        true
+    }
 }
 
 // Node i is not taken, and all that it reads is.
@@ -114,6 +128,58 @@ pub fn schedule(targets: &[u16; 4096], n: usize, order: &mut [u16; 256]) -> usiz
     count
 }
 
+// Takes every node that can be ordered; the answer is how many there are. From each node in turn it descends to what
+// that one waits for. A path that comes to a node that was pushed before is left: none of its nodes can be ordered.
+fn take_all(targets: &[u16; 4096], n: usize, taken: &mut [bool; 256]) -> usize
+    requires { ⌜ (n ≤ 256) × (now taken ≡ replicate 256 false) ⌝ }
+    ensures { λ r. ⌜ r ≡ length (indexOrder (now (targets .entry)) n) ⌝ }
+    ensures { λ r. ⌜ ((v : ℕ) → marked (now (taken .exit)) v ≡ member v (indexOrder (now (targets .entry)) n)) ⌝ }
+{
+    let mut pushed = [false; 256];
+    let mut stack = [0u16; 256];
+    let mut root = 0;
+    let mut depth = 0;
+    let mut count = 0;
+    while root < n {
+        if depth == 0 {
+            if pushed[root] {
+                root += 1;
+            } else {
+                pushed[root] = true;
+                stack[0] = root as u16;
+                depth = 1;
+            }
+        } else {
+            let v = wide(stack[depth - 1]);
+            let w = waits(targets, n, taken, v);
+            if w < n {
+                if pushed[w] {
+                    depth = 0;
+                } else {
+                    pushed[w] = true;
+                    stack[depth] = w as u16;
+                    depth += 1;
+                }
+            } else {
+                taken[v] = true;
+                count += 1;
+                depth -= 1;
+            }
+        }
+    }
+    count
+}
+
+// Every node can be ordered.
+pub fn orderable(targets: &[u16; 4096], n: usize) -> bool
+    requires { ⌜ n ≤ 256 ⌝ }
+    ensures { λ r. ⌜ r ≡ eqb (length (indexOrder (now (targets .entry)) n)) n ⌝ }
+{
+    let mut taken = [false; 256];
+    let count = take_all(targets, n, &mut taken);
+    count == n
+}
+
 // Marks the node that a slot holds and puts it at the queue's end, unless it is marked; the answer is the new end.
 fn visit(
     n: usize,
@@ -180,14 +246,18 @@ fn on_loop(targets: &[u16; 4096], n: usize, i: usize) -> bool
     seen[i]
 }
 
-// The first node from which following slots returns to it.
+// The first node from which following slots returns to it; a node that can be ordered is none.
 pub fn first_on_loop(targets: &[u16; 4096], n: usize) -> OnLoop
     requires { ⌜ n ≤ 256 ⌝ }
     ensures { λ r. ⌜ r ≡ firstOnLoop (now (targets .entry)) n ⌝ }
 {
+    let mut ordered = [false; 256];
+    take_all(targets, n, &mut ordered);
     let mut i = 0;
     while i < n {
-        if on_loop(targets, n, i) {
+        if ordered[i] {
+            i += 1;
+        } else if on_loop(targets, n, i) {
             return OnLoop::At(i);
         } else {
             i += 1;

@@ -1,51 +1,19 @@
 use borrow.Author.Needs.{needs}
 use Rattle.topology.proofs.ready.Statement.{statement}
 use Rattle.topology.proofs.ready.Tie as tie
-use mathlib.Core.Path.{_≡_, refl, sym, ap, _∙_}
-use mathlib.Core.Bool.{Bool}
-use mathlib.Core.List.{List}
-use Prim.Native.Nat.{ℕ, _≤_, _<_, _-_}
-use native.Mathlib.Omega.{arith}
-use Rattle.topology.specs.Indices.{allOf, slot, settled, marked}
-use Rattle.topology.proofs.Range.{all-hit, all-miss, all-end}
+use mathlib.Core.Path.{sym}
+use Rattle.topology.specs.Indices.{marked}
+use Rattle.topology.proofs.Descent.{waits-unready, waits-none}
 
--- slot j waits for nothing
-abbrev free : List ℕ → ℕ → List Bool → ℕ → ℕ → Bool
-free ts n taken i j = settled n (marked taken) (slot ts i j)
-
-abbrev Inv-loop : tie.InvT-loop
-Inv-loop targets n taken i j₀ j = (j ≤ 16) × (allOf (free targets n taken i) 0 16 ≡ allOf (free targets n taken i) j (16 - j))
-
-abbrev μ-loop : tie.MeasureT-loop
-μ-loop targets n taken i j₀ j = 16 - j
-
-loop-holds : tie.Need-loop-holds Inv-loop μ-loop
-loop-holds c = (omega arith, refl)
-
--- what `settled` answered is so of the slot
-answered : (c : tie.After-settled Inv-loop μ-loop) → let a = c .before .before .before .before .before .args in
-    free (a .targets .now) (a .n) (a .taken .now) (a .i) (c .before .before .before .before .loop .j) ≡ c .settled .result
-answered c =
-    let a = c .before .before .before .before .before .args in
-    ap (λ (v : ℕ). settled (a .n) (marked (a .taken .now)) v) (sym (c .before .wide .ensures)) ∙ sym (c .settled .ensures)
-
-loop-again : tie.Need-loop-again Inv-loop μ-loop
-loop-again c =
-    let l = c .before .before .before .before .before .loop in
-    let h : l .j < 16 = omega arith in
-    (search needs, l .inv .1 ∙ all-hit _ 16 (l .j) h (answered (c .before) ∙ c .if1 .taken))
-
-returns : tie.Need-returns Inv-loop μ-loop
+returns : tie.Need-returns
 returns c =
-    let l = c .before .before .before .before .before .loop in
-    let h : l .j < 16 = omega arith in
-    sym (l .inv .1 ∙ all-miss _ 16 (l .j) h (answered (c .before) ∙ c .if1 .left))
+    let a = c .before .before .args in
+    sym (waits-unready (a .targets .now) (a .n) (marked (a .taken .now)) (a .i) (c .before .waits .result) (c .before .waits .ensures) (c .if1 .taken))
 
-returns-2 : tie.Need-returns-2 Inv-loop μ-loop
-returns-2 c = let l = c .before .loop in sym (l .inv .1 ∙ all-end _ 16 (l .j) (c .loop-test .left))
+returns-2 : tie.Need-returns-2
+returns-2 c =
+    let a = c .before .before .args in
+    sym (waits-none (a .targets .now) (a .n) (marked (a .taken .now)) (a .i) (c .before .waits .result) (c .before .waits .ensures) (c .if1 .left))
 
 pub ready-spec : {M : Type 1} → statement M
-ready-spec =
-    tie.close
-    (tie.spec Inv-loop μ-loop loop-holds (λ c. search needs) (λ c. search needs) (λ c. search needs) (λ c. search needs) (λ c κs. search needs)
-    (λ c κs. search needs) (λ c. search needs) (λ c. search needs) loop-again returns returns-2)
+ready-spec = tie.close (tie.spec (λ c κs. search needs) returns returns-2)

@@ -1,0 +1,8 @@
+-- The laws of the resolver.
+pub mod Storing
+pub mod Rows
+pub mod Walking
+pub mod Referring
+pub mod Gathering
+pub mod Matching
+pub mod Scattering

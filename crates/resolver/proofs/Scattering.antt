@@ -1,0 +1,239 @@
+-- What was found for a group goes to the rows of its nodes; the groups in turn.
+use Prim.Native.Nat.{ℕ, zero, suc, _+_, _-_, _*_, _≤_, _<_}
+use mathlib.Core.Path.{_≡_, refl, sym, ap, _∙_, subst}
+use mathlib.Core.List.{List, [], _∷_, _++_, map, append-assoc}
+use mathlib.Core.Option.{some}
+use native.Mathlib.Omega.{arith}
+use native.Mathlib.Nat.{add-zero, zero-add, suc-add}
+use lib.ListN.{length, getD, length-append, length-map}
+use lib.Seq.{sets}
+use Rattle.graph.specs.Graph.{Ref, Node}
+use Rattle.graph.specs.Look.{reads}
+use Rattle.graph.specs.Read.{references}
+use Rattle.graph.proofs.Formed.{refs-length}
+use Rattle.reader.specs.Layout.{nodeAt, nodeEnd, nodesAt, nodePlace}
+use Rattle.reader.proofs.Passed.{place-next}
+use Rattle.topology.specs.Resolve.{target}
+use Rattle.resolver.specs.declared.Reads.{Reads}
+use Rattle.resolver.specs.declared.Group.{Group}
+use Rattle.resolver.specs.declared.Reached.{Reached}
+use Rattle.resolver.specs.Operands.{ReadsOf}
+use Rattle.resolver.specs.Slots.{padded, rowOf, rowsOf}
+use Rattle.resolver.specs.Groups.{idsOf, named, sought, entries, Gathered, FoundAll, Found, GroupDone}
+use Rattle.resolver.proofs.Storing.{sets-in, Run, run-start, run-part, run-done}
+use Rattle.resolver.proofs.Rows.{length-row, length-rows, length-nodes}
+use Rattle.resolver.proofs.Walking.{Passed, pass-step, left-next, left-none, left-all, rows-next, rows-none}
+
+-- ---- entries of an array
+
+entries-are : (g : ℕ → ℕ) (xs found : List ℕ) (k : ℕ) → ((r : ℕ) → r < length xs → getD found (k + r) 0 ≡ g (getD xs r 0)) → entries (length xs) found k ≡ map g xs
+unfolding entries
+entries-are g [] found k h = refl
+entries-are g (x ∷ xs) found k h =
+    let a : getD found k 0 ≡ g x = ap (λ (j : ℕ). getD found j 0) (sym (add-zero k)) ∙ h 0 (omega arith) in
+    let b : entries (length xs) found (k + 1) ≡ map g xs =
+    entries-are g xs found (k + 1) (λ r l. let z : k + 1 + r ≡ k + suc r = omega arith in ap (λ (j : ℕ). getD found j 0) z ∙ h (suc r) (omega arith)) in
+    ap (λ (y : ℕ). y ∷ entries (length xs) found (k + 1)) a ∙ ap (λ (ys : List ℕ). g x ∷ ys) b
+
+head-is : {a b : ℕ} {xs ys : List ℕ} → a ∷ xs ≡ b ∷ ys → a ≡ b
+head-is e = cc
+
+tail-is : {a b : ℕ} {xs ys : List ℕ} → a ∷ xs ≡ b ∷ ys → xs ≡ ys
+tail-is e = cc
+
+entries-split : (g : ℕ → ℕ) (xs ys found : List ℕ) (m : ℕ) → entries (length (xs ++ ys)) found m ≡ map g (xs ++ ys)
+    → (entries (length xs) found m ≡ map g xs) × (entries (length ys) found (m + length xs) ≡ map g ys)
+unfolding entries
+entries-split g [] ys found m h = (refl, ap (λ (k : ℕ). entries (length ys) found k) (add-zero m) ∙ h)
+entries-split g (x ∷ xs) ys found m h =
+    let (a, b) = entries-split g xs ys found (m + 1) (tail-is h) in
+    let z : m + suc (length xs) ≡ m + 1 + length xs = omega arith in
+    (ap (λ (y : ℕ). y ∷ entries (length xs) found (m + 1)) (head-is h) ∙ ap (λ (t : List ℕ). g x ∷ t) a, ap (λ (k : ℕ). entries (length ys) found k) z ∙ b)
+
+-- ---- from what was gathered and found
+
+pub found-start : (ns : List Node) (s : List ℕ) (at left : ℕ) (wanted₀ wanted found : List ℕ) (r : Group) → length wanted₀ ≡ 256 → Gathered s at left wanted₀ wanted r
+    → FoundAll ns wanted (r .refs) found → Found ns s at (r .nodes) found 0
+found-start ns s at left wanted₀ wanted found r e h f =
+    record {
+      fits = let a = h .size in let b = h .fits in omega (arith, a, b);
+      holds = entries-are (sought ns) ids found 0 (λ q l.
+          let a = h .size in
+          let b = h .fits in
+          let z : 0 + q ≡ q = zero-add q in
+          ap (λ (k : ℕ). getD found k 0) z ∙ f q (omega (arith, l, a)) ∙ ap (λ (w : ℕ). sought ns w) (stands q l));
+    }
+  where
+    ids : List ℕ
+    ids = named (nodesAt (r .nodes) s at)
+
+    stands : (q : ℕ) → q < length ids → getD wanted q 0 ≡ getD ids q 0
+    stands q l =
+        let a = h .size in
+        let b = h .fits in
+        ap (λ (w : List ℕ). getD w q 0) (h .ids) ∙ ap (λ (k : ℕ). getD (sets wanted₀ 0 ids) k 0) (sym (zero-add q)) ∙ sets-in ids wanted₀ 0 q l (omega (arith, a, b, e))
+
+-- ---- the nodes of a group in turn
+
+targets-are : (ns : List Node) (rs : List Ref) → map (sought ns) (idsOf rs) ≡ map (λ r. target ns (some r)) rs
+targets-are ns [] = refl
+targets-are ns (r ∷ rs) = ap (λ (xs : List ℕ). target ns (some r) ∷ xs) (targets-are ns rs)
+
+ids-length : (s : List ℕ) (p : ℕ) (r : Reads) → ReadsOf s p r → length (idsOf (reads (nodeAt s p))) ≡ r .count
+ids-length s p r h = length-map (reads (nodeAt s p)) (λ (x : Ref). x .node) ∙ ap length (h .refs) ∙ refs-length (r .count) s (r .first)
+
+row-is : (ns : List Node) (x : Node) (xs : List ℕ) → xs ≡ map (sought ns) (idsOf (reads x)) → padded 16 xs ≡ rowOf ns x
+unfolding rowOf
+row-is ns x xs e = ap (padded 16) (e ∙ targets-are ns (reads x))
+
+module _ (ns : List Node) (s found : List ℕ) where
+  -- what the first node has, and what the others have
+  abbrev Split : ℕ → ℕ → ℕ → ℕ → Reads → Type 0
+  Split n p p' m r =
+      (padded 16 (entries (r .count) found m) ≡ rowOf ns (nodeAt s p)) × (m + r .count ≤ 256) × Found ns s p' n found (m + r .count)
+
+  pub found-next : (count n p p' m : ℕ) (r : Reads) → Found ns s p (count - n) found m → n < count → ReadsOf s p r → p' ≡ nodeEnd s p → Split (count - (n + 1)) p p' m r
+  unfolding named
+  found-next count n p p' m r h l f e =
+      let whole : named (nodesAt (count - n) s p) ≡ here ++ rest = ap named (left-next s count p p' n l e) in
+      let c = ids-length s p r f in
+      let b : length (named (nodesAt (count - n) s p)) ≡ length here + length rest = ap length whole ∙ length-append here rest in
+      let (x, y) = entries-split (sought ns) here rest found m (subst (λ (xs : List ℕ). entries (length xs) found m ≡ map (sought ns) xs) whole (h .holds)) in
+      let d = h .fits in (
+        row-is ns (nodeAt s p) (entries (r .count) found m) (ap (λ (k : ℕ). entries k found m) (sym c) ∙ x),
+        omega (arith, b, c, d),
+        record {
+          fits = omega (arith, b, c, d);
+          holds = ap (λ (k : ℕ). entries (length rest) found (m + k)) (sym c) ∙ y;
+        },
+      )
+    where
+      here : List ℕ
+      here = idsOf (reads (nodeAt s p))
+
+      rest : List ℕ
+      rest = named (nodesAt (count - (n + 1)) s p')
+
+module _ (ns : List Node) (s : List ℕ) (left at nodes : ℕ) (found targets₀ : List ℕ) (i : ℕ) where
+  -- n nodes are passed, which have m references
+  pub record Scattering (targets : List ℕ) (p n m : ℕ) : Type 0 where
+    pub index : n ≤ nodes
+    pub pass : Passed s left p n
+    pub here : p ≡ nodePlace s at n
+    pub finds : Found ns s p (nodes - n) found m
+    pub run : Run (rowsOf ns (nodesAt nodes s at)) targets₀ (16 * i) targets (16 * (i + n)) (rowsOf ns (nodesAt (nodes - n) s p))
+
+  pub scatter-start : Passed s left at 0 → Found ns s at nodes found 0 → Scattering targets₀ at 0 0
+  unfolding nodePlace
+  scatter-start p f =
+      let z : nodes ≡ nodes - 0 = omega arith in
+      record {
+        index = omega arith;
+        pass = p;
+        here = refl;
+        finds = subst (λ (n : ℕ). Found ns s at n found 0) z f;
+        run = run-start (rowsOf ns (nodesAt nodes s at)) targets₀ (16 * i) (16 * (i + 0)) (rowsOf ns (nodesAt (nodes - 0) s at)) (omega arith) (ap (rowsOf ns) (left-all s nodes at));
+      }
+
+  pub scatter-step : (targets targets' : List ℕ) (p p' n m : ℕ) (r : Reads) → Scattering targets p n m → n < nodes → nodes ≤ left → ReadsOf s p r → p' ≡ nodeEnd s p
+      → targets' ≡ sets targets (16 * (i + n)) (padded 16 (entries (r .count) found m)) → Scattering targets' p' (n + 1) (m + r .count)
+  scatter-step targets targets' p p' n m r h l few f e et =
+      let (row, fit, on) = found-next ns s found nodes n p p' m r (h .finds) l f e in
+      let z = length-row ns (nodeAt s p) in
+      record {
+        index = omega arith;
+        pass = pass-step s left p p' n (h .pass) (omega arith) e;
+        here = e ∙ ap (nodeEnd s) (h .here) ∙ sym (place-next s n at);
+        finds = on;
+        run =
+            run-part (rowsOf ns (nodesAt nodes s at)) targets₀ (16 * i) targets targets' (16 * (i + n)) (16 * (i + (n + 1))) (rowOf ns (nodeAt s p))
+            (rowsOf ns (nodesAt (nodes - n) s p)) (rowsOf ns (nodesAt (nodes - (n + 1)) s p')) (h .run)
+            (rows-next ns (nodesAt (nodes - n) s p) (nodesAt (nodes - (n + 1)) s p') (nodeAt s p) (left-next s nodes p p' n l e))
+            (omega (arith, z)) (et ∙ ap (sets targets (16 * (i + n))) row);
+      }
+
+  pub scatter-done : (targets : List ℕ) (p n m : ℕ) → Scattering targets p n m → nodes ≤ n → (p ≡ nodePlace s at nodes) × (targets ≡ sets targets₀ (16 * i) (rowsOf ns (nodesAt nodes s at)))
+  scatter-done targets p n m h l =
+      let j = h .index in
+      let z : n ≡ nodes = omega arith in (
+        h .here ∙ ap (nodePlace s at) z,
+        run-done (rowsOf ns (nodesAt nodes s at)) targets₀ (16 * i) targets (16 * (i + n)) (rowsOf ns (nodesAt (nodes - n) s p)) (h .run)
+            (rows-none ns (nodesAt (nodes - n) s p) (left-none s nodes p n l)),
+      )
+
+-- ---- the groups in turn
+
+rows-split : (ns : List Node) (s : List ℕ) (a b at : ℕ) → rowsOf ns (nodesAt (a + b) s at) ≡ rowsOf ns (nodesAt a s at) ++ rowsOf ns (nodesAt b s (nodePlace s at a))
+unfolding rowsOf nodesAt nodePlace
+rows-split ns s zero b at = ap (λ (k : ℕ). rowsOf ns (nodesAt k s at)) (zero-add b)
+rows-split ns s (suc a) b at =
+    ap (λ (k : ℕ). rowsOf ns (nodesAt k s at)) (suc-add a b)
+    ∙ ap (λ (xs : List ℕ). rowOf ns (nodeAt s at) ++ xs) (rows-split ns s a b (nodeEnd s at))
+    ∙ sym (append-assoc (rowOf ns (nodeAt s at)) (rowsOf ns (nodesAt a s (nodeEnd s at))) (rowsOf ns (nodesAt b s (nodePlace s (nodeEnd s at) a))))
+
+pass-many : (s : List ℕ) (count at i k : ℕ) → Passed s count at i → i + k ≤ count → Passed s count (nodePlace s at k) (i + k)
+unfolding nodePlace
+pass-many s count at i zero h l = rw add-zero h
+pass-many s count at i (suc k) h l =
+    let z : i + 1 + k ≡ i + suc k = omega arith in
+    subst (Passed s count (nodePlace s (nodeEnd s at) k)) z (pass-many s count (nodeEnd s at) (i + 1) k (pass-step s count at (nodeEnd s at) i h (omega arith) refl) (omega arith))
+
+module _ (s : List ℕ) (first count : ℕ) (targets₀ : List ℕ) where
+  abbrev ns : List Node
+  ns = nodesAt count s first
+
+  -- the rows of the nodes before i are done
+  pub record Resolving (targets : List ℕ) (at i : ℕ) : Type 0 where
+    pub pass : Passed s count at i
+    pub run : Run (rowsOf ns ns) targets₀ 0 targets (16 * i) (rowsOf ns (nodesAt (count - i) s at))
+
+  pub resolve-start : Passed s count first 0 → Resolving targets₀ first 0
+  resolve-start p =
+      record {
+        pass = p;
+        run = run-start (rowsOf ns ns) targets₀ 0 (16 * 0) (rowsOf ns (nodesAt (count - 0) s first)) refl (ap (rowsOf ns) (left-all s count first));
+      }
+
+  pub resolve-step : (targets targets' : List ℕ) (at i : ℕ) (r : Reached) → Resolving targets at i → GroupDone s first count at i targets targets' r
+      → Resolving targets' (r .at) (r .index)
+  resolve-step targets targets' at i r h d =
+      record {
+        pass = subst (λ (p : ℕ). Passed s count p (r .index)) (sym (d .place)) (subst (Passed s count (nodePlace s at k)) whole (pass-many s count at i k (h .pass) (omega (arith, whole, most))));
+        run =
+            run-part (rowsOf ns ns) targets₀ 0 targets targets' (16 * i) (16 * r .index) (rowsOf ns (nodesAt k s at)) (rowsOf ns (nodesAt (count - i) s at)) (rowsOf ns (nodesAt (count - r .index) s (r .at))) (h .run)
+            rows (omega (arith, whole, size)) (d .rows);
+      }
+    where
+      k : ℕ
+      k = r .index - i
+
+      most : r .index ≤ count
+      most = d .most
+
+      whole : i + k ≡ r .index
+      whole = let o = d .on in omega arith
+
+      size : length (rowsOf ns (nodesAt k s at)) ≡ 16 * k
+      size = length-rows ns (nodesAt k s at) ∙ ap (λ (n : ℕ). 16 * n) (length-nodes k s at)
+
+      rows : rowsOf ns (nodesAt (count - i) s at) ≡ rowsOf ns (nodesAt k s at) ++ rowsOf ns (nodesAt (count - r .index) s (r .at))
+      rows =
+          let z : count - i ≡ k + (count - r .index) = omega (arith, whole, most) in
+          ap (λ (n : ℕ). rowsOf ns (nodesAt n s at)) z ∙ rows-split ns s k (count - r .index) at
+          ∙ ap (λ (p : ℕ). rowsOf ns (nodesAt k s at) ++ rowsOf ns (nodesAt (count - r .index) s p)) (sym (d .place))
+
+  pub resolve-done : (targets : List ℕ) (at i : ℕ) → Resolving targets at i → count ≤ i → targets ≡ sets targets₀ 0 (rowsOf ns ns)
+  resolve-done targets at i h l =
+      run-done (rowsOf ns ns) targets₀ 0 targets (16 * i) (rowsOf ns (nodesAt (count - i) s at)) (h .run) (rows-none ns (nodesAt (count - i) s at) (left-none s count at i l))
+
+-- the group's answer
+pub group-done : (s : List ℕ) (first count at i : ℕ) (p q : List ℕ) (nodes end : ℕ) → 0 < nodes → nodes ≤ count - i → i < count → end ≡ nodePlace s at nodes
+    → q ≡ sets p (16 * i) (rowsOf (nodesAt count s first) (nodesAt nodes s at)) → GroupDone s first count at i p q (record { at = end; index = i + nodes })
+group-done s first count at i p q nodes end a b c e f =
+    let z : nodes ≡ i + nodes - i = omega arith in
+    record {
+      on = omega arith;
+      most = omega arith;
+      place = e ∙ ap (nodePlace s at) z;
+      rows = f ∙ ap (λ (n : ℕ). sets p (16 * i) (rowsOf (nodesAt count s first) (nodesAt n s at))) z;
+    }

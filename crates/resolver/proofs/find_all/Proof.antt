@@ -1,0 +1,92 @@
+use borrow.Author.Needs.{needs}
+use Prim.Native.Nat.{_+_, _-_, _≤_, _<_}
+use mathlib.Core.Path.{ap, _∙_}
+use native.Mathlib.Omega.{arith}
+use lib.ListN.{length, length-replicate}
+use Rattle.reader.specs.Find.{ReadsNode}
+use Rattle.reader.proofs.Passed.{head-fits}
+use Rattle.resolver.proofs.Walking.{pass-here, kind-few, size-here}
+use Rattle.resolver.proofs.Matching.{Matching, match-start, match-step, match-done}
+use Rattle.resolver.proofs.find_all.Statement.{statement}
+use Rattle.resolver.proofs.find_all.Tie as tie
+
+abbrev Inv-loop : tie.InvT-loop
+Inv-loop s first count wanted m found₀ sizes at₀ i₀ found at i = Matching s first count wanted m found at i
+
+abbrev μ-loop : tie.MeasureT-loop
+μ-loop s first count wanted m found₀ sizes at₀ i₀ found at i = count - i
+
+mark-requires : tie.Need-mark-requires Inv-loop μ-loop
+mark-requires c κs =
+    let b = c .before .before in
+    (b .pre .1 .0, ap length (b .pre .1 .1) ∙ length-replicate 256 (b .args .count))
+
+loop-holds : tie.Need-loop-holds Inv-loop μ-loop
+loop-holds c =
+    let b = c .before .before .before .before in
+    let a = b .args in
+    match-start (a .s .now) (a .first) (a .count) (a .wanted .now) (a .m) (a .found .now) _ (b .pre .0 .0) (b .pre .1 .0) (b .pre .1 .1) (c .before .mark .ensures)
+
+-- the node here was read
+here : (d : tie.In-loop Inv-loop μ-loop) → ReadsNode (d .before .before .before .before .before .before .args .s .now) (d .before .loop .at)
+here d =
+    let a = d .before .before .before .before .before .before .args in
+    let l = d .before .loop in
+    pass-here (a .s .now) (a .count) (l .at) (l .i) (l .inv .pass) (d .loop-test .taken)
+
+head : (d : tie.In-loop Inv-loop μ-loop) → d .before .loop .at + 4 ≤ length (d .before .before .before .before .before .before .args .s .now)
+head d = head-fits (d .before .before .before .before .before .before .args .s .now) (d .before .loop .at) (here d)
+
+mark-requires-2 : tie.Need-mark-requires-2 Inv-loop μ-loop
+mark-requires-2 c κs =
+    let d = c .before .before in
+    (d .before .before .before .before .before .before .pre .1 .0, d .before .loop .inv .size)
+
+few : (c : tie.After-wide Inv-loop μ-loop) → c .wide .result < 25
+few c =
+    let d = c .before .before .before .before .before in
+    kind-few (d .before .before .before .before .before .before .args .s .now) (d .before .loop .at) (c .wide .result) (here d) (c .wide .ensures .0)
+
+end-by-requires : tie.Need-end-by-requires Inv-loop μ-loop
+end-by-requires c κs =
+    let d = c .before .before .before .before .before in
+    let n = d .before .before .node-sizes in
+    (here d, size-here (d .before .before .before .before .before .before .args .s .now) (d .before .loop .at) (c .wide .result) (here d) (c .wide .ensures .0) (n .result) (n .ensures))
+
+loop-again : tie.Need-loop-again Inv-loop μ-loop
+loop-again c =
+    let k = c .before .before .before in
+    let u = k .before in
+    let d = u .before .before in
+    let a = d .before .before .before .before .before .before .args in
+    let l = d .before .loop in
+    match-step (a .s .now) (a .first) (a .count) (a .wanted .now) (a .m) (l .found) _ (l .at) (c .end-by .result) (l .i) (u .u16-at .result) (l .inv) (d .loop-test .taken) (u .u16-at .ensures) (k .mark2 .ensures) (c .end-by .ensures)
+
+returns : tie.Need-returns Inv-loop μ-loop
+returns c =
+    let b = c .before .before .before .before .before .before in
+    let a = b .args in
+    let l = c .before .loop in
+    match-done (a .s .now) (a .first) (a .count) (a .wanted .now) (a .m) (l .found) (l .at) (l .i) (l .inv) (c .loop-test .left) (b .pre .0 .0) (b .pre .0 .2)
+
+pub find-all-spec : {M : Type 1} → statement M
+find-all-spec =
+    tie.close
+    (tie.spec
+    Inv-loop
+    μ-loop
+    mark-requires
+    (λ c κs. search needs)
+    loop-holds
+    (λ c κs. omega (arith, head (c .before)))
+    (λ c. let d = c .before .before in omega (arith, d .loop-test .taken, d .before .before .before .before .before .before .pre .0 .1))
+    mark-requires-2
+    (λ c. omega (arith, head (c .before .before .before)))
+    (λ c. omega (arith, head (c .before .before .before .before)))
+    (λ c κs. search needs)
+    (λ c. omega (arith, few c))
+    end-by-requires
+    (λ c. omega (arith, c .before .before .before .before .before .before .loop-test .taken))
+    (λ c. omega (arith, c .before .before .before .before .before .before .loop-test .taken))
+    loop-again
+    returns)

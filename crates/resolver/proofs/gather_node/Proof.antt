@@ -1,0 +1,64 @@
+use Prim.Native.Nat.{ℕ, _+_, _-_, _*_, _≤_}
+use mathlib.Core.Path.{_≡_, sym, ap, _∙_}
+use mathlib.Core.List.{_∷_}
+use native.Mathlib.Omega.{arith}
+use Rattle.graph.specs.Read.{references}
+use Rattle.resolver.specs.Groups.{idsOf}
+use Rattle.resolver.proofs.Storing.{Run, run-start, run-step, run-done}
+use Rattle.resolver.proofs.Gathering.{ids-all, ids-next, ids-none}
+use Rattle.resolver.proofs.gather_node.Statement.{statement}
+use Rattle.resolver.proofs.gather_node.Tie as tie
+
+abbrev Inv-loop : tie.InvT-loop
+Inv-loop s first n wanted₀ m q₀ j₀ wanted q j =
+    (j ≤ n) × (q ≡ first + 3 * j) × Run (idsOf (references n s first)) wanted₀ m wanted (m + j) (idsOf (references (n - j) s q))
+
+abbrev μ-loop : tie.MeasureT-loop
+μ-loop s first n wanted₀ m q₀ j₀ wanted q j = n - j
+
+loop-holds : tie.Need-loop-holds Inv-loop μ-loop
+loop-holds c =
+    let a = c .before .args in
+    let s = a .s .now in (
+      omega arith,
+      omega arith,
+      run-start (idsOf (references (a .n) s (a .first))) (a .wanted .now) (a .m) (a .m + 0) (idsOf (references (a .n - 0) s (a .first))) (omega arith) (ids-all s (a .n) (a .first)),
+    )
+
+loop-again : tie.Need-loop-again Inv-loop μ-loop
+loop-again c =
+    let d = c .before in
+    let a = d .before .before .before .args in
+    let s = a .s .now in
+    let l = d .before .loop in
+    let rest = idsOf (references (a .n - (l .j + 1)) s (l .q + 3)) in (
+      omega arith,
+      omega arith,
+      run-step (idsOf (references (a .n) s (a .first))) (a .wanted .now) (a .m) (l .wanted) (a .m + l .j) (a .m + (l .j + 1)) (c .u16-at .result)
+          (idsOf (references (a .n - l .j) s (l .q))) rest (l .inv .2) (ids-next s (a .n) (l .j) (l .q) (d .loop-test .taken) ∙ ap (λ (x : ℕ). x ∷ rest) (sym (c .u16-at .ensures))) (omega arith),
+    )
+
+returns : tie.Need-returns Inv-loop μ-loop
+returns c =
+    let a = c .before .before .before .args in
+    let s = a .s .now in
+    let l = c .before .loop in
+    run-done (idsOf (references (a .n) s (a .first))) (a .wanted .now) (a .m) (l .wanted) (a .m + l .j) (idsOf (references (a .n - l .j) s (l .q))) (l .inv .2)
+    (ids-none s (a .n) (l .j) (l .q) (c .loop-test .left))
+
+pub gather-node-spec : {M : Type 1} → statement M
+gather-node-spec =
+    tie.close
+    (tie.spec
+    Inv-loop
+    μ-loop
+    loop-holds
+    (λ c κs. omega (arith, c .loop-test .taken, c .before .loop .inv .1, c .before .before .before .pre .0))
+    (λ c. omega (arith, c .before .loop-test .taken, c .before .before .before .before .pre .1))
+    (λ c. omega (arith, c .before .loop-test .taken, c .before .before .before .before .pre .1))
+    (λ c. omega (arith, c .before .loop-test .taken, c .before .before .before .before .pre .1))
+    (λ c. omega (arith, c .before .loop-test .taken, c .before .before .loop .inv .1, c .before .before .before .before .pre .0))
+    (λ c. omega (arith, c .before .loop-test .taken, c .before .before .before .before .pre .1))
+    (λ c. omega (arith, c .before .loop-test .taken))
+    loop-again
+    returns)
