@@ -2,5 +2,5 @@ pub mod Fresh
 pub mod Calls
 pub mod AtPorts
 pub mod Wiring
-pub mod Slotting
 pub mod Whole
+pub mod Slotting

@@ -1,7 +1,7 @@
 -- A function's checks together, the functions in turn, and the verdict.
-use Prim.Native.Nat.{ℕ, zero, suc, _+_, _-_, _*_, _<_, _≤_}
+use Prim.Native.Nat.{ℕ, zero, suc, _+_, _-_, _<_, _≤_}
 use mathlib.Core.Path.{_≡_, refl, ap, sym, _∙_, subst}
-use mathlib.Core.Bool.{Bool, true, false, not, _&&_}
+use mathlib.Core.Bool.{Bool, true, false, not}
 use mathlib.Core.List.{List, [], _∷_, reverse}
 use mathlib.Core.Option.{Option, none, some}
 use native.Mathlib.Omega.{arith}
@@ -12,8 +12,8 @@ use lib.ListN.{length, getD, set, getElem?}
 use lib.Seq.{getD-set-same, getD-set-other}
 use borrow.Author.Tests.{leb-true, eqb-true, eqb-false}
 use Rattle.ports.specs.Kinds.{kindOf}
-use Rattle.graph.specs.Outcome.{Outcome, ok, fault, _>>=_, _>>_, need, each}
-use Rattle.graph.specs.Bytes.{byte, Bytes}
+use Rattle.graph.specs.Outcome.{Outcome, ok, fault, _>>_, each}
+use Rattle.graph.specs.Bytes.{byte, u16, Bytes}
 use Rattle.graph.specs.Graph.{Payload, consts, refs, calls, Node, Function}
 use Rattle.graph.specs.Look.{findFunction, found, reads, readsOf}
 use Rattle.graph.specs.Read.{version1, Part, functions, parse}
@@ -32,27 +32,27 @@ use Rattle.reader.specs.Records.{seen}
 use Rattle.reader.specs.declared.Seen.{Seen}
 use Rattle.reader.proofs.Rows.{operands-few}
 use Rattle.reader.proofs.Standing.{function-read, parse-read, earlier-all}
-use Rattle.reader.proofs.Passed.{function-holds}
+use Rattle.reader.proofs.Passed.{place-next, function-holds}
+use Rattle.resolver.proofs.Rows.{length-nodes}
 use Rattle.checker.specs.declared.Head.{Head}
 use Rattle.checker.specs.Answers.{callsChecked, outputsChecked, nodeChecked}
 use Rattle.checker.specs.Slots.{ReadsFunctions, RowsAre, Ready}
 
 -- ---- the nodes by their indices
 
-length-nodes : (n : ℕ) (s : List ℕ) (at : ℕ) → length (nodesAt n s at) ≡ n
-unfolding nodesAt
-length-nodes zero s at = refl
-length-nodes (suc n) s at = ap suc (length-nodes n s (nodeEnd s at))
-
 pub nodes-count : (s : List ℕ) (f : ℕ) → length (functionAt s f .nodes) ≡ nodeCount s f
 unfolding functionAt
 nodes-count s f = length-nodes (nodeCount s f) s (nodesPlace s f)
 
-pub node-at : (n : ℕ) (s : List ℕ) (at i : ℕ) → i < n → getElem? (nodesAt n s at) i ≡ some (nodeAt s (nodePlace s at i))
+node-at : (n : ℕ) (s : List ℕ) (at i : ℕ) → i < n → getElem? (nodesAt n s at) i ≡ some (nodeAt s (nodePlace s at i))
 unfolding nodesAt nodePlace
 node-at zero s at i h = absurd (not-suc-le-zero h)
 node-at (suc n) s at zero h = refl
 node-at (suc n) s at (suc i) h = node-at n s (nodeEnd s at) i (omega arith)
+
+pub node-of : (s : List ℕ) (f i : ℕ) → i < nodeCount s f → getElem? (functionAt s f .nodes) i ≡ some (nodeAt s (nodePlace s (nodesPlace s f) i))
+unfolding functionAt
+node-of s f i h = node-at (nodeCount s f) s (nodesPlace s f) i h
 
 at-place : (n : ℕ) (s : List ℕ) (at i : ℕ) (x : Node) → getElem? (nodesAt n s at) i ≡ some x → x ≡ nodeAt s (nodePlace s at i)
 unfolding nodesAt nodePlace
@@ -175,6 +175,19 @@ module _ (s : List ℕ) (small : Bytes s) (k : ℕ) (f : Head) (ts : List ℕ) w
         named = λ n i. is-each FormedNode (fn .nodes) (fm .nodes) n i .id;
       }
 
+-- ---- where a function ends
+
+module _ (s : List ℕ) (at : ℕ) where
+  pub end-none : nodeCount s at ≡ 0 → nodesPlace s at ≡ functionEnd s at
+  unfolding functionEnd nodePlace
+  end-none e = sym (ap (nodePlace s (nodesPlace s at)) e)
+
+  pub end-last : 0 < nodeCount s at → nodeEnd s (nodePlace s (nodesPlace s at) (nodeCount s at - 1)) ≡ functionEnd s at
+  unfolding functionEnd
+  end-last l =
+      let m : nodeCount s at - 1 + 1 ≡ nodeCount s at = omega arith in
+      sym (place-next s (nodeCount s at - 1) (nodesPlace s at)) ∙ ap (nodePlace s (nodesPlace s at)) m
+
 -- ---- the functions in turn
 
 abbrev pub ReadsFrom : ℕ → List ℕ → ℕ → Type 0
@@ -256,10 +269,11 @@ module _ (s : List ℕ) where
   pub record Whole : Type 0 where
     pub size : 8 ≤ length s
     pub few : byte s 5 ≤ 16
+    pub short : length s < 65536
     pub reads : ReadsFunctions (byte s 5) s
 
-  pub whole : Seen.Good ≡ seen (parse version1 s) → Whole
-  whole e =
+  pub whole : Bytes s → Seen.Good ≡ seen (parse version1 s) → Whole
+  whole small e =
       let (fs, q) = read-ok (parse version1 s) e in
       let (t1, e1) = passed _ _ _ _ _ q in
       let (t2, e2) = passed _ _ _ _ _ e1 in
@@ -267,7 +281,15 @@ module _ (s : List ℕ) where
       let (t4, e4) = passed _ _ _ _ _ e3 in
       let (t5, e5) = passed _ _ _ _ _ e4 in
       let (p, ep, e6) = took _ _ _ e5 in
-      record { size = leb-true _ _ t1; few = leb-true _ _ (and-inv (leb 1 (byte s 5)) (leb (byte s 5) 16) t5 .1); reads = (p, ep) }
+      let l : u16 s 6 ≡ length s = eqb-true _ _ t4 in
+      let a = small 6 in
+      let b = small 7 in
+      record {
+        size = leb-true _ _ t1;
+        few = leb-true _ _ (and-inv (leb 1 (byte s 5)) (leb (byte s 5) 16) t5 .1);
+        short = omega (arith, l, a, b);
+        reads = (p, ep);
+      }
 
   module _ (e : Seen.Good ≡ seen (parse version1 s)) where
     opened : table s ≡ (judgeAll [] (functionsAt (byte s 5) s 8) >> ok (earlier 8 s (byte s 5)))

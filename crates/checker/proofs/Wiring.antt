@@ -1,90 +1,72 @@
 -- 11 and 12: references one at a time.
-use Prim.Native.Nat.{ℕ, zero, suc, _+_, _-_, _*_, _<_, _≤_}
-use mathlib.Core.Path.{_≡_, refl, ap, sym, _∙_, subst}
-use mathlib.Core.Bool.{Bool, true, false, _&&_, cond}
+use Prim.Native.Nat.{ℕ, zero, suc, _+_, _-_, _<_, _≤_}
+use mathlib.Core.Path.{_≡_, refl, ap, sym, _∙_}
+use mathlib.Core.Bool.{false}
 use mathlib.Core.List.{List, [], _∷_}
 use mathlib.Core.Option.{Option, none, some}
 use native.Mathlib.Omega.{arith}
 use native.Mathlib.Nat.{not-suc-le-zero}
 use native.Mathlib.Numerals.{add-one}
 use lib.Dec.{eqb}
-use lib.ListN.{length, getD, getElem?, drop, replicate, getD-replicate}
+use lib.ListN.{length, getD, getElem?, drop, getD-replicate}
 use lib.Seq.{drop-cons}
 use borrow.Author.Tests.{eq-eqb, ne-eqb, eqb-true}
 use Rattle.ports.specs.declared.Form.{Form}
 use Rattle.ports.specs.declared.Form.the-variants.{Absent, Constant, References, Call}
 use Rattle.ports.specs.declared.Ports.{Ports}
-use Rattle.ports.specs.Ports.{portsOf, formOf, types, own, takesRow}
+use Rattle.ports.specs.Ports.{portsOf, formOf, types, takesRow}
 use Rattle.ports.proofs.Laws.{length-types}
-use Rattle.graph.specs.Outcome.{Outcome, ok, fault, need, each}
+use Rattle.graph.specs.Outcome.{ok, fault, need}
 use Rattle.graph.specs.Bytes.{byte, u16}
-use Rattle.graph.specs.Graph.{Ref, Payload, Node, Output, Function}
-use Rattle.graph.specs.Look.{findNode, findFunction, found, reads, readsOf}
+use Rattle.graph.specs.Graph.{Function}
+use Rattle.graph.specs.Look.{findNode, findFunction, reads, readsOf}
 use Rattle.graph.specs.Read.{version1, reference, references}
-use Rattle.graph.specs.Judge.{callOk, inputsOf, refType, refOk, refsOk, wantsOf, givesOf, givesAt}
-use Rattle.graph.proofs.Loops.{and-inv}
-use Rattle.graph.proofs.Steps.{takes, stops, goes, halts, needs, needed}
-use Rattle.topology.specs.Resolve.{indexOf, target}
+use Rattle.graph.specs.Judge.{callOk, inputsOf, refType, refOk, wantsOf, givesOf}
+use Rattle.graph.proofs.Steps.{takes, stops, goes, halts, needed}
 use Rattle.reader.specs.Layout.{kindAt, payloadAt, nodeAt, nodesAt, nodeCount, nodesPlace, inputsAt, outputsAt, functionAt, earlier}
-use Rattle.reader.specs.Find.{nodeFound}
-use Rattle.reader.specs.declared.Found.the-variants.{At, Nothing}
 use Rattle.checker.specs.declared.PortType.{PortType}
-use Rattle.checker.specs.declared.Resolved.{Resolved}
 use Rattle.checker.specs.declared.Want.{Want}
 use Rattle.checker.specs.declared.Want.the-variants.{Types, Inputs}
-use Rattle.checker.specs.Answers.{portOf, resolvedAs, resolvedAt, wantsList, outputsChecked, referencesChecked, nodeChecked}
+use Rattle.checker.specs.Answers.{portOf, typeAt, wantsList, outputsChecked, referencesChecked, nodeChecked}
 use Rattle.checker.proofs.Calls.{inputs-length, call-some, call-none}
 
--- ---- one reference, resolved
+-- ---- one reference
 
 pub nodes-of : (s : List ℕ) (f : ℕ) → functionAt s f .nodes ≡ nodesAt (nodeCount s f) s (nodesPlace s f)
 unfolding functionAt
 nodes-of s f = refl
 
-pub index-is : (ns : List Node) (id i j p : ℕ) → nodeFound i id ns ≡ At j p → j ≡ i + indexOf id ns
-index-is [] id i j p e = let z : _≡_ {A = ℕ} 0 1 = cc in absurd (omega arith)
-index-is (n ∷ ns) id i j p e = pickOne (eqb (n .id) id) (λ w. index-is ns id (i + 1) j p w) e
-  where
-    pickOne :
-        (b : Bool) → (nodeFound (i + 1) id ns ≡ At j p → j ≡ i + 1 + indexOf id ns) → cond b (At i (n .place)) (nodeFound (i + 1) id ns) ≡ At j p
-        → j ≡ i + cond b 0 (suc (indexOf id ns))
-    pickOne true ih w = let a : i ≡ j = cc in omega arith
-    pickOne false ih w = let a = ih w in omega arith
-
 module _ (s : List ℕ) (k f at : ℕ) where
   abbrev early : List Function
   early = earlier (version1 .header) s k
 
-  pub input-resolved : u16 s at ≡ 0 → resolvedAt s k f at ≡ resolvedAs (portOf (getElem? (functionAt s f .inputs) (byte s (at + 2)))) 256
-  input-resolved e = rw (eq-eqb (u16 s at) 0 e)
+  pub input-typed : u16 s at ≡ 0 → typeAt s k f at ≡ portOf (getElem? (functionAt s f .inputs) (byte s (at + 2)))
+  input-typed e = rw (eq-eqb (u16 s at) 0 e)
 
-  pub node-resolved :
-      (p i : ℕ) → (u16 s at ≡ 0 → ⊥) → findNode (u16 s at) (functionAt s f .nodes) ≡ some (nodeAt s p) → i ≡ indexOf (u16 s at) (functionAt s f .nodes)
-      → resolvedAt s k f at ≡ resolvedAs (portOf (getElem? (givesOf (earlier (version1 .header) s k) (nodeAt s p) (nodeAt s p .payload)) (byte s (at + 2)))) i
-  node-resolved p i d e q = rw (ne-eqb (u16 s at) 0 d, e, q)
+  pub node-typed :
+      (p : ℕ) → (u16 s at ≡ 0 → ⊥) → findNode (u16 s at) (functionAt s f .nodes) ≡ some (nodeAt s p)
+      → typeAt s k f at ≡ portOf (getElem? (givesOf (earlier (version1 .header) s k) (nodeAt s p) (nodeAt s p .payload)) (byte s (at + 2)))
+  node-typed p d e = rw (ne-eqb (u16 s at) 0 d, e)
 
-  pub none-resolved : (u16 s at ≡ 0 → ⊥) → findNode (u16 s at) (functionAt s f .nodes) ≡ none → resolvedAt s k f at ≡ Resolved.Nothing
-  none-resolved d e = rw (ne-eqb (u16 s at) 0 d, e)
+  pub none-typed : (u16 s at ≡ 0 → ⊥) → findNode (u16 s at) (functionAt s f .nodes) ≡ none → typeAt s k f at ≡ PortType.Nothing
+  none-typed d e = rw (ne-eqb (u16 s at) 0 d, e)
 
   -- ---- what the answer tells of 11 and 12
 
-  nothing-is : (o : Option ℕ) (i : ℕ) → resolvedAs (portOf o) i ≡ Resolved.Nothing → o ≡ none
-  nothing-is none i e = refl
-  nothing-is (some t) i e = let z : _≡_ {A = ℕ} 0 1 = cc in absurd (omega arith)
+  nothing-is : (o : Option ℕ) → portOf o ≡ PortType.Nothing → o ≡ none
+  nothing-is none e = refl
+  nothing-is (some t) e = let z : _≡_ {A = ℕ} 0 1 = cc in absurd (omega arith)
 
-  some-is : (o : Option ℕ) (i t v : ℕ) → resolvedAs (portOf o) i ≡ Resolved.Is t v → (o ≡ some t) × (v ≡ i)
-  some-is none i t v e = let z : _≡_ {A = ℕ} 0 1 = cc in absurd (omega arith)
-  some-is (some u) i t v e = (cc, cc)
+  some-is : (o : Option ℕ) (t : ℕ) → portOf o ≡ PortType.Is t → o ≡ some t
+  some-is none t e = let z : _≡_ {A = ℕ} 0 1 = cc in absurd (omega arith)
+  some-is (some u) t e = cc
 
-  pub lost : (w : ℕ) → resolvedAt s k f at ≡ Resolved.Nothing → refOk (earlier (version1 .header) s k) (functionAt s f) w (reference s at) ≡ fault 11 at
-  lost w e = rw (nothing-is (refType early (functionAt s f) (reference s at)) _ e)
+  pub lost : (w : ℕ) → typeAt s k f at ≡ PortType.Nothing → refOk (earlier (version1 .header) s k) (functionAt s f) w (reference s at) ≡ fault 11 at
+  lost w e = rw (nothing-is (refType early (functionAt s f) (reference s at)) e)
 
-  module _ (t v : ℕ) (e : resolvedAt s k f at ≡ Resolved.Is t v) where
+  module _ (t : ℕ) (e : typeAt s k f at ≡ PortType.Is t) where
     type-is : refType early (functionAt s f) (reference s at) ≡ some t
-    type-is = some-is (refType early (functionAt s f) (reference s at)) (target (functionAt s f .nodes) (some (reference s at))) t v e .0
-
-    pub index-of : v ≡ target (functionAt s f .nodes) (some (reference s at))
-    index-of = some-is (refType early (functionAt s f) (reference s at)) (target (functionAt s f .nodes) (some (reference s at))) t v e .1
+    type-is = some-is (refType early (functionAt s f) (reference s at)) t e
 
     pub mistyped : (w : ℕ) → (t ≡ w → ⊥) → refOk (earlier (version1 .header) s k) (functionAt s f) w (reference s at) ≡ fault 12 at
     unfolding need
@@ -185,11 +167,11 @@ module _ (s : List ℕ) (k f at : ℕ) where
   unfolding nodeAt
   reads-form h e = ap (λ (x : Form). readsOf (payloadAt x (kindAt s at) s (at + 4))) e
 
-  pub absent-node : formOf (kindAt s at) ≡ Absent → (nodeChecked s k f (nodeAt s at) ≡ ok tt) × (reads (nodeAt s at) ≡ [])
-  absent-node e = (by-form Absent e ∙ no-references s k f (wantsOf (earlier (version1 .header) s k) (nodeAt s at) (payloadAt Absent (kindAt s at) s (at + 4))), reads-form Absent e)
+  pub absent-node : formOf (kindAt s at) ≡ Absent → nodeChecked s k f (nodeAt s at) ≡ ok tt
+  absent-node e = by-form Absent e ∙ no-references s k f (wantsOf (earlier (version1 .header) s k) (nodeAt s at) (payloadAt Absent (kindAt s at) s (at + 4)))
 
-  pub constant-node : formOf (kindAt s at) ≡ Constant → (nodeChecked s k f (nodeAt s at) ≡ ok tt) × (reads (nodeAt s at) ≡ [])
-  constant-node e = (by-form Constant e, reads-form Constant e)
+  pub constant-node : formOf (kindAt s at) ≡ Constant → nodeChecked s k f (nodeAt s at) ≡ ok tt
+  constant-node e = by-form Constant e
 
   pub references-node :
       (row : Ports) → row ≡ portsOf (kindAt s at) → formOf (kindAt s at) ≡ References

@@ -1,7 +1,7 @@
 -- What the checks answer, by the graph's own judging.
 use Prim.Native.Nat.{ℕ, zero, suc, _+_, _≤_}
 use mathlib.Core.Bool.{Bool, true, false, cond}
-use mathlib.Core.List.{List, [], _∷_}
+use mathlib.Core.List.{List}
 use mathlib.Core.Option.{Option, none, some}
 use lib.Dec.{eqb}
 use lib.ListN.{length, getD}
@@ -11,11 +11,9 @@ use Rattle.graph.specs.Graph.{Ref, Node, Output, Function}
 use Rattle.graph.specs.Look.{reads}
 use Rattle.graph.specs.Read.{version1, reference}
 use Rattle.graph.specs.Judge.{callOk, refType, refOk, refsOk, wantsOf}
-use Rattle.topology.specs.Resolve.{target}
 use Rattle.reader.specs.Layout.{inputsAt, functionAt, earlier}
 use Rattle.checker.specs.declared.Verdict.{Verdict}
 use Rattle.checker.specs.declared.PortType.{PortType}
-use Rattle.checker.specs.declared.Resolved.{Resolved}
 use Rattle.checker.specs.declared.Want.{Want}
 use Rattle.checker.specs.declared.Want.the-variants.{Types, Inputs}
 
@@ -35,14 +33,9 @@ abbrev pub portOf : Option ℕ → PortType
 portOf none = PortType.Nothing
 portOf (some t) = PortType.Is t
 
-abbrev pub resolvedAs : PortType → ℕ → Resolved
-resolvedAs PortType.Nothing i = Resolved.Nothing
-resolvedAs (PortType.Is t) i = Resolved.Is t i
-
--- the reference at `at` in the function at f, the k-th of the table
-abbrev pub resolvedAt : List ℕ → ℕ → ℕ → ℕ → Resolved
-resolvedAt s k f at =
-    resolvedAs (portOf (refType (earlier (version1 .header) s k) (functionAt s f) (reference s at))) (target (functionAt s f .nodes) (some (reference s at)))
+-- the type of the reference at `at` in the function at f, the k-th of the table
+abbrev pub typeAt : List ℕ → ℕ → ℕ → ℕ → PortType
+typeAt s k f at = portOf (refType (earlier (version1 .header) s k) (functionAt s f) (reference s at))
 
 -- what n references want
 abbrev pub wantsList : List ℕ → ℕ → Want → List ℕ

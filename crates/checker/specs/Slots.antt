@@ -1,12 +1,11 @@
--- Where the checks of a function stand, and the slots that they fill.
+-- Where the checks of a function stand, and what the arrays hold that they read.
 use Prim.Native.Nat.{ℕ, _+_, _*_, _≤_, _<_}
 use mathlib.Core.Path.{_≡_}
 use mathlib.Core.List.{List}
-use mathlib.Core.Logic.{_⊎_}
-use mathlib.Core.Option.{Option, none, some}
+use mathlib.Core.Option.{some}
 use lib.ListN.{length, getD, getElem?}
-use Rattle.graph.specs.Outcome.{Outcome, ok}
-use Rattle.graph.specs.Graph.{Ref, Node, Function}
+use Rattle.graph.specs.Outcome.{ok}
+use Rattle.graph.specs.Graph.{Node, Function}
 use Rattle.graph.specs.Look.{findNode, reads}
 use Rattle.graph.specs.Read.{version1, Part, reference, functions}
 use Rattle.graph.specs.Sound.{Is}
@@ -27,31 +26,24 @@ pub record Scene (s starts : List ℕ) (k : ℕ) (f : Head) : Type 0 where
   pub first : f .first ≡ nodesPlace s (f .place)
   pub count : f .count ≡ nodeCount s (f .place)
 
--- ---- the slots before and after, p and q
+-- ---- the places and the slots of its nodes
 
--- the slots of node i hold nothing
-pub record Cleared (i : ℕ) (p q : List ℕ) : Type 0 where
-  pub size : length q ≡ length p
-  pub slots : (j : ℕ) → j < 16 → slot q i j ≡ 256
-  pub before : (x : ℕ) → x < 16 * i → getD q x 0 ≡ getD p x 0
+-- `ps` has the places of the n nodes from `first` on
+abbrev pub PlacesAre : List ℕ → ℕ → ℕ → List ℕ → Type 0
+PlacesAre s first n ps = (i : ℕ) → i < n → getD ps i 0 ≡ nodePlace s first i
 
--- the first n slots of node i have the references at `begin`
-pub record Filled (s : List ℕ) (f begin n i : ℕ) (p q : List ℕ) : Type 0 where
-  pub size : length q ≡ length p
-  pub slots : (j : ℕ) → j < n → slot q i j ≡ target (functionAt s f .nodes) (some (reference s (begin + 3 * j)))
-  pub others : (x : ℕ) → (x < 16 * i) ⊎ (16 * i + n ≤ x) → getD q x 0 ≡ getD p x 0
+abbrev pub Placed : List ℕ → Head → List ℕ → Type 0
+Placed s f ps = PlacesAre s (f .first) (f .count) ps
 
--- the slots of node i have what it reads
-pub record RowIs (ns : List Node) (n : Node) (i : ℕ) (p q : List ℕ) : Type 0 where
-  pub size : length q ≡ length p
-  pub slots : (j : ℕ) → j < 16 → slot q i j ≡ target ns (getElem? (reads n) j)
-  pub before : (x : ℕ) → x < 16 * i → getD q x 0 ≡ getD p x 0
+-- the slots of node i have the n references at `begin`
+abbrev pub RowIs : List ℕ → ℕ → ℕ → ℕ → ℕ → List ℕ → Type 0
+RowIs s f begin n i ts = (j : ℕ) → j < n → slot ts i j ≡ target (functionAt s f .nodes) (some (reference s (begin + 3 * j)))
 
--- so do those of the first n nodes of the function at f
-pub record RowsAre (s : List ℕ) (f n : ℕ) (q : List ℕ) : Type 0 where
-  pub size : length q ≡ 4096
+-- those of the first n nodes of the function at f have what they read
+pub record RowsAre (s : List ℕ) (f n : ℕ) (ts : List ℕ) : Type 0 where
+  pub size : length ts ≡ 4096
   pub slots : (i j : ℕ) → i < n → j < 16
-      → slot q i j ≡ target (functionAt s f .nodes) (getElem? (reads (nodeAt s (nodePlace s (nodesPlace s f) i))) j)
+      → slot ts i j ≡ target (functionAt s f .nodes) (getElem? (reads (nodeAt s (nodePlace s (nodesPlace s f) i))) j)
 
 -- all is known of a function but its loops
 pub record Ready (s : List ℕ) (f : Head) (ts : List ℕ) : Type 0 where
@@ -61,3 +53,9 @@ pub record Ready (s : List ℕ) (f : Head) (ts : List ℕ) : Type 0 where
   pub resolves : Resolves ts (functionAt s (f .place) .nodes)
   pub own : (n : Node) → Is n (functionAt s (f .place) .nodes) → findNode (n .id) (functionAt s (f .place) .nodes) ≡ some n
   pub named : (n : Node) → Is n (functionAt s (f .place) .nodes) → 1 ≤ n .id
+
+-- what a function at f that is good leaves
+pub record Filled (s : List ℕ) (f : ℕ) (ps ts : List ℕ) : Type 0 where
+  pub few : length ps ≡ 256
+  pub size : length ts ≡ 4096
+  pub places : PlacesAre s (nodesPlace s f) (nodeCount s f) ps

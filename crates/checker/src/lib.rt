@@ -2,18 +2,20 @@
 ghost use mathlib.Core.Path.{_≡_};
 ghost use Prim.Native.Nat.{_+_, _*_, _<_, _≤_};
 ghost use mathlib.Core.List.{[]};
+ghost use mathlib.Core.Option.{some};
 ghost use lib.ListN.{length, getD, getElem?};
 ghost use Rattle.ports.specs.Ports.{givesRow};
 ghost use Rattle.graph.specs.Outcome.{ok, need, each};
 ghost use Rattle.graph.specs.Look.{findFunction};
-ghost use Rattle.graph.specs.Read.{version1, references};
+ghost use Rattle.graph.specs.Read.{version1, reference, references};
 ghost use Rattle.graph.specs.Judge.{fresh, callOk, givesOf, outputsOf, outputTypes, loopFree, judge, judgeAll, verdict};
-ghost use Rattle.reader.specs.Layout.{nodeAt, nodesAt, outputsAt, functionAt, functionEnd, functionsAt, earlier};
+ghost use Rattle.topology.specs.Resolve.{target};
+ghost use Rattle.reader.specs.Layout.{nodeAt, nodesAt, nodePlace, nodeCount, nodesPlace, outputsAt, functionAt, functionEnd, functionsAt, earlier};
 ghost use Rattle.reader.specs.Find.{ReadsNode, ReadsNodes, ReadsFunction, Started};
 ghost use Rattle.reader.specs.Records.{seen};
 ghost use Rattle.reader.specs.declared.Seen.{Seen};
-ghost use Rattle.checker.specs.Answers.{hit, portOf, resolvedAs, resolvedAt, wantsList, WantFits, outputsChecked, referencesChecked, nodeChecked, callsChecked, verdictOf};
-ghost use Rattle.checker.specs.Slots.{Scene, Cleared, Filled, RowIs, RowsAre, Ready, ReadsFunctions};
+ghost use Rattle.checker.specs.Answers.{hit, portOf, typeAt, wantsList, WantFits, outputsChecked, referencesChecked, nodeChecked, callsChecked, verdictOf};
+ghost use Rattle.checker.specs.Slots.{ReadsFunctions, Scene, PlacesAre, Placed, RowIs, RowsAre, Ready, Filled};
 use ports::Form;
 use ports::Ports;
 use reader::Found;
@@ -30,6 +32,13 @@ fn wide(x: u16) -> usize
     ensures { λ r. ⌜ r ≡ x ⌝ }
 {
     x as usize
+}
+
+// The function that is judged: its place, where its nodes begin, and how many there are.
+pub struct Head {
+    pub place: usize,
+    pub first: usize,
+    pub count: usize,
 }
 
 // ---- 9
@@ -51,20 +60,19 @@ fn id_before(ids: &[u16; 256], j: usize, id: u16) -> bool
 }
 
 // No node has the id of an earlier one.
-fn fresh_nodes(s: &[u8], first: usize, count: usize) -> Seen
-    requires { ⌜ ReadsNodes count (now s) first × (count ≤ 256) ⌝ }
-    ensures { λ r. ⌜ r ≡ seen (fresh [] (nodesAt count (now (s .entry)) first)) ⌝ }
+fn fresh_nodes(s: &[u8], f: Head, places: &[u16; 256]) -> Seen
+    requires { ⌜ ReadsNodes (f .count) (now s) (f .first) × (f .count ≤ 256) × Placed (now s) f (now places) ⌝ }
+    ensures { λ r. ⌜ r ≡ seen (fresh [] (nodesAt (f .count) (now (s .entry)) (f .first))) ⌝ }
 {
     let mut ids = [0u16; 256];
-    let mut at = first;
     let mut j = 0;
-    while j < count {
+    while j < f.count {
+        let at = wide(places[j]);
         let id = reader::u16_at(s, at);
         if id_before(&ids, j, id) {
             return Seen::Fault(9, at);
         }
         ids[j] = id;
-        at = reader::node_end(s, at);
         j += 1;
     }
     Seen::Good
@@ -94,15 +102,14 @@ fn call_good(s: &[u8], at: usize, starts: &[usize; 16], k: usize) -> bool
 }
 
 // Each call is good.
-fn calls_good(s: &[u8], first: usize, count: usize, starts: &[usize; 16], k: usize) -> Seen
-    requires { ⌜ ReadsNodes count (now s) first × Started (now s) (now starts) k × (k ≤ 16) ⌝ }
-    ensures { λ r. ⌜ r ≡ seen (each (λ n. callOk (earlier (version1 .header) (now (s .entry)) k) (n .place) (n .payload)) (nodesAt count (now (s .entry)) first)) ⌝ }
+fn calls_good(s: &[u8], starts: &[usize; 16], k: usize, f: Head, places: &[u16; 256]) -> Seen
+    requires { ⌜ ReadsNodes (f .count) (now s) (f .first) × (f .count ≤ 256) × Placed (now s) f (now places) × Started (now s) (now starts) k × (k ≤ 16) ⌝ }
+    ensures { λ r. ⌜ r ≡ seen (each (λ n. callOk (earlier (version1 .header) (now (s .entry)) k) (n .place) (n .payload)) (nodesAt (f .count) (now (s .entry)) (f .first))) ⌝ }
 {
-    let mut at = first;
     let mut j = 0;
-    while j < count {
+    while j < f.count {
+        let at = wide(places[j]);
         if call_good(s, at, starts, k) {
-            at = reader::node_end(s, at);
             j += 1;
         } else {
             return Seen::Fault(10, at);
@@ -181,46 +188,49 @@ fn node_port(s: &[u8], at: usize, starts: &[usize; 16], k: usize, port: u8) -> P
     }
 }
 
-// ---- references
-
-// The function that is judged: its place, where its nodes begin, and how many there are.
-pub struct Head {
-    pub place: usize,
-    pub first: usize,
-    pub count: usize,
-}
-
-// The type that a reference has, and the index of the node that it reads, 256 for an input.
-pub enum Resolved {
-    Is(u8, u16),
-    Nothing,
-}
-
-fn with_index(found: PortType, index: u16) -> Resolved
-    ensures { λ r. ⌜ r ≡ resolvedAs found index ⌝ }
-{
-    match found {
-        PortType::Is(ty) => Resolved::Is(ty, index),
-        PortType::Nothing => Resolved::Nothing,
-    }
-}
-
-// The reference at `at`.
-fn resolve(s: &[u8], starts: &[usize; 16], k: usize, f: Head, at: usize) -> Resolved
+// Of the reference at `at`; its node is looked up.
+fn reference_port(s: &[u8], starts: &[usize; 16], k: usize, f: Head, at: usize) -> PortType
     requires { ⌜ Scene (now s) (now starts) k f × (at + 3 ≤ length (now s)) ⌝ }
-    ensures { λ r. ⌜ r ≡ resolvedAt (now (s .entry)) k (f .place) at ⌝ }
+    ensures { λ r. ⌜ r ≡ typeAt (now (s .entry)) k (f .place) at ⌝ }
 {
     let id = reader::u16_at(s, at);
     let port = s[at + 2];
     if id == 0 {
-        return with_index(input_port(s, f.place, port), 256);
+        return input_port(s, f.place, port);
     }
     let found = reader::find_node(s, f.first, f.count, id);
     match found {
-        Found::At(i, p) => with_index(node_port(s, p, starts, k, port), i as u16),
-        Found::Nothing => Resolved::Nothing,
+        Found::At(_, p) => node_port(s, p, starts, k, port),
+        Found::Nothing => PortType::Nothing,
     }
 }
+
+// Of the reference at `at`, whose slot holds i.
+fn slot_port(
+    s: &[u8],
+    starts: &[usize; 16],
+    k: usize,
+    f: Head,
+    places: &[u16; 256],
+    i: usize,
+    at: usize,
+) -> PortType
+    requires { ⌜ Scene (now s) (now starts) k f × Placed (now s) f (now places) × (at + 3 ≤ length (now s)) × (i ≡ target (functionAt (now s) (f .place) .nodes) (some (reference (now s) at))) ⌝ }
+    ensures { λ r. ⌜ r ≡ typeAt (now (s .entry)) k (f .place) at ⌝ }
+{
+    let id = reader::u16_at(s, at);
+    let port = s[at + 2];
+    if id == 0 {
+        return input_port(s, f.place, port);
+    }
+    if i < f.count {
+        node_port(s, wide(places[i]), starts, k, port)
+    } else {
+        PortType::Nothing
+    }
+}
+
+// ---- 11 and 12
 
 // What references want: the first a type and the others another, or the inputs of the function at a place.
 pub enum Want {
@@ -239,8 +249,6 @@ fn want_at(s: &[u8], want: Want, n: usize, j: usize) -> u8
     }
 }
 
-// ---- 11 and 12
-
 // The entries of n outputs at `begin`.
 fn outputs_good(s: &[u8], starts: &[usize; 16], k: usize, f: Head, begin: usize, n: usize) -> Seen
     requires { ⌜ Scene (now s) (now starts) k f × (begin + 4 * n ≤ length (now s)) ⌝ }
@@ -249,8 +257,8 @@ fn outputs_good(s: &[u8], starts: &[usize; 16], k: usize, f: Head, begin: usize,
     let mut at = begin;
     let mut left = n;
     while 0 < left {
-        let found = resolve(s, starts, k, f, at + 1);
-        let Resolved::Is(ty, _) = found else {
+        let found = reference_port(s, starts, k, f, at + 1);
+        let PortType::Is(ty) = found else {
             return Seen::Fault(11, at + 1);
         };
         if ty != s[at] {
@@ -262,66 +270,52 @@ fn outputs_good(s: &[u8], starts: &[usize; 16], k: usize, f: Head, begin: usize,
     Seen::Good
 }
 
-// The slots of node i hold nothing.
-fn clear_row(targets: &mut [u16; 4096], i: usize)
-    requires { ⌜ (i < 256) × (length (now targets) ≡ 4096) ⌝ }
-    ensures { λ _. ⌜ Cleared i (now (targets .entry)) (now (targets .exit)) ⌝ }
-{
-    let mut j = 0;
-    while j < 16 {
-        targets[16 * i + j] = 256;
-        j += 1;
-    }
-}
-
-// The n references at `begin`, which go to the slots of node i.
+// The n references at `begin`, which are those of node i.
 fn references_good(
     s: &[u8],
     starts: &[usize; 16],
     k: usize,
     f: Head,
+    places: &[u16; 256],
+    targets: &[u16; 4096],
     want: Want,
     begin: usize,
     n: usize,
     i: usize,
-    targets: &mut [u16; 4096],
 ) -> Seen
-    requires { ⌜ Scene (now s) (now starts) k f × WantFits (now s) n want × (begin + 3 * n ≤ length (now s)) × (n ≤ 16) × (i < 256) × (length (now targets) ≡ 4096) ⌝ }
+    requires { ⌜ Scene (now s) (now starts) k f × Placed (now s) f (now places) × WantFits (now s) n want × (begin + 3 * n ≤ length (now s)) × (n ≤ 16) × (i < 256) × RowIs (now s) (f .place) begin n i (now targets) ⌝ }
     ensures { λ r. ⌜ r ≡ seen (referencesChecked (now (s .entry)) k (f .place) (wantsList (now (s .entry)) n want) (references n (now (s .entry)) begin)) ⌝ }
-    ensures { λ r. ⌜ (r ≡ Seen.Good → Filled (now (s .entry)) (f .place) begin n i (now (targets .entry)) (now (targets .exit))) ⌝ }
 {
     let mut at = begin;
     let mut j = 0;
     while j < n {
-        let found = resolve(s, starts, k, f, at);
-        let Resolved::Is(ty, index) = found else {
+        let found = slot_port(s, starts, k, f, places, wide(targets[16 * i + j]), at);
+        let PortType::Is(ty) = found else {
             return Seen::Fault(11, at);
         };
         if ty != want_at(s, want, n, j) {
             return Seen::Fault(12, at);
         }
-        targets[16 * i + j] = index;
         at += 3;
         j += 1;
     }
     Seen::Good
 }
 
-// The references of the node at `at`, whose index is i.
+// The references of node i.
 fn node_good(
     s: &[u8],
     starts: &[usize; 16],
     k: usize,
     f: Head,
-    at: usize,
+    places: &[u16; 256],
+    targets: &[u16; 4096],
     i: usize,
-    targets: &mut [u16; 4096],
 ) -> Seen
-    requires { ⌜ Scene (now s) (now starts) k f × ReadsNode (now s) at × (i < 256) × (callOk (earlier (version1 .header) (now s) k) at (nodeAt (now s) at .payload) ≡ ok tt) × (length (now targets) ≡ 4096) ⌝ }
-    ensures { λ r. ⌜ r ≡ seen (nodeChecked (now (s .entry)) k (f .place) (nodeAt (now (s .entry)) at)) ⌝ }
-    ensures { λ r. ⌜ (r ≡ Seen.Good → RowIs (functionAt (now (s .entry)) (f .place) .nodes) (nodeAt (now (s .entry)) at) i (now (targets .entry)) (now (targets .exit))) ⌝ }
+    requires { ⌜ Scene (now s) (now starts) k f × Placed (now s) f (now places) × RowsAre (now s) (f .place) (f .count) (now targets) × (i < f .count) × (callOk (earlier (version1 .header) (now s) k) (nodePlace (now s) (f .first) i) (nodeAt (now s) (nodePlace (now s) (f .first) i) .payload) ≡ ok tt) ⌝ }
+    ensures { λ r. ⌜ r ≡ seen (nodeChecked (now (s .entry)) k (f .place) (nodeAt (now (s .entry)) (nodePlace (now (s .entry)) (f .first) i))) ⌝ }
 {
-    clear_row(targets, i);
+    let at = wide(places[i]);
     let row = ports::ports_of(s[at + 2]);
     let ty = s[at + 3];
     let form = row.form;
@@ -335,11 +329,12 @@ fn node_good(
                 starts,
                 k,
                 f,
+                places,
+                targets,
                 want,
                 at + 4,
                 size(row.operands),
                 i,
-                targets,
             )
         }
         Form::Call => {
@@ -350,11 +345,12 @@ fn node_good(
                     starts,
                     k,
                     f,
+                    places,
+                    targets,
                     Want::Inputs(p),
                     at + 4 + 3,
                     size(s[at + 4 + 2]),
                     i,
-                    targets,
                 ),
                 Found::Nothing => Seen::Good,
             }
@@ -363,23 +359,26 @@ fn node_good(
 }
 
 // The references of each node.
-fn nodes_good(s: &[u8], starts: &[usize; 16], k: usize, f: Head, targets: &mut [u16; 4096]) -> Seen
-    requires { ⌜ Scene (now s) (now starts) k f × (callsChecked (now s) k (functionAt (now s) (f .place)) ≡ ok tt) × (length (now targets) ≡ 4096) ⌝ }
+fn nodes_good(
+    s: &[u8],
+    starts: &[usize; 16],
+    k: usize,
+    f: Head,
+    places: &[u16; 256],
+    targets: &[u16; 4096],
+) -> Seen
+    requires { ⌜ Scene (now s) (now starts) k f × Placed (now s) f (now places) × RowsAre (now s) (f .place) (f .count) (now targets) × (callsChecked (now s) k (functionAt (now s) (f .place)) ≡ ok tt) ⌝ }
     ensures { λ r. ⌜ r ≡ seen (each (nodeChecked (now (s .entry)) k (f .place)) (functionAt (now (s .entry)) (f .place) .nodes)) ⌝ }
-    ensures { λ r. ⌜ (r ≡ Seen.Good → RowsAre (now (s .entry)) (f .place) (f .count) (now (targets .exit))) ⌝ }
 {
-    let count = f.count;
-    let mut at = f.first;
     let mut i = 0;
-    while i < count {
-        let found = node_good(s, starts, k, f, at, i, targets);
+    while i < f.count {
+        let found = node_good(s, starts, k, f, places, targets, i);
         match found {
             Seen::Good => {}
             Seen::Fault(number, place) => {
                 return Seen::Fault(number, place);
             }
         }
-        at = reader::node_end(s, at);
         i += 1;
     }
     Seen::Good
@@ -393,9 +392,7 @@ fn loop_free(s: &[u8], f: Head, targets: &[u16; 4096]) -> Seen
     ensures { λ r. ⌜ r ≡ seen (loopFree (functionAt (now (s .entry)) (f .place))) ⌝ }
 {
     let count = f.count;
-    let mut order = [0u16; 256];
-    let done = topology::schedule(targets, count, &mut order);
-    if done == count {
+    if topology::orderable(targets, count) {
         return Seen::Good;
     }
     let found = topology::first_on_loop(targets, count);
@@ -407,17 +404,18 @@ fn loop_free(s: &[u8], f: Head, targets: &[u16; 4096]) -> Seen
 
 // ---- a function, and the table
 
-// The function at `place`, the k-th from 0; `targets` is room to work in.
+// The function at `place`, the k-th from 0; `targets` is room to work in. One that is good leaves the places of its nodes.
 fn judge_function(
     s: &[u8],
     starts: &[usize; 16],
     k: usize,
     place: usize,
+    places: &mut [u16; 256],
     targets: &mut [u16; 4096],
 ) -> Seen
-    requires { ⌜ Started (now s) (now starts) k × (k ≤ 16) × ReadsFunction (now s) place × (length (now targets) ≡ 4096) ⌝ }
+    requires { ⌜ Started (now s) (now starts) k × (k ≤ 16) × ReadsFunction (now s) place × (length (now s) < 65536) × (length (now places) ≡ 256) × (length (now targets) ≡ 4096) ⌝ }
     ensures { λ r. ⌜ r ≡ seen (judge (earlier (version1 .header) (now (s .entry)) k) (functionAt (now (s .entry)) place)) ⌝ }
-    ensures { λ r. ⌜ (r ≡ Seen.Good → length (now (targets .exit)) ≡ 4096) ⌝ }
+    ensures { λ r. ⌜ (r ≡ Seen.Good → Filled (now (s .entry)) place (now (places .exit)) (now (targets .exit))) ⌝ }
 {
     let same = reader::find_function(s, starts, k, reader::u16_at(s, place));
     match same {
@@ -435,11 +433,12 @@ fn judge_function(
         first,
         count,
     };
-    let fresh = fresh_nodes(s, first, count);
+    resolver::places(s, first, count, places);
+    let fresh = fresh_nodes(s, f, places);
     let Seen::Good = fresh else {
         return fresh;
     };
-    let calls = calls_good(s, first, count, starts, k);
+    let calls = calls_good(s, starts, k, f, places);
     let Seen::Good = calls else {
         return calls;
     };
@@ -447,7 +446,8 @@ fn judge_function(
     let Seen::Good = outs else {
         return outs;
     };
-    let nodes = nodes_good(s, starts, k, f, targets);
+    resolver::resolve(s, first, count, targets);
+    let nodes = nodes_good(s, starts, k, f, places, targets);
     let Seen::Good = nodes else {
         return nodes;
     };
@@ -460,27 +460,31 @@ pub enum Verdict {
     Refused(u8, usize),
 }
 
-// Where the function at `at` ends.
-fn function_end(s: &[u8], at: usize) -> usize
-    requires { ⌜ ReadsFunction (now s) at ⌝ }
+// Where the function at `at` ends, whose nodes have these places.
+fn function_end(s: &[u8], at: usize, places: &[u16; 256]) -> usize
+    requires { ⌜ ReadsFunction (now s) at × PlacesAre (now s) (nodesPlace (now s) at) (nodeCount (now s) at) (now places) ⌝ }
     ensures { λ r. ⌜ r ≡ functionEnd (now (s .entry)) at ⌝ }
 {
-    let first = at + 6 + size(s[at + 2]) + 4 * size(s[at + 3]);
     let count = wide(reader::u16_at(s, at + 4));
-    reader::node_place(s, first, count, count)
+    if count == 0 {
+        at + 6 + size(s[at + 2]) + 4 * size(s[at + 3])
+    } else {
+        reader::node_end(s, wide(places[count - 1]))
+    }
 }
 
 // The functions of a table that was read, one after another.
 fn judge_all(s: &[u8], count: usize) -> Seen
-    requires { ⌜ ReadsFunctions count (now s) × (count ≤ 16) ⌝ }
+    requires { ⌜ ReadsFunctions count (now s) × (count ≤ 16) × (length (now s) < 65536) ⌝ }
     ensures { λ r. ⌜ r ≡ seen (judgeAll [] (functionsAt count (now (s .entry)) (version1 .header))) ⌝ }
 {
     let mut starts = [0usize; 16];
+    let mut places = [0u16; 256];
     let mut targets = [0u16; 4096];
     let mut at = 8;
     let mut k = 0;
     while k < count {
-        let judged = judge_function(s, &starts, k, at, &mut targets);
+        let judged = judge_function(s, &starts, k, at, &mut places, &mut targets);
         match judged {
             Seen::Good => {}
             Seen::Fault(number, place) => {
@@ -488,7 +492,7 @@ fn judge_all(s: &[u8], count: usize) -> Seen
             }
         }
         starts[k] = at;
-        at = function_end(s, at);
+        at = function_end(s, at, &places);
         k += 1;
     }
     Seen::Good

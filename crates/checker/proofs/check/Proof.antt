@@ -1,7 +1,7 @@
 use borrow.Author.Needs.{needs}
-use Prim.Native.Nat.{ℕ, _≤_}
+use Prim.Native.Nat.{ℕ}
 use mathlib.Core.Path.{_≡_, ap, sym, _∙_, subst}
-use mathlib.Core.List.{List, []}
+use mathlib.Core.List.{[]}
 use native.Mathlib.Omega.{arith}
 use Rattle.graph.specs.Bytes.{byte}
 use Rattle.graph.specs.Read.{version1, parse}
@@ -12,7 +12,7 @@ use Rattle.reader.specs.Records.{seen}
 use Rattle.checker.specs.declared.Verdict.{Verdict}
 use Rattle.checker.specs.Answers.{verdictOf}
 use Rattle.checker.specs.Slots.{ReadsFunctions}
-use Rattle.checker.proofs.Whole.{seen-good, seen-fault, unread, whole, refused, accepted}
+use Rattle.checker.proofs.Whole.{seen-good, seen-fault, unread, Whole, whole, refused, accepted}
 use Rattle.checker.proofs.check.Statement.{statement}
 use Rattle.checker.proofs.check.Tie as tie
 
@@ -47,13 +47,18 @@ returns-3 c =
     let s = t .before .before .before .before .args .table .now in
     ap verdictOf (sym (refused s (read t) _ _ (seen-fault _ _ _ (sym (c .before .judged .given .1) ∙ judged j))))
 
+sound : (t : tie.After-enum-told) → Whole (t .before .before .before .before .args .table .now)
+sound t =
+    let s = t .before .before .before .before .args .table .now in
+    whole s (λ i. omega (arith, t .before .before .before .shared-slice-known .given i)) (read t)
+
 requires : tie.Need-judge-all-requires
 requires c κs =
     let t = c .before .before in
     let s = t .before .before .before .before .args .table .now in
-    let w = whole s (read t) in
+    let w = sound t in
     let e = c .size .ensures .0 in
-    (subst (λ (n : ℕ). ReadsFunctions n s) (sym e) (w .reads), omega (arith, e, w .few))
+    (subst (λ (n : ℕ). ReadsFunctions n s) (sym e) (w .reads), omega (arith, e, w .few), w .short)
 
 pub check-spec : {M : Type 1} → statement M
 check-spec =
@@ -63,7 +68,7 @@ check-spec =
     (λ c. search needs)
     (λ c. search needs)
     returns
-    (λ c. let t = c .before in omega (arith, whole (t .before .before .before .before .args .table .now) (read t) .size))
+    (λ c. omega (arith, sound (c .before) .size))
     (λ c κs. search needs)
     requires
     (λ c. search needs)

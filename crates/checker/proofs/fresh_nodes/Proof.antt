@@ -1,77 +1,109 @@
 use borrow.Author.Needs.{needs}
 use Prim.Native.Nat.{ℕ, _+_, _-_, _≤_, _<_}
 use mathlib.Core.Path.{_≡_, refl, ap, sym, _∙_, subst}
-use mathlib.Core.List.{List, []}
+use mathlib.Core.List.{[]}
 use native.Mathlib.Omega.{arith}
 use lib.ListN.{length, set, length-set, replicate}
 use Rattle.graph.specs.Judge.{fresh}
 use Rattle.checker.specs.Answers.{hit}
-use Rattle.reader.specs.Layout.{nodesAt, nodeEnd}
+use Rattle.reader.specs.Layout.{nodesAt, nodeEnd, nodePlace}
 use Rattle.reader.specs.Find.{ReadsNode}
 use Rattle.reader.specs.Records.{seen}
-use Rattle.reader.proofs.Passed.{head-fits, first-reads}
+use Rattle.reader.proofs.Passed.{head-fits, first-reads, place-next}
 use Rattle.checker.proofs.Fresh.{Passing, fresh-start, fresh-fault, fresh-on, fresh-done}
 use Rattle.checker.proofs.fresh_nodes.Statement.{statement}
 use Rattle.checker.proofs.fresh_nodes.Tie as tie
 
 abbrev Inv-loop : tie.InvT-loop
-Inv-loop s first count ids₀ at₀ j₀ ids at j = (j ≤ count) × (length ids ≡ 256) × Passing s ids (fresh [] (nodesAt count s first)) j (count - j) at
+Inv-loop s f places ids₀ j₀ ids j =
+    (j ≤ f .count) × (length ids ≡ 256) × Passing s ids (fresh [] (nodesAt (f .count) s (f .first))) j (f .count - j) (nodePlace s (f .first) j)
 
 abbrev μ-loop : tie.MeasureT-loop
-μ-loop s first count ids₀ at₀ j₀ ids at j = count - j
+μ-loop s f places ids₀ j₀ ids j = f .count - j
 
-left : (d : tie.In-loop Inv-loop μ-loop) → 0 < d .before .before .before .args .count - d .before .loop .j
-left d = omega arith
+abbrev start : tie.Then1 Inv-loop μ-loop → tie.Start Inv-loop μ-loop
+start d = d .before .before .before .before
 
-here : (d : tie.In-loop Inv-loop μ-loop) → ReadsNode (d .before .before .before .args .s .now) (d .before .loop .at)
-here d = let l = d .before .loop in let a = d .before .before .before .args in first-reads (a .s .now) (a .count - l .j) (l .at) (left d) (l .inv .2 .reads)
+left : (d : tie.Then1 Inv-loop μ-loop) → 0 < start d .args .f .count - d .before .before .loop .j
+left d = omega (arith, d .if1 .taken)
+
+below : (d : tie.Then1 Inv-loop μ-loop) → d .before .before .loop .j < 256
+below d = omega (arith, d .if1 .taken, start d .pre .1)
+
+-- the place is the node's
+place : (w : tie.After-wide Inv-loop μ-loop) → let d = w .before .before in let a = start d .args in
+    w .wide .result ≡ nodePlace (a .s .now) (a .f .first) (d .before .before .loop .j)
+place w = let d = w .before .before in w .wide .ensures ∙ start d .pre .2 (d .before .before .loop .j) (d .if1 .taken)
+
+abbrev Here : tie.After-wide Inv-loop μ-loop → ℕ → Type 0
+Here w p =
+    let d = w .before .before in
+    let l = d .before .before .loop in
+    let a = start d .args in
+    Passing (a .s .now) (l .ids) (fresh [] (nodesAt (a .f .count) (a .s .now) (a .f .first))) (l .j) (a .f .count - l .j) p
+
+passing : (w : tie.After-wide Inv-loop μ-loop) → Here w (w .wide .result)
+passing w = subst (Here w) (sym (place w)) (w .before .before .before .before .loop .inv .2)
+
+here : (w : tie.After-wide Inv-loop μ-loop) → ReadsNode (start (w .before .before) .args .s .now) (w .wide .result)
+here w =
+    let d = w .before .before in
+    let a = start d .args in
+    first-reads (a .s .now) (a .f .count - d .before .before .loop .j) (w .wide .result) (left d) (passing w .reads)
 
 loop-holds : tie.Need-loop-holds Inv-loop μ-loop
+unfolding nodePlace
 loop-holds c =
     let a = c .before .args in
-    let z : a .count - 0 ≡ a .count = omega arith in (
+    let z : a .f .count - 0 ≡ a .f .count = omega arith in (
       omega arith,
       refl,
-      subst (λ (n : ℕ). Passing (a .s .now) (replicate 256 0) (fresh [] (nodesAt (a .count) (a .s .now) (a .first))) 0 n (a .first)) (sym z)
-          (fresh-start (a .s .now) (replicate 256 0) (a .count) (a .first) (c .before .pre .0)),
+      subst (λ (n : ℕ). Passing (a .s .now) (replicate 256 0) (fresh [] (nodesAt (a .f .count) (a .s .now) (a .f .first))) 0 n (a .f .first)) (sym z)
+          (fresh-start (a .s .now) (replicate 256 0) (a .f .count) (a .f .first) (c .before .pre .0)),
     )
 
 returns : tie.Need-returns Inv-loop μ-loop
 returns c =
     let u = c .before .before .before in
-    let d = u .before in
-    let l = d .before .loop in
-    let a = d .before .before .before .args in
+    let w = u .before in
+    let d = w .before .before in
+    let l = d .before .before .loop in
+    let a = start d .args in
     ap seen
     (sym
-    (fresh-fault (a .s .now) (l .ids) _ (l .j) (a .count - l .j) (l .at) (l .inv .2) (left d)
-    (ap (hit (l .ids) (l .j)) (sym (u .u16-at .ensures)) ∙ (sym (c .before .id-before .ensures) ∙ c .if1 .taken))))
+    (fresh-fault (a .s .now) (l .ids) _ (l .j) (a .f .count - l .j) (w .wide .result) (passing w) (left d)
+    (ap (hit (l .ids) (l .j)) (sym (u .u16-at .ensures)) ∙ (sym (c .before .id-before .ensures) ∙ c .if2 .taken))))
 
 loop-again : tie.Need-loop-again Inv-loop μ-loop
 loop-again c =
-    let e = c .before in
-    let u = e .before .before .before in
-    let d = u .before in
-    let l = d .before .loop in
-    let a = d .before .before .before .args in
+    let u = c .before .before .before in
+    let w = u .before in
+    let d = w .before .before in
+    let l = d .before .before .loop in
+    let a = start d .args in
     let s = a .s .now in
-    let m : a .count - l .j - 1 ≡ a .count - (l .j + 1) = omega arith in
+    let n = a .f .count in
+    let whole = fresh [] (nodesAt n s (a .f .first)) in
+    let m : n - l .j - 1 ≡ n - (l .j + 1) = omega arith in
     let z = l .inv .1 in
-    let b : l .j < length (l .ids) = omega arith in
-    let q = fresh-on s (l .ids) _ (l .j) (a .count - l .j) (l .at) (l .inv .2) (left d)
-    (ap (hit (l .ids) (l .j)) (sym (u .u16-at .ensures)) ∙ (sym (e .before .id-before .ensures) ∙ e .if1 .left)) b in (
-      omega arith,
-      length-set (l .ids) (l .j) _ ∙ l .inv .1,
-      subst (λ (p : ℕ). Passing s (set (l .ids) (l .j) (u .u16-at .result)) (fresh [] (nodesAt (a .count) s (a .first))) (l .j + 1) (a .count - (l .j + 1)) p) (sym (c .node-end .ensures))
-          (subst (λ (n : ℕ). Passing s (set (l .ids) (l .j) (u .u16-at .result)) (fresh [] (nodesAt (a .count) s (a .first))) (l .j + 1) n (nodeEnd s (l .at))) m
-          (subst (λ (v : ℕ). Passing s (set (l .ids) (l .j) v) (fresh [] (nodesAt (a .count) s (a .first))) (l .j + 1) (a .count - l .j - 1) (nodeEnd s (l .at))) (sym (u .u16-at .ensures)) q)),
+    let q = fresh-on s (l .ids) whole (l .j) (n - l .j) (w .wide .result) (passing w) (left d)
+    (ap (hit (l .ids) (l .j)) (sym (u .u16-at .ensures)) ∙ (sym (c .before .id-before .ensures) ∙ c .if2 .left)) (omega (arith, z, below d)) in
+    let e : nodeEnd s (w .wide .result) ≡ nodePlace s (a .f .first) (l .j + 1) = ap (nodeEnd s) (place w) ∙ sym (place-next s (l .j) (a .f .first)) in (
+      omega (arith, d .if1 .taken),
+      length-set (l .ids) (l .j) _ ∙ z,
+      subst (λ (p : ℕ). Passing s (set (l .ids) (l .j) (u .u16-at .result)) whole (l .j + 1) (n - (l .j + 1)) p) e
+          (subst (λ (i : ℕ). Passing s (set (l .ids) (l .j) (u .u16-at .result)) whole (l .j + 1) i (nodeEnd s (w .wide .result))) m
+          (subst (λ (v : ℕ). Passing s (set (l .ids) (l .j) v) whole (l .j + 1) (n - l .j - 1) (nodeEnd s (w .wide .result))) (sym (u .u16-at .ensures)) q)),
     )
 
 returns-2 : tie.Need-returns-2 Inv-loop μ-loop
 returns-2 c =
-    let l = c .before .loop in
-    let a = c .before .before .before .args in
-    ap seen (sym (fresh-done (a .s .now) (l .ids) _ (l .j) (a .count - l .j) (l .at) (l .inv .2) (omega arith)))
+    let l = c .before .before .loop in
+    let a = c .before .before .before .before .args in
+    ap seen (sym (fresh-done (a .s .now) (l .ids) _ (l .j) (a .f .count - l .j) _ (l .inv .2) (omega (arith, c .if1 .left))))
+
+abbrev inside : tie.Else2 Inv-loop μ-loop → tie.Then1 Inv-loop μ-loop
+inside c = c .before .before .before .before .before .before
 
 pub fresh-nodes-spec : {M : Type 1} → statement M
 fresh-nodes-spec =
@@ -80,13 +112,15 @@ fresh-nodes-spec =
     Inv-loop
     μ-loop
     loop-holds
-    (λ c κs. omega (arith, head-fits (c .before .before .before .args .s .now) (c .before .loop .at) (here c)))
-    (λ c κs. omega arith)
+    (λ c. omega (arith, below c))
+    (λ c. omega (arith, below c))
+    (λ c κs. search needs)
+    (λ c κs. omega (arith, head-fits (start (c .before .before) .args .s .now) (c .wide .result) (here c)))
+    (λ c κs. omega (arith, below (c .before .before .before .before)))
     returns
-    (λ c. omega arith)
-    (λ c. omega arith)
-    (λ c κs. here (c .before .before .before .before))
-    (λ c. omega arith)
-    (λ c. omega arith)
+    (λ c. omega (arith, below (inside c)))
+    (λ c. omega (arith, below (inside c)))
+    (λ c. omega (arith, below (inside c)))
+    (λ c. omega (arith, inside c .if1 .taken))
     loop-again
     returns-2)

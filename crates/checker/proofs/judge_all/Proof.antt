@@ -3,7 +3,7 @@ use Prim.Native.Nat.{ℕ, _+_, _-_, _≤_, _<_}
 use mathlib.Core.Path.{_≡_, refl, ap, sym, _∙_, subst}
 use mathlib.Core.List.{List, []}
 use native.Mathlib.Omega.{arith}
-use lib.ListN.{length, set, length-set, length-replicate}
+use lib.ListN.{length, length-set, length-replicate}
 use Rattle.graph.specs.Graph.{Function}
 use Rattle.graph.specs.Read.{version1}
 use Rattle.graph.specs.Judge.{judge, judgeAll}
@@ -20,11 +20,12 @@ record Left (s : List ℕ) (count k n at : ℕ) : Type 0 where
   pub same : judgeAll [] (functionsAt count s (version1 .header)) ≡ judgeAll (earlier (version1 .header) s k) (functionsAt n s at)
 
 abbrev Inv-loop : tie.InvT-loop
-Inv-loop s count starts₀ targets₀ at₀ k₀ starts targets at k =
-    (k ≤ count) × (at ≡ functionPlace (version1 .header) s k) × Started s starts k × Left s count k (count - k) at × (length starts ≡ 16) × (length targets ≡ 4096)
+Inv-loop s count starts₀ places₀ targets₀ at₀ k₀ starts places targets at k =
+    (k ≤ count) × (at ≡ functionPlace (version1 .header) s k) × Started s starts k × Left s count k (count - k) at × (length starts ≡ 16) × (length places ≡ 256)
+    × (length targets ≡ 4096)
 
 abbrev μ-loop : tie.MeasureT-loop
-μ-loop s count starts₀ targets₀ at₀ k₀ starts targets at k = count - k
+μ-loop s count starts₀ places₀ targets₀ at₀ k₀ starts places targets at k = count - k
 
 left : (d : tie.In-loop Inv-loop μ-loop) → 0 < d .before .before .before .args .count - d .before .loop .k
 left d = omega (arith, d .loop-test .taken)
@@ -44,13 +45,14 @@ loop-holds c =
       start-none s _,
       subst (λ (n : ℕ). Left s (a .count) 0 n (version1 .header)) z (record { reads = b .pre .0; same = refl }),
       refl,
+      length-replicate {A = ℕ} 256 0,
       length-replicate {A = ℕ} 4096 0,
     )
 
 returns : tie.Need-returns Inv-loop μ-loop
 returns c =
     let g = c .before .before .before in
-    let d = g .before .before .before in
+    let d = g .before .before .before .before in
     let l = d .before .loop in
     let a = d .before .before .before .args in
     let s = a .s .now in
@@ -62,9 +64,9 @@ returns c =
 
 loop-again : tie.Need-loop-again Inv-loop μ-loop
 loop-again c =
-    let t = c .before in
+    let t = c .before .before in
     let g = t .before .before in
-    let d = g .before .before .before in
+    let d = g .before .before .before .before in
     let l = d .before .loop in
     let b = d .before .before .before in
     let a = b .args in
@@ -86,7 +88,8 @@ loop-again c =
                 ∙ ap (λ (fs : List Function). judgeAll fs (functionsAt (n - 1) s (functionEnd s (l .at)))) (early-more s (l .k) (l .at) (l .inv .1));
           })),
       length-set (l .starts) (l .k) (l .at) ∙ l .inv .4,
-      g .judge-function .ensures .1 good,
+      g .judge-function .ensures .1 good .few,
+      g .judge-function .ensures .1 good .size,
     )
 
 returns-2 : tie.Need-returns-2 Inv-loop μ-loop
@@ -97,6 +100,10 @@ returns-2 c =
     let z : a .count - l .k ≡ 0 = omega arith in
     ap seen (sym (rw z at (l .inv .3 .same)))
 
+-- where the loop's body stood
+abbrev inside : tie.After-enum-told Inv-loop μ-loop → tie.In-loop Inv-loop μ-loop
+inside t = t .before .before .before .before .before .before
+
 pub judge-all-spec : {M : Type 1} → statement M
 judge-all-spec =
     tie.close
@@ -105,16 +112,17 @@ judge-all-spec =
     μ-loop
     loop-holds
     (λ c κs.
-    let d = c .before .before in
+    let d = c .before .before .before in
     let l = d .before .loop in
-    (l .inv .2, omega (arith, d .loop-test .taken, d .before .before .before .pre .1), here d, l .inv .5))
+    let b = d .before .before .before in
+    (l .inv .2, omega (arith, d .loop-test .taken, b .pre .1), here d, b .pre .2, l .inv .5, l .inv .6))
     (λ c. search needs)
     (λ c. search needs)
     returns
-    (λ c. let d = c .before .before .before .before .before in omega (arith, d .loop-test .taken, d .before .before .before .pre .1))
-    (λ c. let d = c .before .before .before .before .before in omega (arith, d .loop-test .taken, d .before .before .before .pre .1))
-    (λ c κs. here (c .before .before .before .before .before))
-    (λ c. let d = c .before .before .before .before .before .before in omega (arith, d .loop-test .taken))
-    (λ c. let d = c .before .before .before .before .before .before in omega (arith, d .loop-test .taken))
+    (λ c. let d = inside c in omega (arith, d .loop-test .taken, d .before .before .before .pre .1))
+    (λ c. let d = inside c in omega (arith, d .loop-test .taken, d .before .before .before .pre .1))
+    (λ c κs. let t = c .before in (here (inside t), t .before .before .judge-function .ensures .1 (t .enum-told .given .1) .places))
+    (λ c. let d = inside (c .before .before) in omega (arith, d .loop-test .taken))
+    (λ c. let d = inside (c .before .before) in omega (arith, d .loop-test .taken))
     loop-again
     returns-2)

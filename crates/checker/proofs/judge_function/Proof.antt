@@ -1,24 +1,23 @@
 use borrow.Author.Needs.{needs}
-use Prim.Native.Nat.{ℕ, _+_, _*_, _≤_, _<_}
+use Prim.Native.Nat.{ℕ, _+_, _*_, _≤_}
 use mathlib.Core.Path.{_≡_, ap, sym, _∙_, subst}
-use mathlib.Core.Option.{Option, none, some}
+use mathlib.Core.Option.{none}
 use mathlib.Core.List.{List, []}
 use native.Mathlib.Omega.{arith}
-use lib.ListN.{length}
-use Rattle.graph.specs.Outcome.{Outcome, ok, each}
+use Rattle.graph.specs.Outcome.{ok, each}
 use Rattle.graph.specs.Bytes.{byte, u16, Bytes}
 use Rattle.graph.specs.Graph.{Node, Output}
 use Rattle.graph.specs.Look.{findFunction}
 use Rattle.graph.specs.Read.{version1}
-use Rattle.graph.specs.Judge.{fresh, callOk, judge}
+use Rattle.graph.specs.Judge.{fresh, callOk}
 use Rattle.reader.specs.Layout.{nodesAt, nodeCount, nodesPlace, outputsAt, outputsPlace, functionAt, earlier}
 use Rattle.reader.specs.Find.{ReadsNodes, functionFound}
 use Rattle.reader.specs.Records.{seen}
 use Rattle.reader.proofs.Passed.{Holds, function-holds, found-function, no-function}
 use Rattle.checker.specs.declared.Head.{Head}
 use Rattle.checker.specs.Answers.{callsChecked, outputsChecked, nodeChecked}
-use Rattle.checker.specs.Slots.{Scene}
-use Rattle.checker.proofs.Wiring.{nodes-of}
+use Rattle.checker.specs.Slots.{Scene, PlacesAre, RowsAre}
+use Rattle.checker.proofs.Slotting.{few-nodes, nodes-read, same-nodes, rows-are, places-length, places-are}
 use Rattle.checker.proofs.Whole.{seen-good, seen-fault, not-good, judged-twice, judged-fresh, judged-calls, judged-outputs, judged-nodes, judged-loops, ready}
 use Rattle.checker.proofs.judge_function.Statement.{statement}
 use Rattle.checker.proofs.judge_function.Tie as tie
@@ -77,19 +76,6 @@ begin w = start w .args .place + 6 + w .before .before .size2 .result + 4 * w .b
 abbrev head : tie.After-wide → Head
 head w = record { place = start w .args .place; first = begin w; count = w .wide .result }
 
-nodes : (w : tie.After-wide) → ReadsNodes (w .wide .result) (start w .args .s .now) (begin w)
-nodes w =
-    let s = start w .args .s .now in
-    subst (λ (n : ℕ). ReadsNodes n s (begin w)) (sym (count w))
-    (subst (ReadsNodes (nodeCount s (start w .args .place)) s) (sym (first (w .before .before))) (holds (start w) .nodes))
-
-same : (w : tie.After-wide) → nodesAt (w .wide .result) (start w .args .s .now) (begin w) ≡ functionAt (start w .args .s .now) (start w .args .place) .nodes
-same w =
-    let s = start w .args .s .now in
-    ap (λ (n : ℕ). nodesAt n s (begin w)) (count w)
-    ∙ ap (nodesAt (nodeCount s (start w .args .place)) s) (first (w .before .before))
-    ∙ sym (nodes-of s (start w .args .place))
-
 scene : (w : tie.After-wide) → Scene (start w .args .s .now) (start w .args .starts .now) (start w .args .k) (head w)
 scene w = record {
   started = start w .pre .0;
@@ -99,6 +85,15 @@ scene w = record {
   count = count w;
 }
 
+few : (w : tie.After-wide) → w .wide .result ≤ 256
+few w = let a = start w .args in few-nodes (a .s .now) (a .starts .now) (a .k) (head w) (scene w)
+
+nodes : (w : tie.After-wide) → ReadsNodes (w .wide .result) (start w .args .s .now) (begin w)
+nodes w = let a = start w .args in nodes-read (a .s .now) (a .starts .now) (a .k) (head w) (scene w)
+
+same : (w : tie.After-wide) → nodesAt (w .wide .result) (start w .args .s .now) (begin w) ≡ functionAt (start w .args .s .now) (start w .args .place) .nodes
+same w = let a = start w .args in same-nodes (a .s .now) (a .starts .now) (a .k) (head w) (scene w)
+
 outs : (w : tie.After-wide) → let a = start w .args in
     outputsAt (w .before .before .before .before .size .result) (a .s .now) (a .place + 6 + w .before .before .size2 .result) ≡ functionAt (a .s .now) (a .place) .outputs
 unfolding functionAt
@@ -107,47 +102,85 @@ outs w =
     ap (λ (n : ℕ). outputsAt n (a .s .now) (a .place + 6 + w .before .before .size2 .result)) (w .before .before .before .before .size .ensures .0)
     ∙ ap (outputsAt (byte (a .s .now) (a .place + 3)) (a .s .now)) (outputs (w .before .before))
 
+-- ---- the arrays
+
+abbrev wide-of : tie.After-places → tie.After-wide
+wide-of p = p .before .before
+
+abbrev filled : tie.After-places → List ℕ
+filled p = p .places .last .1 .1 .1 .0
+
+placed : (p : tie.After-places) → let w = wide-of p in PlacesAre (start w .args .s .now) (begin w) (w .wide .result) (filled p)
+placed p =
+    let w = wide-of p in
+    places-are (start w .args .s .now) (begin w) (w .wide .result) (start w .args .places .now) (filled p) (p .places .ensures) (start w .pre .4) (few w)
+
 -- ---- what the checks say of the function
 
-fresh-is : (c : tie.After-fresh-nodes) → let a = start (c .before) .args in
-    c .fresh-nodes .result ≡ seen (fresh [] (functionAt (a .s .now) (a .place) .nodes))
-fresh-is c = c .fresh-nodes .ensures ∙ ap (λ (ns : List Node). seen (fresh [] ns)) (same (c .before))
+abbrev places-of : tie.After-enum-told3 → tie.After-places
+places-of t = t .before .before .before .before
 
-calls-is : (c : tie.After-calls-good) → let a = start (c .before .before .before .before) .args in
+fresh-is : (c : tie.After-fresh-nodes) → let a = start (wide-of (c .before .before)) .args in
+    c .fresh-nodes .result ≡ seen (fresh [] (functionAt (a .s .now) (a .place) .nodes))
+fresh-is c = c .fresh-nodes .ensures ∙ ap (λ (ns : List Node). seen (fresh [] ns)) (same (wide-of (c .before .before)))
+
+-- each from the one before it
+abbrev told3 : tie.After-enum-told5 → tie.After-enum-told3
+told3 t = t .before .before .before .before
+
+abbrev told5 : tie.After-enum-told7 → tie.After-enum-told5
+told5 t = t .before .before .before
+
+abbrev told7 : tie.After-nodes-good → tie.After-enum-told7
+told7 r = r .before .before .before .before .before
+
+calls-is : (c : tie.After-calls-good) → let a = start (wide-of (places-of (c .before .before))) .args in
     c .calls-good .result ≡ seen (callsChecked (a .s .now) (a .k) (functionAt (a .s .now) (a .place)))
 calls-is c =
-    let w = c .before .before .before .before in
+    let w = wide-of (places-of (c .before .before)) in
     let a = start w .args in
     c .calls-good .ensures ∙ ap (λ (ns : List Node). seen (each (λ n. callOk (earlier (version1 .header) (a .s .now) (a .k)) (n .place) (n .payload)) ns)) (same w)
 
-outputs-is : (c : tie.After-outputs-good) → let a = start (c .before .before .before .before .before .before .before) .args in
+outputs-is : (c : tie.After-outputs-good) → let a = start (wide-of (places-of (told3 (c .before)))) .args in
     c .outputs-good .result ≡ seen (outputsChecked (a .s .now) (a .k) (a .place) (functionAt (a .s .now) (a .place) .outputs))
 outputs-is c =
-    let w = c .before .before .before .before .before .before .before in
+    let w = wide-of (places-of (told3 (c .before))) in
     let a = start w .args in
     c .outputs-good .ensures ∙ ap (λ (os : List Output). seen (outputsChecked (a .s .now) (a .k) (a .place) os)) (outs w)
 
-fresh-ok : (t : tie.After-enum-told3) → let a = start (t .before .before .before) .args in fresh [] (functionAt (a .s .now) (a .place) .nodes) ≡ ok tt
+fresh-ok : (t : tie.After-enum-told3) → let a = start (wide-of (places-of t)) .args in fresh [] (functionAt (a .s .now) (a .place) .nodes) ≡ ok tt
 fresh-ok t = seen-good _ (sym (t .enum-told3 .given .1) ∙ fresh-is (t .before .before))
 
-calls-ok : (t : tie.After-enum-told5) → let a = start (t .before .before .before .before .before .before) .args in
+calls-ok : (t : tie.After-enum-told5) → let a = start (wide-of (places-of (told3 t))) .args in
     callsChecked (a .s .now) (a .k) (functionAt (a .s .now) (a .place)) ≡ ok tt
 calls-ok t = seen-good _ (sym (t .enum-told5 .given .1) ∙ calls-is (t .before .before))
 
-outputs-ok : (t : tie.After-enum-told7) → let a = start (t .before .before .before .before .before .before .before .before .before) .args in
+outputs-ok : (t : tie.After-enum-told7) → let a = start (wide-of (places-of (told3 (told5 t)))) .args in
     outputsChecked (a .s .now) (a .k) (a .place) (functionAt (a .s .now) (a .place) .outputs) ≡ ok tt
 outputs-ok t = seen-good _ (sym (t .enum-told7 .given .1) ∙ outputs-is (t .before .before))
 
-nodes-ok : (t : tie.After-enum-told9) → let a = start (t .before .before .before .before .before .before .before .before .before .before .before .before .before) .args in
+nodes-ok : (t : tie.After-enum-told9) → let a = start (wide-of (places-of (told3 (told5 (told7 (t .before .before)))))) .args in
     each (nodeChecked (a .s .now) (a .k) (a .place)) (functionAt (a .s .now) (a .place) .nodes) ≡ ok tt
-nodes-ok t = seen-good _ (sym (t .enum-told9 .given .1) ∙ t .before .before .nodes-good .ensures .0)
+nodes-ok t = seen-good _ (sym (t .enum-told9 .given .1) ∙ t .before .before .nodes-good .ensures)
+
+-- the slots
+rows-at : (v : tie.After-resolve) → let w = wide-of (places-of (told3 (told5 (v .before .before)))) in let a = start w .args in
+    RowsAre (a .s .now) (a .place) (w .wide .result) (v .resolve .last .1 .1 .1 .0)
+rows-at v =
+    let w = wide-of (places-of (told3 (told5 (v .before .before)))) in
+    let a = start w .args in
+    rows-are (a .s .now) (a .starts .now) (a .k) (head w) (scene w) (a .targets .now) (v .resolve .last .1 .1 .1 .0) (v .resolve .ensures) (start w .pre .5)
+
+rows : (r : tie.After-nodes-good) → let w = wide-of (places-of (told3 (told5 (told7 r)))) in let a = start w .args in
+    RowsAre (a .s .now) (a .place) (w .wide .result) (r .before .before .before .resolve .last .1 .1 .1 .0)
+rows r = rows-at (r .before .before .before)
 
 -- ---- the first fault
 
 returns-2 : tie.Need-returns-2
 returns-2 c =
     let r = c .before .before in
-    let w = r .before in
+    let w = wide-of (r .before .before) in
     let a = start w .args in
     let g = c .enum-told4 .given in (
       g .1
@@ -159,8 +192,8 @@ returns-2 c =
 returns-3 : tie.Need-returns-3
 returns-3 c =
     let r = c .before .before in
-    let t3 = r .before in
-    let w = t3 .before .before .before in
+    let t3 = r .before .before in
+    let w = wide-of (places-of t3) in
     let a = start w .args in
     let g = c .enum-told6 .given in (
       g .1
@@ -173,8 +206,8 @@ returns-4 : tie.Need-returns-4
 returns-4 c =
     let r = c .before .before in
     let t5 = r .before in
-    let t3 = t5 .before .before .before in
-    let w = t3 .before .before .before in
+    let t3 = told3 t5 in
+    let w = wide-of (places-of t3) in
     let a = start w .args in
     let g = c .enum-told8 .given in (
       g .1
@@ -186,15 +219,15 @@ returns-4 c =
 returns-5 : tie.Need-returns-5
 returns-5 c =
     let r = c .before .before in
-    let t7 = r .before .before in
-    let t5 = t7 .before .before .before in
-    let t3 = t5 .before .before .before in
-    let w = t3 .before .before .before in
+    let t7 = told7 r in
+    let t5 = told5 t7 in
+    let t3 = told3 t5 in
+    let w = wide-of (places-of t3) in
     let a = start w .args in
     let g = c .enum-told10 .given in (
       g .1
           ∙ ap seen (sym (judged-nodes (earlier (version1 .header) (a .s .now) (a .k)) (functionAt (a .s .now) (a .place)) (new (w .before .before .before .before .before .before))
-          (fresh-ok t3) (calls-ok t5) (outputs-ok t7) _ _ (seen-fault _ _ _ (sym (g .1) ∙ r .nodes-good .ensures .0)))),
+          (fresh-ok t3) (calls-ok t5) (outputs-ok t7) _ _ (seen-fault _ _ _ (sym (g .1) ∙ r .nodes-good .ensures)))),
       λ e. absurd (not-good _ _ (sym (g .1) ∙ e)),
     )
 
@@ -204,28 +237,34 @@ loop-free-requires : tie.Need-loop-free-requires
 loop-free-requires c κs =
     let t9 = c .before in
     let r = t9 .before .before in
-    let t7 = r .before .before in
-    let t5 = t7 .before .before .before in
-    let t3 = t5 .before .before .before in
-    let w = t3 .before .before .before in
+    let t7 = told7 r in
+    let t5 = told5 t7 in
+    let t3 = told3 t5 in
+    let w = wide-of (places-of t3) in
     let a = start w .args in
     let small : Bytes (a .s .now) = λ i. omega (arith, w .before .before .before .before .before .before .before .before .before .before .shared-slice-known .given i) in
     ready (a .s .now) small (a .k) (head w) _ (start w .pre .2) (first (w .before .before)) (count w) (new (w .before .before .before .before .before .before)) (fresh-ok t3) (calls-ok t5)
-    (outputs-ok t7) (nodes-ok t9) (r .nodes-good .ensures .1 (t9 .enum-told9 .given .1))
+    (outputs-ok t7) (nodes-ok t9) (rows r)
 
 returns-6 : tie.Need-returns-6
 returns-6 c =
     let t9 = c .before .before in
     let r = t9 .before .before in
-    let t7 = r .before .before in
-    let t5 = t7 .before .before .before in
-    let t3 = t5 .before .before .before in
-    let w = t3 .before .before .before in
+    let t7 = told7 r in
+    let t5 = told5 t7 in
+    let t3 = told3 t5 in
+    let p = places-of t3 in
+    let w = wide-of p in
     let a = start w .args in (
       c .loop-free .ensures
           ∙ ap seen (sym (judged-loops (earlier (version1 .header) (a .s .now) (a .k)) (functionAt (a .s .now) (a .place)) (new (w .before .before .before .before .before .before))
           (fresh-ok t3) (calls-ok t5) (outputs-ok t7) (nodes-ok t9))),
-      λ e. r .nodes-good .ensures .1 (t9 .enum-told9 .given .1) .size,
+      λ e. record {
+        few = places-length (a .s .now) (begin w) (w .wide .result) (a .places .now) (filled p) (p .places .ensures) (start w .pre .4);
+        size = rows r .size;
+        places = subst (λ (n : ℕ). PlacesAre (a .s .now) (nodesPlace (a .s .now) (a .place)) n (filled p)) (count w)
+            (subst (λ (x : ℕ). PlacesAre (a .s .now) x (w .wide .result) (filled p)) (first (w .before .before)) (placed p));
+      },
     )
 
 pub judge-function-spec : {M : Type 1} → statement M
@@ -250,19 +289,28 @@ judge-function-spec =
     (λ c. omega (arith, holds (c .before .before .before .before .before .before .before .before .before) .head))
     (λ c κs. omega (arith, holds (c .before .before .before .before .before .before .before .before .before) .head))
     (λ c κs. search needs)
-    (λ c κs. (nodes c, let e = count c in omega (arith, e, holds (start c) .few)))
+    (λ c κs. let w = c .before in (nodes w, few w, start w .pre .3, start w .pre .4))
+    (λ c κs. let p = c .before in (nodes (wide-of p), few (wide-of p), placed p))
     (λ c. search needs)
     (λ c. search needs)
     returns-2
-    (λ c κs. let w = c .before .before .before in (nodes w, start w .pre .0, start w .pre .1))
+    (λ c κs. let p = places-of (c .before) in let b = start (wide-of p) in (nodes (wide-of p), few (wide-of p), placed p, b .pre .0, b .pre .1))
     (λ c. search needs)
     (λ c. search needs)
     returns-3
-    (λ c κs. let w = c .before .before .before .before .before .before in (scene w, omega (arith, holds (start w) .outputs, first (w .before .before))))
+    (λ c κs. let w = wide-of (places-of (told3 c)) in (scene w, omega (arith, holds (start w) .outputs, first (w .before .before))))
     (λ c. search needs)
     (λ c. search needs)
     returns-4
-    (λ c κs. let t7 = c .before in let w = t7 .before .before .before .before .before .before .before .before .before in (scene w, calls-ok (t7 .before .before .before), start w .pre .3))
+    (λ c κs.
+    let t3 = told3 (told5 (c .before)) in
+    let w = wide-of (places-of t3) in
+    (nodes w, few w, start w .pre .5, ap (fresh []) (same w) ∙ fresh-ok t3))
+    (λ c κs.
+    let v = c .before .before in
+    let t5 = told5 (v .before .before) in
+    let p = places-of (told3 t5) in
+    (scene (wide-of p), placed p, rows-at v, calls-ok t5))
     (λ c. search needs)
     (λ c. search needs)
     returns-5

@@ -5,6 +5,7 @@ use mathlib.Core.Option.{Option, none, some}
 use mathlib.Core.List.{List}
 use native.Mathlib.Omega.{arith}
 use lib.ListN.{length, getElem?}
+use borrow.Author.Tests.{eqb-true}
 use Rattle.graph.specs.Graph.{Node}
 use Rattle.topology.specs.Indices.{indexOrder}
 use Rattle.topology.specs.Paths.{firstOnLoop}
@@ -31,22 +32,23 @@ count b = b .pre .count ∙ sym (nodes-count (b .args .s .now) (b .args .f .plac
 returns : tie.Need-returns
 returns c =
     let d = c .before in
-    let b = d .before .before .before in
+    let b = d .before .before in
     let a = b .args in
     let q = b .pre in
     ap seen
     (sym
     (complete-iff (a .targets .now) (functionAt (a .s .now) (a .f .place)) (q .resolves) (q .own) (q .named) .0
-    (ap (λ (n : ℕ). length (indexOrder (a .targets .now) n)) (sym (count b)) ∙ (sym (d .schedule .ensures .0) ∙ (c .if1 .taken ∙ count b)))))
+    (ap (λ (n : ℕ). length (indexOrder (a .targets .now) n)) (sym (count b))
+    ∙ (eqb-true (length (indexOrder (a .targets .now) (a .f .count))) (a .f .count) (sym (d .orderable .ensures) ∙ c .if1 .taken) ∙ count b))))
 
-told : (f : tie.After-first-on-loop) → let b = f .before .before .before .before .before in let a = b .args in
+told : (f : tie.After-first-on-loop) → let b = f .before .before .before .before in let a = b .args in
     f .first-on-loop .result ≡ firstOnLoop (a .targets .now) (length (functionAt (a .s .now) (a .f .place) .nodes))
-told f = let b = f .before .before .before .before .before in f .first-on-loop .ensures ∙ ap (firstOnLoop (b .args .targets .now)) (count b)
+told f = let b = f .before .before .before .before in f .first-on-loop .ensures ∙ ap (firstOnLoop (b .args .targets .now)) (count b)
 
 place : tie.Need-node-place-requires
 place c κs =
     let f = c .before .before .before in
-    let b = f .before .before .before .before .before in
+    let b = f .before .before .before .before in
     let a = b .args in
     let s = a .s .now in
     let l = found-at (a .targets .now) (length (functionAt s (a .f .place) .nodes)) _ (sym (told f) ∙ c .before .found .given .1) .0 in
@@ -59,7 +61,7 @@ returns-2 : tie.Need-returns-2
 returns-2 c =
     let d = c .before in
     let f = d .before .before .before in
-    let b = f .before .before .before .before .before in
+    let b = f .before .before .before .before in
     let a = b .args in
     let s = a .s .now in
     let q = b .pre in
@@ -71,7 +73,7 @@ returns-2 c =
 returns-3 : tie.Need-returns-3
 returns-3 c =
     let f = c .before .before in
-    let b = f .before .before .before .before .before in
+    let b = f .before .before .before .before in
     let a = b .args in
     let q = b .pre in
     ap seen (sym (nowhere-free (a .targets .now) (functionAt (a .s .now) (a .f .place)) (q .resolves) (q .own) (q .named) (sym (told f) ∙ c .enum-told .given .1)))
@@ -80,9 +82,9 @@ pub loop-free-spec : {M : Type 1} → statement M
 loop-free-spec =
     tie.close
     (tie.spec
-    (λ c κs. small (c .before .before))
+    (λ c κs. small (c .before))
     returns
-    (λ c κs. small (c .before .before .before .before))
+    (λ c κs. small (c .before .before .before))
     (λ c. search needs)
     place
     (λ c. search needs)

@@ -29,7 +29,7 @@ returns c =
     (sym
     (l .inv .1
     ∙ outputs-fault (a .s .now) (a .k) (a .f .place) (l .left) (l .at) 11 (l .at + 1) (i .loop-test .taken)
-    (lost (a .s .now) (a .k) (a .f .place) (l .at + 1) (byte (a .s .now) (l .at)) (sym (r .resolve .ensures) ∙ c .enum-told .given .1))))
+    (lost (a .s .now) (a .k) (a .f .place) (l .at + 1) (byte (a .s .now) (l .at)) (sym (r .reference-port .ensures) ∙ c .enum-told .given .1))))
 
 returns-2 : tie.Need-returns-2 Inv-loop μ-loop
 returns-2 c =
@@ -42,7 +42,7 @@ returns-2 c =
     (sym
     (l .inv .1
     ∙ outputs-fault (a .s .now) (a .k) (a .f .place) (l .left) (l .at) 12 (l .at + 1) (i .loop-test .taken)
-    (mistyped (a .s .now) (a .k) (a .f .place) (l .at + 1) _ _ (sym (r .resolve .ensures) ∙ d .before .found .given .1) (byte (a .s .now) (l .at)) (c .if1 .taken))))
+    (mistyped (a .s .now) (a .k) (a .f .place) (l .at + 1) _ (sym (r .reference-port .ensures) ∙ d .before .found .given .1) (byte (a .s .now) (l .at)) (c .if1 .taken))))
 
 loop-again : tie.Need-loop-again Inv-loop μ-loop
 loop-again c =
@@ -54,7 +54,7 @@ loop-again c =
       omega (arith, l .inv .0, i .loop-test .taken),
       l .inv .1
           ∙ outputs-on (a .s .now) (a .k) (a .f .place) (l .left) (l .at) (i .loop-test .taken)
-          (welltyped (a .s .now) (a .k) (a .f .place) (l .at + 1) _ _ (sym (r .resolve .ensures) ∙ d .before .found .given .1) (byte (a .s .now) (l .at)) (c .if1 .left)),
+          (welltyped (a .s .now) (a .k) (a .f .place) (l .at + 1) _ (sym (r .reference-port .ensures) ∙ d .before .found .given .1) (byte (a .s .now) (l .at)) (c .if1 .left)),
     )
 
 returns-3 : tie.Need-returns-3 Inv-loop μ-loop
