@@ -1,44 +1,28 @@
 -- What an accepted table says of the function at a position.
-use Prim.Native.Nat.{ℕ, zero, suc, _+_, _-_, _*_, _≤_, _<_}
-use mathlib.Core.Path.{_≡_, refl, sym, ap, _∙_, subst}
-use mathlib.Core.Bool.{Bool, true, false, _&&_}
-use mathlib.Core.List.{List, [], _∷_, reverse}
+use Prim.Native.Nat.{ℕ, zero, suc, _+_, _≤_, _<_}
+use mathlib.Core.Path.{_≡_, refl, sym, ap, subst}
+use mathlib.Core.List.{List, [], reverse}
 use mathlib.Core.Logic.{_⊎_, inl, inr, ⊎-elim}
 use native.Mathlib.Omega.{arith}
-use lib.Dec.{leb, eqb}
-use lib.ListN.{length}
+use lib.Dec.{leb}
 use borrow.Author.Tests.{leb-true}
 use Rattle.value.specs.Typed.{Each}
-use Rattle.graph.specs.Outcome.{Outcome, ok, _>>=_, _>>_}
-use Rattle.graph.specs.Bytes.{byte, u16}
-use Rattle.graph.specs.Graph.{Node, Output, Function}
-use Rattle.graph.specs.Judge.{table, judgeAll}
-use Rattle.graph.specs.Read.{version1, Part, function, functions, parse}
+use Rattle.graph.specs.Outcome.{ok, _>>_}
+use Rattle.graph.specs.Bytes.{byte}
+use Rattle.graph.specs.Graph.{Function}
+use Rattle.graph.specs.Judge.{fresh, table, judgeAll}
+use Rattle.graph.specs.Read.{version1, Part, functions, parse}
 use Rattle.graph.specs.Sound.{AllSound}
+use Rattle.graph.proofs.Exactly.{distinct-fresh}
 use Rattle.graph.proofs.Loops.{and-inv}
 use Rattle.graph.proofs.Steps.{took, passed}
-use Rattle.reader.specs.Layout.{kindAt, nodeEnd, inputsAt, outputsAt, inputCount, outputCount, nodeCount, outputsPlace, nodesPlace, functionAt, functionEnd, functionPlace, earlier}
-use Rattle.reader.specs.Find.{ReadsNode, ReadsNodes, ReadsFunction}
-use Rattle.reader.proofs.Standing.{function-read}
-use Rattle.reader.proofs.Passed.{head-fits, callee-fits, first-reads, rest-reads, function-holds}
-use Rattle.compiler.specs.Position.{placeOf, functionIn, before, NodeFit, NodesFit, Fit}
+use Rattle.reader.specs.Layout.{nodesAt, nodeCount, nodesPlace, functionAt, functionPlace, earlier}
+use Rattle.reader.specs.Find.{ReadsNodes, ReadsFunction}
+use Rattle.reader.proofs.Passed.{function-holds}
+use Rattle.sizes.specs.Position.{placeOf, functionIn, before, Fit}
+use Rattle.sizes.proofs.Accepted.{at-places, function-fit}
 use Rattle.compiler.specs.Spotting.{Accepted}
 use Rattle.compiler.proofs.Spots.{Single, accepted-single}
-
--- ---- each function was read
-
-functions-at : (s : List ℕ) (n j : ℕ) (p : Part (List Function)) → functions (version1 .nodeLimit) n s (placeOf s j) ≡ ok p → (i : ℕ) → i < n → ReadsFunction s (placeOf s (i + j))
-unfolding functionPlace
-functions-at s zero j p e i l = absurd (omega arith)
-functions-at s (suc n) j p e i l =
-    let (x, ex, e1) = took _ _ _ e in
-    let (r, er, e2) = took _ _ _ e1 in
-    let q : x .next ≡ functionEnd s (placeOf s j) = ap (λ (y : Part Function). y .next) (function-read (version1 .nodeLimit) s (placeOf s j) x ex) in
-    byIndex i l (x, ex) (λ i' l'. functions-at s n (suc j) r (subst (λ (a : ℕ). functions (version1 .nodeLimit) n s a ≡ ok r) q er) i' l')
-  where
-    byIndex : (i : ℕ) → i < suc n → ReadsFunction s (placeOf s j) → ((i' : ℕ) → i' < n → ReadsFunction s (placeOf s (i' + suc j))) → ReadsFunction s (placeOf s (i + j))
-    byIndex zero l h t = let z : j ≡ 0 + j = omega arith in subst (λ (a : ℕ). ReadsFunction s (placeOf s a)) z h
-    byIndex (suc i) l h t = let z : i + suc j ≡ suc i + j = omega arith in subst (λ (a : ℕ). ReadsFunction s (placeOf s a)) z (t i (omega arith))
 
 module _ (s : List ℕ) (k : ℕ) (acc : Accepted s k) where
   parts : (gs : List Function) × (p : Part (List Function)) × (byte s 5 ≤ 16) × (functions (version1 .nodeLimit) (byte s 5) s 8 ≡ ok p)
@@ -60,9 +44,9 @@ module _ (s : List ℕ) (k : ℕ) (acc : Accepted s k) where
   unfolding functionPlace
   was-read j l =
       let (gs, p, m, e) = parts in
-      let z : j + 0 ≡ j = omega arith in
+      let z : 0 + j ≡ j = omega arith in
       let n = acc .most in
-      subst (λ (a : ℕ). ReadsFunction s (placeOf s a)) z (functions-at s (byte s 5) 0 p e j (omega arith))
+      subst (λ (a : ℕ). ReadsFunction s (placeOf s a)) z (at-places s (byte s 5) 0 p e j (omega arith))
 
   -- ---- sound, with single ids
 
@@ -97,45 +81,14 @@ module _ (s : List ℕ) (k : ℕ) (acc : Accepted s k) where
   pub single-at : (j : ℕ) → j < k → Single (functionIn s j .nodes)
   single-at j l = let n = acc .most in single-down (byte s 5) j (omega arith) (accepted-single s (acc .small) (before s (byte s 5)) (acc .read))
 
+  pub fresh-at : (j : ℕ) → j < k → fresh [] (nodesAt (nodeCount s (placeOf s j)) s (nodesPlace s (placeOf s j))) ≡ ok tt
+  unfolding functionAt
+  fresh-at j l = distinct-fresh (functionIn s j .nodes) (single-at j l)
+
   -- ---- places that the code can take
-
-  nodes-fit : (n at : ℕ) → ReadsNodes n s at → NodesFit s n at
-  nodes-fit zero at h = tt
-  nodes-fit (suc n) at h =
-      let x : ReadsNode s at = first-reads s (suc n) at (omega arith) h in
-      let z : suc n - 1 ≡ n = omega arith in
-      let y = rest-reads s (suc n) at (omega arith) h in
-      let l = head-fits s at x in
-      let m = acc .short in
-      (record { near = omega arith; arguments = λ f. callee-fits s at x f .1 }, nodes-fit n (nodeEnd s at) (rw z at y))
-
-  inputs-length : (n at : ℕ) → length (inputsAt n s at) ≡ n
-  inputs-length zero at = refl
-  inputs-length (suc n) at = ap suc (inputs-length n (at + 1))
-
-  outputs-length : (n at : ℕ) → length (outputsAt n s at) ≡ n
-  outputs-length zero at = refl
-  outputs-length (suc n) at = ap suc (outputs-length n (at + 4))
 
   pub reads-nodes : (j : ℕ) → j < k → ReadsNodes (nodeCount s (placeOf s j)) s (nodesPlace s (placeOf s j))
   reads-nodes j l = function-holds s (placeOf s j) (was-read j l) .nodes
 
   pub fit-at : (j : ℕ) → j < k → Fit s j
-  unfolding functionAt earlier
-  fit-at j l =
-      let h = function-holds s (placeOf s j) (was-read j l) in
-      let m = acc .short in
-      let a = h .head in
-      let f = sound-to (suc j) (omega arith) .0 .resolved .formed in
-      let i = f .inputs in
-      let o = f .outputs in
-      let x : length (inputsAt (inputCount s (placeOf s j)) s (placeOf s j + 6)) ≡ inputCount s (placeOf s j) = inputs-length (inputCount s (placeOf s j)) (placeOf s j + 6) in
-      let y : length (outputsAt (outputCount s (placeOf s j)) s (outputsPlace s (placeOf s j))) ≡ outputCount s (placeOf s j) =
-      outputs-length (outputCount s (placeOf s j)) (outputsPlace s (placeOf s j)) in
-      record {
-        place = omega arith;
-        inputs = omega arith;
-        outputs = omega arith;
-        count = h .few;
-        nodes = nodes-fit (nodeCount s (placeOf s j)) (nodesPlace s (placeOf s j)) (h .nodes);
-      }
+  fit-at j l = function-fit s (acc .short) j (was-read j l)

@@ -1,16 +1,16 @@
 -- The refusals 14 to 17 and the answer, by the function's position.
-use Prim.Native.Nat.{ℕ, zero, suc, _+_, _*_, _≤_, _<_, min}
+use Prim.Native.Nat.{ℕ, zero, suc, _+_, _*_, _≤_, _<_}
 use mathlib.Core.Path.{_≡_, refl, sym, ap, _∙_, subst}
 use mathlib.Core.Bool.{Bool, true, false, cond}
 use mathlib.Core.List.{List, [], _∷_, reverse}
-use mathlib.Core.Option.{Option, none, some}
+use mathlib.Core.Option.{none, some}
 use native.Mathlib.Omega.{arith}
-use lib.Dec.{eqb, leb}
+use lib.Dec.{eqb}
 use lib.ListN.{length}
 use lib.Seq.{sets}
 use borrow.Author.Tests.{eqb-true, le-leb, lt-leb}
 use Rattle.ports.specs.Kinds.{kindOf}
-use Rattle.ports.specs.Ports.{widths, arity, constantWords, constantIn, formOf, portsOf}
+use Rattle.ports.specs.Ports.{widths, constantWords, constantIn, formOf, portsOf}
 use Rattle.ports.specs.declared.Form.{Form}
 use Rattle.ports.specs.declared.Form.the-variants.{Absent, Constant, References, Call}
 use Rattle.graph.specs.Outcome.{Outcome, ok, fault, _>>=_, _>>_, need}
@@ -23,21 +23,22 @@ use Rattle.graph.proofs.Steps.{took, passed, ok-is}
 use Rattle.graph.proofs.Formed.{accepted}
 use Rattle.graph.specs.Sums.{sum, nodeOperations, functionOperations, operationsOf, functionWords}
 use Rattle.graph.specs.Table.{Chosen, chosen}
-use Rattle.reader.specs.Layout.{inputCount, outputCount, outputsPlace, functionAt, functionPlace, earlier}
+use Rattle.reader.specs.Layout.{inputCount, outputCount, outputsPlace, functionAt, earlier}
 use Rattle.reader.proofs.Standing.{table-read}
 use Rattle.checker.specs.declared.Verdict.{Verdict}
 use Rattle.checker.specs.Answers.{verdictOf}
 use Rattle.list.specs.Compile.{places, boardListOf}
-use Rattle.list.specs.Answers.{compilable, codeOf, compiled}
-use Rattle.compiler.specs.Static.{nodeInstructions, nodeBytes, functionInstructions, functionBytes, instructionsOf, bytesOfFunction}
-use Rattle.compiler.specs.Position.{placeOf, functionIn, before, positionOf}
-use Rattle.compiler.specs.Capped.{operationsAt, wordsAt, instructionsAt, bytesAt}
+use Rattle.list.specs.Answers.{compiled}
+use Rattle.sizes.specs.CodeSums.{nodeBytes, functionBytes, bytesOfFunction}
+use Rattle.sizes.specs.Position.{placeOf, functionIn, before, positionOf}
+use Rattle.sizes.specs.Capped.{operationsAt, wordsAt, instructionsAt, bytesAt}
 use Rattle.compiler.specs.Spotting.{Accepted}
-use Rattle.compiler.specs.Whole.{typesBy, codeAt}
-use Rattle.compiler.proofs.Rows.{narrow}
-use Rattle.compiler.proofs.CodeSizes.{function-instructions, function-operations, encode-length}
-use Rattle.compiler.proofs.Assembly.{inputs-types, outputs-types}
-use Rattle.compiler.proofs.Positions.{at-position, no-position}
+use Rattle.sizes.specs.Answers.{typesBy}
+use Rattle.compiler.specs.Whole.{codeAt}
+use Rattle.sizes.proofs.Rows.{narrow}
+use Rattle.sizes.proofs.CodeSizes.{function-instructions, function-operations, encode-length}
+use Rattle.sizes.proofs.Widths.{inputs-are, outputs-are}
+use Rattle.sizes.proofs.Positions.{at-position, no-position}
 use Rattle.compiler.proofs.Accepting.{few, sound-to}
 
 -- ---- instructions and bytes are bounded by the operations
@@ -169,7 +170,7 @@ pub input-words : (s : List ℕ) (k p m w : ℕ) → p ≡ placeOf s k → m ≡
 unfolding functionAt
 input-words s k p m w ep em ew =
     ew ∙ ap (λ (q : ℕ). widths (typesBy 1 m s (q + 6))) ep ∙ ap (λ (x : ℕ). widths (typesBy 1 x s (placeOf s k + 6))) em
-    ∙ ap widths (sym (inputs-types (inputCount s (placeOf s k)) s (placeOf s k + 6)))
+    ∙ ap widths (inputs-are (inputCount s (placeOf s k)) s (placeOf s k + 6))
 
 pub output-widths : (s : List ℕ) (k p i m w : ℕ) → p ≡ placeOf s k → i ≡ inputCount s (placeOf s k) → m ≡ outputCount s (placeOf s k) → w ≡ widths (typesBy 4 m s (p + 6 + i))
     → w ≡ widths (outputTypes (functionIn s k .outputs))
@@ -177,7 +178,7 @@ unfolding functionAt
 output-widths s k p i m w ep ei em ew =
     ew ∙ ap (λ (q : ℕ). widths (typesBy 4 m s (q + 6 + i))) ep ∙ ap (λ (x : ℕ). widths (typesBy 4 m s (placeOf s k + 6 + x))) ei
     ∙ ap (λ (x : ℕ). widths (typesBy 4 x s (outputsPlace s (placeOf s k)))) em
-    ∙ ap widths (sym (outputs-types (outputCount s (placeOf s k)) s (outputsPlace s (placeOf s k))))
+    ∙ ap widths (outputs-are (outputCount s (placeOf s k)) s (outputsPlace s (placeOf s k)))
 
 -- ---- the verdict
 

@@ -1,51 +1,39 @@
 -- Header, instructions and output words make the whole code.
-use Prim.Native.Nat.{ℕ, zero, suc, _+_, _-_, _*_, _%_, _≤_, _<_}
+use Prim.Native.Nat.{ℕ, zero, suc, _+_, _*_, _≤_, _<_}
 use mathlib.Core.Path.{_≡_, refl, sym, ap, _∙_, subst}
 use mathlib.Core.List.{List, [], _∷_, _++_, map}
-use mathlib.Core.Logic.{_⊎_, inl, inr, ⊎-elim}
 use native.Mathlib.Omega.{arith}
-use lib.ListN.{length, getD, replicate, length-append, length-map}
+use lib.ListN.{length, getD, replicate, length-append}
 use lib.Seq.{sets, length-sets}
 use borrow.Author.Tests.{lt-ltb, le-ltb}
 use Rattle.value.specs.Typed.{Each}
 use Rattle.ports.specs.Ports.{width, widths}
-use Rattle.graph.specs.Bytes.{byte}
-use Rattle.graph.specs.Graph.{Ref, Node, Output, Function}
+use Rattle.graph.specs.Graph.{Function}
 use Rattle.graph.specs.Judge.{outputTypes}
 use Rattle.graph.specs.Sound.{AllSound}
-use Rattle.graph.specs.Sums.{resultWords, resultWordsOf, functionWords}
-use Rattle.reader.specs.Layout.{inputsAt, outputsAt, inputCount, outputCount, outputsPlace, functionAt, earlier}
+use Rattle.graph.specs.Sums.{resultWords, resultWordsOf}
+use Rattle.reader.specs.Layout.{outputCount, outputsPlace, functionAt, earlier}
 use Rattle.list.specs.Compile.{places, spans, Opened, openFunction, opened, boardListOf}
 use Rattle.list.specs.Code.{allBytes, headerCode, instructionsCode, encode}
 use Rattle.list.proofs.Limits.{words-of, output-words}
 use Rattle.compiler.specs.declared.Reached.{Reached}
 use Rattle.compiler.specs.Static.{Spot, nowhere, input, offset, spotAt, closed}
-use Rattle.compiler.specs.Position.{placeOf, functionIn, before}
-use Rattle.compiler.specs.Capped.{wordsAt}
+use Rattle.sizes.specs.Position.{placeOf, functionIn, before}
+use Rattle.sizes.specs.Capped.{wordsAt}
 use Rattle.compiler.specs.Emit.{Stands, addressOf, addressesIn, functionOpened, Room, Emits, closedAt}
-use Rattle.compiler.specs.Spotting.{Accepted, Codes, PortsCoded}
-use Rattle.compiler.specs.Whole.{typesBy, codeAt, Measured}
-use Rattle.compiler.proofs.Writing.{sets-append}
+use Rattle.compiler.specs.Spotting.{Accepted, PortsCoded}
+use Rattle.sizes.specs.Answers.{typesBy}
+use Rattle.sizes.proofs.Widths.{outputs-are}
+use Rattle.compiler.specs.Whole.{codeAt, Measured}
+use Rattle.resolver.proofs.Storing.{sets-append}
 use Rattle.compiler.proofs.Bounds.{Within, outputs-within}
 use Rattle.compiler.proofs.Spots.{opened-follows, function-ports}
-use Rattle.compiler.proofs.CodeSizes.{function-words, encode-length}
+use Rattle.compiler.proofs.Words.{function-words}
 use Rattle.compiler.proofs.Opening.{Same, function-same, padded}
 use Rattle.compiler.proofs.Emission.{stands-address}
 use Rattle.compiler.proofs.Coding.{closed-size}
-use Rattle.compiler.proofs.Accepting.{sound-to, fit-at}
+use Rattle.compiler.proofs.Accepting.{sound-to}
 use Rattle.compiler.proofs.Spreading.{each-wider, strong}
-
--- ---- type bytes
-
-pub inputs-types : (n : ℕ) (s : List ℕ) (at : ℕ) → inputsAt n s at ≡ typesBy 1 n s at
-unfolding typesBy
-inputs-types zero s at = refl
-inputs-types (suc n) s at = ap (λ (ts : List ℕ). byte s at ∷ ts) (inputs-types n s (at + 1))
-
-pub outputs-types : (n : ℕ) (s : List ℕ) (at : ℕ) → outputTypes (outputsAt n s at) ≡ typesBy 4 n s at
-unfolding typesBy
-outputs-types zero s at = refl
-outputs-types (suc n) s at = ap (λ (ts : List ℕ). byte s at ∷ ts) (outputs-types n s (at + 4))
 
 -- ---- addresses
 
@@ -163,13 +151,13 @@ module _ (s : List ℕ) (k : ℕ) (acc : Accepted s (suc k)) (count inputs outpu
       let e = closed-size s k in
       stands-low ins inputs (getD outs (8 * k + j) 0) (getD (closedAt s k .outputs) j nowhere) (omega arith) ins-low (stands j (omega arith))
 
-  outputs-are : spans (typesBy 4 (outputCount s (placeOf s k)) s (outputsPlace s (placeOf s k))) (addressesIn outs ins inputs (8 * k) (outputCount s (placeOf s k)))
+  spans-are : spans (typesBy 4 (outputCount s (placeOf s k)) s (outputsPlace s (placeOf s k))) (addressesIn outs ins inputs (8 * k) (outputCount s (placeOf s k)))
       ≡ boardListOf (before s k) f .outputs
   unfolding functionAt
-  outputs-are =
+  spans-are =
       let b = ms .words in
       let n = outputCount s (placeOf s k) in
-      ap (λ (ts : List ℕ). spans ts (addressesIn outs ins inputs (8 * k) n)) (sym (outputs-types n s (outputsPlace s (placeOf s k))))
+      ap (λ (ts : List ℕ). spans ts (addressesIn outs ins inputs (8 * k) n)) (outputs-are n s (outputsPlace s (placeOf s k)))
       ∙ ap (λ (m : ℕ). spans (outputTypes (f .outputs)) (addressesIn outs ins inputs (8 * k) m)) (sym (closed-size s k))
       ∙ ap (spans (outputTypes (f .outputs)))
       (stood outs (places 0 (f .inputs)) ins inputs (8 * k) (closedAt s k .outputs) (omega arith) same stands
@@ -178,7 +166,7 @@ module _ (s : List ℕ) (k : ℕ) (acc : Accepted s (suc k)) (count inputs outpu
 
   pub out-words : widths (typesBy 4 (outputCount s (placeOf s k)) s (outputsPlace s (placeOf s k))) ≡ outputs
   unfolding functionAt
-  out-words = ap widths (sym (outputs-types (outputCount s (placeOf s k)) s (outputsPlace s (placeOf s k)))) ∙ sym (ms .results)
+  out-words = ap widths (outputs-are (outputCount s (placeOf s k)) s (outputsPlace s (placeOf s k))) ∙ sym (ms .results)
 
   module _ (code code₁ code₂ code₃ : List ℕ) (r : Reached) (all : ℕ) (ea : all ≡ inputs + wordsAt s k)
       (e₁ : code₁ ≡ sets code 0 (headerCode inputs outputs count all)) (e₂ : Emits code₁ code₂ 12 (functionOpened s k ins inputs) r) where
@@ -209,7 +197,7 @@ module _ (s : List ℕ) (k : ℕ) (acc : Accepted s (suc k)) (count inputs outpu
         let ed : code₂ ≡ sets code₁ 12 i = e₂ .written ∙ ap (λ (x : Opened). sets code₁ 12 (instructionsCode (x .code))) opened-is in
         let et : r .at ≡ 12 + length i = e₂ .end ∙ ap (λ (x : Opened). 12 + length (instructionsCode (x .code))) opened-is in
         e₃
-        ∙ ap (λ (ws : List ℕ). sets code₂ (r .at) (allBytes 2 ws)) outputs-are
+        ∙ ap (λ (ws : List ℕ). sets code₂ (r .at) (allBytes 2 ws)) spans-are
         ∙ ap (λ (m : ℕ). sets code₂ m o) et
         ∙ ap (λ (l : List ℕ). sets l (12 + length i) o) ed
         ∙ sym (sets-append i o code₁ 12)

@@ -1,43 +1,40 @@
 -- What the numbers of spots mean.
-use Prim.Native.Nat.{ℕ, zero, suc, _+_, _-_, _*_, _%_, _≤_, _<_}
+use Prim.Native.Nat.{ℕ, zero, suc, _+_, _*_, _%_, _≤_, _<_}
 use mathlib.Core.Path.{_≡_, refl, sym, ap, _∙_, subst}
 use mathlib.Core.Bool.{Bool, true, false, cond}
 use mathlib.Core.List.{List, [], _∷_, map}
-use mathlib.Core.Option.{Option, none, some}
+use mathlib.Core.Option.{some}
 use mathlib.Core.Logic.{_⊎_, inl, inr, ⊎-elim}
 use native.Mathlib.Omega.{arith}
-use native.Mathlib.Nat.{add-zero}
 use lib.Dec.{eqb, ltb, leb}
-use lib.ListN.{length, getD, set, replicate, getElem?, length-map, List·getD-eq-default}
-use lib.Seq.{sets, length-sets}
+use lib.ListN.{length, getD, replicate, getElem?, length-map, List·getD-eq-default}
+use lib.Seq.{sets}
 use borrow.Author.Tests.{eqb-true, eqb-false, leb-true, leb-false, lt-ltb, le-ltb}
 use Rattle.value.specs.Typed.{Each}
 use Rattle.ports.specs.declared.Form.{Form}
 use Rattle.ports.specs.declared.Form.the-variants.{Absent, Constant, References, Call}
-use Rattle.ports.specs.declared.Ports.{Ports}
-use Rattle.ports.specs.Kinds.{kindOf}
-use Rattle.ports.specs.Ports.{width, own, gives, portsOf, formOf}
+use Rattle.ports.specs.Ports.{width, own, portsOf, formOf}
 use Rattle.graph.specs.Bytes.{byte, u16}
-use Rattle.graph.specs.Graph.{Ref, Payload, consts, refs, calls, Node, Output, Function}
+use Rattle.graph.specs.Graph.{Ref, Payload, calls, Node, Output}
 use Rattle.graph.specs.Look.{reads, readsOf, outputRefs}
 use Rattle.graph.specs.Read.{reference, references}
 use Rattle.graph.proofs.Loops.{In}
 use Rattle.graph.proofs.Order.{ids}
 use Rattle.graph.proofs.Formed.{refs-length}
-use Rattle.reader.specs.Layout.{kindAt, payloadAt, nodeAt, outputsAt, outputCount, outputsPlace, functionAt, functionPlace, earlier}
+use Rattle.reader.specs.Layout.{kindAt, payloadAt, nodeAt, outputsAt, outputCount, outputsPlace, functionAt, earlier}
 use Rattle.list.specs.Compile.{places}
 use Rattle.topology.specs.Indices.{slot}
 use Rattle.topology.specs.Resolve.{indexOf, target}
 use Rattle.topology.proofs.Nodes.{index-of, in-index}
 use Rattle.compiler.specs.Static.{Spot, nowhere, input, offset, through, Spotted, spotsOf, spotOf, Closed, Callee, closedNode, closed}
-use Rattle.compiler.specs.Position.{placeOf, functionIn, before, positionOf, calling, NodeFit}
+use Rattle.sizes.specs.Position.{placeOf, functionIn, before, positionOf, calling, NodeFit}
 use Rattle.compiler.specs.Emit.{closedAt}
-use Rattle.compiler.specs.Spotting.{portCode, readCodes, throughCode, throughCodes, resultCodes, calleeCodes, nodeCodes, Codes, PortsCoded, AllOuts, Knows}
-use Rattle.compiler.proofs.Writing.{sets-in, sets-below, sets-above}
+use Rattle.compiler.specs.Spotting.{portCode, readCodes, throughCode, throughCodes, resultCodes, calleeCodes, nodeCodes, Codes, PortsCoded, Knows}
+use Rattle.resolver.proofs.Storing.{sets-in, sets-below, sets-above}
 use Rattle.compiler.proofs.Bounds.{Within}
-use Rattle.compiler.proofs.Rows.{Narrow, narrow}
-use Rattle.compiler.proofs.Nodes.{call-payload, call-form}
-use Rattle.compiler.proofs.Positions.{at-position, no-position}
+use Rattle.sizes.proofs.Rows.{narrow}
+use Rattle.sizes.proofs.Nodes.{call-payload, call-form}
+use Rattle.sizes.proofs.Positions.{at-position, no-position}
 
 cmp : (a b : ℕ) → (a < b) ⊎ (b ≤ a)
 cmp a zero = inr (omega arith)

@@ -1,11 +1,9 @@
 -- The emitter's loop over the nodes of a function in their order.
-use Prim.Native.Nat.{ℕ, zero, suc, _+_, _-_, _*_, _%_, _≤_, _<_}
+use Prim.Native.Nat.{ℕ, _+_, _-_, _*_, _%_, _≤_, _<_}
 use mathlib.Core.Path.{_≡_, refl, sym, ap, _∙_, subst}
-use mathlib.Core.Bool.{Bool, true, false, cond}
 use mathlib.Core.List.{List, [], _∷_, _++_, map}
 use native.Mathlib.Omega.{arith}
 use native.Mathlib.Nat.{add-zero}
-use lib.Dec.{ltb}
 use lib.ListN.{length, getD, length-append}
 use lib.Seq.{sets, length-sets}
 use borrow.Author.Tests.{lt-ltb, le-ltb}
@@ -14,16 +12,16 @@ use Rattle.graph.specs.Look.{reads}
 use Rattle.graph.specs.Schedule.{schedule}
 use Rattle.graph.specs.Sums.{sum}
 use Rattle.reader.specs.Layout.{nodeAt, nodeCount}
-use Rattle.list.specs.Compile.{Opened, Open, openNode, openFunction, opened}
+use Rattle.list.specs.Compile.{Opened, Open, openNode, opened}
 use Rattle.list.specs.Board.{Instruction}
 use Rattle.list.specs.Code.{instructionsCode}
 use Rattle.compiler.specs.declared.Reached.{Reached}
 use Rattle.compiler.specs.Static.{Spot, nowhere, input, offset, spotAt, Callee, Spotted, closedNode, closed, spread, emitNodes}
-use Rattle.compiler.specs.Position.{placeOf, functionIn, before, NodeFit}
-use Rattle.compiler.specs.Emit.{spotRoom, Stands, addressOf, addressesIn, openWith, nodeOpened, functionOpened, Room, Emits, spotTable, Coded, Placed, closedAt, Laid, AllLaid}
-use Rattle.compiler.proofs.Writing.{sets-append}
-use Rattle.compiler.proofs.Spots.{Follows, node-next, opened-follows, function-next, function-table}
-use Rattle.compiler.proofs.CodeSizes.{code-append}
+use Rattle.sizes.specs.Position.{placeOf, functionIn, before, NodeFit}
+use Rattle.compiler.specs.Emit.{spotRoom, Stands, addressOf, addressesIn, openWith, nodeOpened, functionOpened, Room, Emits, spotTable, Coded, Placed, closedAt, Laid}
+use Rattle.resolver.proofs.Storing.{sets-append}
+use Rattle.compiler.proofs.Spots.{node-next, opened-follows, function-next, function-table}
+use Rattle.sizes.proofs.CodeSizes.{code-append}
 use Rattle.compiler.proofs.Opening.{open-with}
 
 -- ---- addresses of spots

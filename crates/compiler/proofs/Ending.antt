@@ -1,23 +1,18 @@
--- The loops of the header, the arguments, the sums and the output words, in plain terms.
-use Prim.Native.Nat.{ℕ, zero, suc, _+_, _-_, _*_, _≤_, _<_, min}
-use mathlib.Core.Path.{_≡_, refl, sym, ap, _∙_, subst}
-use mathlib.Core.Bool.{Bool, true, false}
+-- The loops of the header, the arguments and the output words, in plain terms.
+use Prim.Native.Nat.{ℕ, zero, suc, _+_, _-_, _*_, _≤_, _<_}
+use mathlib.Core.Path.{_≡_, refl, sym, ap, _∙_}
 use mathlib.Core.List.{List, [], _∷_, _++_, append-assoc}
 use native.Mathlib.Omega.{arith}
-use native.Mathlib.Nat.{add-zero}
-use lib.Dec.{eqb}
-use lib.ListN.{length, getD, set, length-set}
-use lib.Seq.{sets, length-sets, getD-set-same, getD-set-other}
-use borrow.Author.Tests.{eqb-true, eqb-false}
+use lib.ListN.{length, getD, set}
+use lib.Seq.{sets, length-sets}
 use Rattle.ports.specs.Ports.{width, widths}
 use Rattle.value.specs.Values.{span}
 use Rattle.graph.specs.Bytes.{byte}
-use Rattle.list.specs.Compile.{places, spans}
+use Rattle.list.specs.Compile.{spans}
 use Rattle.list.specs.Code.{bytesOf, allBytes, headerCode}
-use Rattle.compiler.specs.Capped.{operationCap, wordCap, byteCap, operationsAt, wordsAt, instructionsAt, bytesAt, Summed, AllSummed}
 use Rattle.compiler.specs.Emit.{addressOf, addressesIn}
-use Rattle.compiler.specs.Whole.{typesBy}
-use Rattle.compiler.proofs.Writing.{sets-append}
+use Rattle.sizes.specs.Answers.{typesBy}
+use Rattle.resolver.proofs.Storing.{sets-append}
 
 -- ---- type bytes
 
@@ -25,11 +20,9 @@ one-less : (n j : ℕ) → j < n → n - j ≡ suc (n - (j + 1))
 one-less n j h = omega arith
 
 pub types-next : (step n j : ℕ) (s : List ℕ) (q : ℕ) → j < n → typesBy step (n - j) s q ≡ byte s q ∷ typesBy step (n - (j + 1)) s (q + step)
-unfolding typesBy
 types-next step n j s q h = ap (λ (m : ℕ). typesBy step m s q) (one-less n j h)
 
 pub types-none : (step n j : ℕ) (s : List ℕ) (q : ℕ) → n ≤ j → typesBy step (n - j) s q ≡ []
-unfolding typesBy
 types-none step n j s q h = let z : n - j ≡ 0 = omega arith in ap (λ (m : ℕ). typesBy step m s q) z
 
 pub words-next : (step n j : ℕ) (s : List ℕ) (q : ℕ) → j < n → widths (typesBy step (n - j) s q) ≡ width (byte s q) + widths (typesBy step (n - (j + 1)) s (q + step))
@@ -72,41 +65,6 @@ module _ (code₀ : List ℕ) (at a n : ℕ) where
 
   pub span-done : (code : List ℕ) (j : ℕ) → Spanning code j → n ≤ j → code ≡ sets code₀ at (allBytes 2 (span a n))
   span-done code j h le = let z : n - j ≡ 0 = omega arith in sym (h .rest ∙ rw z)
-
--- ---- the sums of one function more
-
-cell : (xs xs' : List ℕ) (k v : ℕ) → xs' ≡ set xs k v → length xs ≡ 16 → k < 16 → getD xs' k 0 ≡ v
-cell xs xs' k v e l h = ap (λ (ys : List ℕ). getD ys k 0) e ∙ getD-set-same xs k v 0 (omega arith)
-
-other : (xs xs' : List ℕ) (k v j : ℕ) → xs' ≡ set xs k v → (j ≡ k → ⊥) → getD xs' j 0 ≡ getD xs j 0
-other xs xs' k v j e d = ap (λ (ys : List ℕ). getD ys j 0) e ∙ getD-set-other xs k j v 0 d
-
-pub sums-more : (s os ws cs bs os' ws' cs' bs' : List ℕ) (k : ℕ) → k < 16 → AllSummed s os ws cs bs k
-    → (length os ≡ 16) × (length ws ≡ 16) × (length cs ≡ 16) × (length bs ≡ 16)
-    → (os' ≡ set os k (min operationCap (operationsAt s k))) × (ws' ≡ set ws k (min wordCap (wordsAt s k)))
-    × (cs' ≡ set cs k (min operationCap (instructionsAt s k))) × (bs' ≡ set bs k (min byteCap (bytesAt s k)))
-    → AllSummed s os' ws' cs' bs' (k + 1)
-sums-more s os ws cs bs os' ws' cs' bs' k low h (l1, l2, l3, l4) (e1, e2, e3, e4) j jl = pickOne (eqb j k) refl
-  where
-    pickOne : (b : Bool) → eqb j k ≡ b → Summed s os' ws' cs' bs' j
-    pickOne true q =
-        let z : j ≡ k = eqb-true j k q in
-        subst (Summed s os' ws' cs' bs') (sym z)
-        (record {
-          operations = cell os os' k _ e1 l1 low;
-          words = cell ws ws' k _ e2 l2 low;
-          instructions = cell cs cs' k _ e3 l3 low;
-          bytes = cell bs bs' k _ e4 l4 low;
-        })
-    pickOne false q =
-        let d : j ≡ k → ⊥ = eqb-false j k q in
-        let x = h j (omega arith) in
-        record {
-          operations = other os os' k _ j e1 d ∙ x .operations;
-          words = other ws ws' k _ j e2 d ∙ x .words;
-          instructions = other cs cs' k _ j e3 d ∙ x .instructions;
-          bytes = other bs bs' k _ j e4 d ∙ x .bytes;
-        }
 
 -- ---- the output words
 

@@ -1,32 +1,27 @@
 -- The loops that fill the layout's arrays, in plain terms.
-use Prim.Native.Nat.{ℕ, zero, suc, _+_, _-_, _*_, _≤_, _<_}
+use Prim.Native.Nat.{ℕ, zero, suc, _+_, _-_, _≤_, _<_}
 use mathlib.Core.Path.{_≡_, refl, sym, ap, _∙_, subst}
 use mathlib.Core.Bool.{Bool, true, false, cond}
-use mathlib.Core.List.{List, [], _∷_, _++_, map}
-use mathlib.Core.Option.{Option, none, some}
-use mathlib.Core.Logic.{_⊎_, inl, inr, ⊎-elim}
+use mathlib.Core.List.{List, [], _∷_}
+use mathlib.Core.Option.{some}
 use native.Mathlib.Omega.{arith}
 use native.Mathlib.Nat.{add-zero}
 use lib.Dec.{eqb}
-use lib.ListN.{length, getD, set, replicate, getElem?, length-set, length-map, length-replicate, getD-replicate}
-use lib.Seq.{sets, length-sets, getD-set-same, getD-set-other}
-use borrow.Author.Tests.{eqb-true, eqb-false}
-use Rattle.graph.specs.Bytes.{byte, u16}
-use Rattle.graph.specs.Graph.{Ref, Node}
-use Rattle.graph.specs.Look.{reads}
-use Rattle.graph.specs.Read.{reference, references}
+use lib.ListN.{length, getD, set, getElem?, length-set}
+use lib.Seq.{sets}
+use Rattle.graph.specs.Bytes.{byte}
+use Rattle.graph.specs.Graph.{Node}
+use Rattle.graph.specs.Read.{reference}
 use Rattle.reader.specs.Layout.{nodeAt, nodeEnd, nodesAt, nodePlace}
 use Rattle.reader.specs.Find.{nodeFound}
 use Rattle.reader.specs.declared.Found.{Found}
 use Rattle.reader.specs.declared.Found.the-variants.{At, Nothing}
-use Rattle.reader.proofs.Passed.{place-next}
-use Rattle.topology.proofs.Nodes.{at-below}
 use Rattle.topology.specs.Indices.{slot}
 use Rattle.topology.specs.Resolve.{indexOf, target}
-use Rattle.compiler.specs.Position.{NodeFit, NodesFit}
+use Rattle.sizes.specs.Position.{NodeFit, NodesFit}
 use Rattle.compiler.specs.Spotting.{Places, Slots, portCode, readCodes, throughCode, throughCodes, resultCodes, outputCodes}
-use Rattle.compiler.proofs.Nodes.{Passing, pass-start, pass-step}
-use Rattle.compiler.proofs.Writing.{sets-below, sets-above, sets-in}
+use Rattle.resolver.specs.Slots.{rowsOf, placesOf}
+use Rattle.resolver.proofs.Rows.{length-nodes, place-at, row-slot, rows-size}
 
 -- ---- a run of stores, of which j are done
 
@@ -49,12 +44,6 @@ run-done whole out₀ to out j tail h e = sym (h .rest ∙ rw e)
 
 one-less : (n j : ℕ) → j < n → n - j ≡ suc (n - (j + 1))
 one-less n j h = omega arith
-
-pub refs-next : (f : Ref → ℕ) (s : List ℕ) (n j q : ℕ) → j < n → map f (references (n - j) s q) ≡ f (reference s q) ∷ map f (references (n - (j + 1)) s (q + 3))
-refs-next f s n j q h = ap (λ (m : ℕ). map f (references m s q)) (one-less n j h)
-
-pub refs-none : (f : Ref → ℕ) (s : List ℕ) (n j q : ℕ) → n ≤ j → map f (references (n - j) s q) ≡ []
-refs-none f s n j q h = let z : n - j ≡ 0 = omega arith in ap (λ (m : ℕ). map f (references m s q)) z
 
 pub reads-next : (s ts laid : List ℕ) (b n j q : ℕ) → j < n
     → readCodes s ts laid (b + j) (n - j) q ≡ portCode laid (getD ts (b + j) 0) (byte s (q + 2)) ∷ readCodes s ts laid (b + (j + 1)) (n - (j + 1)) (q + 3)
@@ -86,38 +75,7 @@ pub results-none : (e w m j : ℕ) → m ≤ j → resultCodes e w (m - j) ≡ [
 unfolding resultCodes
 results-none e w m j h = let z : m - j ≡ 0 = omega arith in ap (resultCodes e w) z
 
--- ---- the places of nodes
-
-module _ (s : List ℕ) (at n : ℕ) where
-  pub record Filling (places : List ℕ) (q i : ℕ) : Type 0 where
-    pub pass : Passing s at n q i
-    pub here : q ≡ nodePlace s at i
-    pub size : length places ≡ 256
-    pub done : Places s at places i
-
-  pub fill-start : (places : List ℕ) → at < 1048576 → NodesFit s n at → length places ≡ 256 → Filling places at 0
-  unfolding nodePlace
-  fill-start places l h e = record { pass = pass-start s at n l h; here = refl; size = e; done = λ i z. absurd (omega arith) }
-
-  pub fill-step : (places : List ℕ) (q i r : ℕ) → Filling places q i → i < n → n ≤ 256 → r ≡ nodeEnd s q → r < 1048576 → Filling (set places i q) r (i + 1)
-  fill-step places q i r h lt le er l =
-      record {
-        pass = pass-step s at n q i r (h .pass) lt er l;
-        here = er ∙ ap (nodeEnd s) (h .here) ∙ sym (place-next s i at);
-        size = length-set places i q ∙ h .size;
-        done = λ j jl. pickOne j (eqb j i) refl jl;
-      }
-    where
-      pickOne : (j : ℕ) (b : Bool) → eqb j i ≡ b → j < i + 1 → getD (set places i q) j 0 ≡ nodePlace s at j
-      pickOne j true e jl = let z : j ≡ i = eqb-true j i e in rw z (getD-set-same places i q 0 (omega (arith, h .size)) ∙ h .here)
-      pickOne j false e jl = let z : j ≡ i → ⊥ = eqb-false j i e in getD-set-other places i j q 0 z ∙ h .done j (omega arith)
-
 -- ---- nodes by their index
-
-pub nodes-length : (n : ℕ) (s : List ℕ) (at : ℕ) → length (nodesAt n s at) ≡ n
-unfolding nodesAt
-nodes-length zero s at = refl
-nodes-length (suc n) s at = ap suc (nodes-length n s (nodeEnd s at))
 
 pub node-index : (n : ℕ) (s : List ℕ) (at i : ℕ) → i < n → getElem? (nodesAt n s at) i ≡ some (nodeAt s (nodePlace s at i))
 unfolding nodesAt nodePlace
@@ -156,84 +114,17 @@ found-index id ns j p e =
 pub none-index : (id : ℕ) (ns : List Node) → Nothing ≡ nodeFound 0 id ns → indexOf id ns ≡ length ns
 none-index id ns e = subst (Indexed 0 (indexOf id ns) (length ns)) (sym e) (indexed 0 id ns)
 
--- ---- the slots of all nodes
+-- ---- what the resolver gives
 
--- the slot of a reference, or of none
-elem-in : (g : Option Ref → ℕ) (rs : List Ref) (j : ℕ) → j < length rs → getD (map (λ r. g (some r)) rs) j 0 ≡ g (getElem? rs j)
-elem-in g [] j h = absurd (omega arith)
-elem-in g (r ∷ rs) zero h = refl
-elem-in g (r ∷ rs) (suc j) h = elem-in g rs j (omega arith)
+module _ (s : List ℕ) (at n : ℕ) (few : n ≤ 256) where
+  pub places-are : (ps₀ ps : List ℕ) → length ps₀ ≡ 256 → ps ≡ sets ps₀ 0 (placesOf (nodesAt n s at)) → Places s at ps n
+  places-are ps₀ ps l e i il = ap (λ (xs : List ℕ). getD xs i 0) e ∙ place-at s at n ps₀ i il (omega arith)
 
-elem-past : (rs : List Ref) (j : ℕ) → length rs ≤ j → getElem? rs j ≡ none
-elem-past [] j h = refl
-elem-past (r ∷ rs) zero h = absurd (omega arith)
-elem-past (r ∷ rs) (suc j) h = elem-past rs j (omega arith)
-
-cmp : (a b : ℕ) → (a < b) ⊎ (b ≤ a)
-cmp a zero = inr (omega arith)
-cmp zero (suc b) = inl (omega arith)
-cmp (suc a) (suc b) = ⊎-elim (λ l. inl (omega arith)) (λ l. inr (omega arith)) (cmp a b)
-
-module _ (s : List ℕ) (at n : ℕ) where
-  abbrev ns : List Node
-  ns = nodesAt n s at
-
-  -- the rows below i are right, the others untouched
-  pub record Resolving (ts : List ℕ) (i : ℕ) : Type 0 where
-    pub index : i ≤ n
-    pub size : length ts ≡ 4096
-    pub right : (v j : ℕ) (x : Node) → v < i → getElem? ns v ≡ some x → j < 16 → slot ts v j ≡ target ns (getElem? (reads x) j)
-    pub clear : (q : ℕ) → 16 * i ≤ q → q < 4096 → getD ts q 0 ≡ 256
-
-  pub resolve-start : (ts : List ℕ) → ts ≡ replicate 4096 256 → Resolving ts 0
-  resolve-start ts e =
+  pub slots-are : (ts₀ ts : List ℕ) → length ts₀ ≡ 4096 → ts ≡ sets ts₀ 0 (rowsOf (nodesAt n s at) (nodesAt n s at)) → Slots s at n ts
+  slots-are ts₀ ts l e =
       record {
-        index = omega arith;
-        size = ap length e ∙ length-replicate {A = ℕ} 4096 256;
-        right = λ v j x l g h. absurd (omega arith);
-        clear = λ q a b. ap (λ (l : List ℕ). getD l q 0) e ∙ getD-replicate 4096 q 256 0 b;
-      }
-
-  pub resolve-step : (ts ts' : List ℕ) (i p : ℕ) → Resolving ts i → i < n → n ≤ 256 → p ≡ nodePlace s at i → length (reads (nodeAt s p)) ≤ 16
-      → ts' ≡ sets ts (16 * i) (map (λ r. target ns (some r)) (reads (nodeAt s p))) → Resolving ts' (i + 1)
-  resolve-step ts ts' i p h lt le ep few e =
-      record {
-        index = omega arith;
-        size = ap length e ∙ length-sets ts (16 * i) row ∙ h .size;
-        right = λ v j x l g jl. pickOne v j x (eqb v i) refl l g jl;
-        clear = λ q a b. ap (λ (l : List ℕ). getD l q 0) e ∙ sets-above row ts (16 * i) q (omega (arith, size)) ∙ h .clear q (omega arith) b;
-      }
-    where
-      row : List ℕ
-      row = map (λ r. target ns (some r)) (reads (nodeAt s p))
-
-      size : length row ≡ length (reads (nodeAt s p))
-      size = length-map (reads (nodeAt s p)) (λ r. target ns (some r))
-
-      here : (x : Node) → getElem? ns i ≡ some x → nodeAt s p ≡ x
-      here x g = let q : some (nodeAt s (nodePlace s at i)) ≡ some x = sym (node-index n s at i lt) ∙ g in ap (nodeAt s) ep ∙ cc
-
-      own : (j : ℕ) → j < 16 → slot ts' i j ≡ target ns (getElem? (reads (nodeAt s p)) j)
-      own j jl =
-          ap (λ (l : List ℕ). getD l (16 * i + j) 0) e
-          ∙ ⊎-elim
-          (λ l. sets-in row ts (16 * i) j (omega (arith, size)) (omega (arith, size, h .size)) ∙ elem-in (target ns) (reads (nodeAt s p)) j l)
-          (λ l. sets-above row ts (16 * i) (16 * i + j) (omega (arith, size)) ∙ h .clear (16 * i + j) (omega arith) (omega arith) ∙ ap (target ns) (sym (elem-past (reads (nodeAt s p)) j l)))
-          (cmp j (length (reads (nodeAt s p))))
-
-      pickOne : (v j : ℕ) (x : Node) (b : Bool) → eqb v i ≡ b → v < i + 1 → getElem? ns v ≡ some x → j < 16 → slot ts' v j ≡ target ns (getElem? (reads x) j)
-      pickOne v j x true q l g jl =
-          let z : v ≡ i = eqb-true v i q in
-          ap (λ (w : ℕ). slot ts' w j) z ∙ own j jl ∙ ap (λ (y : Node). target ns (getElem? (reads y) j)) (here x (ap (getElem? ns) (sym z) ∙ g))
-      pickOne v j x false q l g jl =
-          let z : v ≡ i → ⊥ = eqb-false v i q in
-          ap (λ (l : List ℕ). getD l (16 * v + j) 0) e ∙ sets-below row ts (16 * i) (16 * v + j) (omega arith) ∙ h .right v j x (omega arith) g jl
-
-  pub resolve-done : (ts : List ℕ) (i : ℕ) → Resolving ts i → n ≤ i → Slots s at n ts
-  resolve-done ts i h le =
-      record {
-        size = h .size;
-        slots = λ v j x g jl. h .right v j x (let a = at-below ns v x g in let b : length ns ≡ n = nodes-length n s at in omega arith) g jl;
+        size = ap length e ∙ rows-size (nodesAt n s at) ts₀ ∙ l;
+        slots = λ i j x g jl. ap (λ (xs : List ℕ). slot xs i j) e ∙ row-slot (nodesAt n s at) ts₀ i j x g jl (let z = length-nodes n s at in omega arith) l;
       }
 
 -- ---- the outputs

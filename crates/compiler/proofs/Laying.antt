@@ -1,21 +1,17 @@
 -- The numbers of the ports of one node.
-use Prim.Native.Nat.{ℕ, zero, suc, _+_, _-_, _*_, _%_, _≤_, _<_, min}
-use mathlib.Core.Path.{_≡_, refl, sym, ap, _∙_, subst}
+use Prim.Native.Nat.{ℕ, _+_, _*_, _≤_, _<_}
+use mathlib.Core.Path.{_≡_, sym, ap, _∙_}
 use mathlib.Core.Bool.{Bool, true, false, cond}
-use mathlib.Core.List.{List, [], _∷_, map}
-use native.Mathlib.Omega.{arith}
-use lib.Dec.{ltb}
-use lib.ListN.{length, getD}
+use mathlib.Core.List.{List, []}
 use borrow.Author.Tests.{lt-ltb, le-ltb}
-use Rattle.ports.specs.declared.Form.{Form}
 use Rattle.ports.specs.declared.Ports.{Ports}
 use Rattle.ports.specs.Kinds.{kindOf}
 use Rattle.ports.specs.Ports.{portsOf, formOf, width, own}
 use Rattle.graph.specs.Bytes.{byte, u16}
-use Rattle.reader.specs.Layout.{kindAt, nodeAt, outputCount}
-use Rattle.compiler.specs.Position.{placeOf, positionOf, calling}
+use Rattle.reader.specs.Layout.{kindAt, outputCount}
+use Rattle.sizes.specs.Position.{placeOf, positionOf, calling}
 use Rattle.compiler.specs.Spotting.{throughCodes, resultCodes, calleeCodes, nodeCodes}
-use Rattle.compiler.proofs.Nodes.{row-is, form-is}
+use Rattle.sizes.proofs.Nodes.{row-is, form-is}
 
 module _ (s outs spots : List ℕ) (k p spot d kind : ℕ) (row : Ports) (ek : kind ≡ byte s (p + 2)) (er : row ≡ portsOf (kindOf kind)) where
   by-call : (b : Bool) → calling (row .form) ≡ b → calling (formOf (kindAt s p)) ≡ b

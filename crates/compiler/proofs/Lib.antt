@@ -1,11 +1,7 @@
 pub mod Spots
-pub mod CodeSizes
+pub mod Words
 pub mod Bounds
-pub mod Writing
-pub mod Rows
-pub mod Nodes
-pub mod Positions
-pub mod Sizes
+pub mod References
 pub mod Loops
 pub mod Single
 pub mod Opening

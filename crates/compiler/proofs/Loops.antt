@@ -1,13 +1,13 @@
 -- The loops that copy bytes and spell addresses, in plain terms.
-use Prim.Native.Nat.{ℕ, zero, suc, _+_, _-_, _*_, _≤_, _<_}
+use Prim.Native.Nat.{ℕ, suc, _+_, _-_, _*_, _≤_, _<_}
 use mathlib.Core.Path.{_≡_, refl, sym, ap, _∙_}
-use mathlib.Core.List.{List, [], _∷_, _++_}
+use mathlib.Core.List.{List}
 use native.Mathlib.Omega.{arith}
 use native.Mathlib.Nat.{add-zero}
 use lib.ListN.{length, getD, set, length-set}
 use lib.Seq.{sets, length-sets}
 use Rattle.graph.specs.Bytes.{byte}
-use Rattle.compiler.proofs.Writing.{sets-append}
+use Rattle.resolver.proofs.Storing.{sets-append}
 use Rattle.list.specs.Code.{bytesOf, allBytes}
 use Rattle.compiler.specs.Emit.{copied, addressOf, addressesIn}
 

@@ -1,30 +1,27 @@
 -- A function whose nodes are laid, with the spots of its outputs.
-use Prim.Native.Nat.{ℕ, zero, suc, _+_, _-_, _*_, _≤_, _<_}
-use mathlib.Core.Path.{_≡_, refl, sym, ap, _∙_, subst}
+use Prim.Native.Nat.{ℕ, zero, suc, _+_, _*_, _≤_}
+use mathlib.Core.Path.{_≡_, sym, ap, _∙_, subst}
 use mathlib.Core.List.{List, [], _∷_, map}
-use mathlib.Core.Option.{Option, none, some}
-use mathlib.Core.Logic.{_⊎_, inl, inr, ⊎-elim}
+use mathlib.Core.Logic.{_⊎_}
 use native.Mathlib.Omega.{arith}
 use lib.ListN.{length, getD}
 use lib.Seq.{sets, length-sets}
 use Rattle.value.specs.Typed.{Each}
-use Rattle.graph.specs.Bytes.{byte}
-use Rattle.graph.specs.Graph.{Ref, Node, Output, Function}
+use Rattle.graph.specs.Graph.{Ref, Node, Function}
 use Rattle.graph.specs.Judge.{refType, outputTypes}
 use Rattle.graph.specs.Look.{outputRefs}
 use Rattle.graph.specs.Read.{reference}
 use Rattle.graph.specs.Schedule.{schedule}
-use Rattle.graph.specs.Sound.{Wired, AllSound}
+use Rattle.graph.specs.Sound.{Wired}
 use Rattle.graph.proofs.Loops.{In}
 use Rattle.graph.proofs.Order.{ids, reads-in}
 use Rattle.reader.specs.Layout.{nodesAt, nodesPlace, nodeCount, outputsAt, outputCount, outputsPlace, functionAt, earlier}
-use Rattle.topology.specs.Resolve.{target}
 use Rattle.compiler.specs.Static.{nowhere, Spotted, spotOf, closed, spread}
-use Rattle.compiler.specs.Position.{placeOf, functionIn, before}
+use Rattle.sizes.specs.Position.{placeOf, functionIn, before}
 use Rattle.compiler.specs.Emit.{closedAt}
-use Rattle.compiler.specs.Spotting.{Accepted, portCode, outputCodes, Codes, PortsCoded, Knows, NodesLaid, FunctionLaid}
-use Rattle.compiler.proofs.Writing.{sets-below}
-use Rattle.compiler.proofs.Filling.{nodes-length}
+use Rattle.compiler.specs.Spotting.{Accepted, outputCodes, Codes, Knows, NodesLaid, FunctionLaid}
+use Rattle.resolver.proofs.Storing.{sets-below}
+use Rattle.resolver.proofs.Rows.{length-nodes}
 use Rattle.compiler.proofs.Coding.{AllCodes, codes-length, codes-stored, port-coded, closed-size}
 use Rattle.compiler.proofs.Accepting.{few, sound-to, fit-at}
 
@@ -54,7 +51,7 @@ module _ (s : List ℕ) (k c : ℕ) (acc : Accepted s (suc k)) (order₀ order s
   codes-are : NodesLaid s k c order₀ order spots₀ spots laid r → AllCodes codes (closedAt s k .outputs)
   unfolding functionAt earlier
   codes-are h =
-      let l : length (nodesAt (nodeCount s p) s (nodesPlace s p)) ≡ nodeCount s p = nodes-length (nodeCount s p) s (nodesPlace s p) in
+      let l : length (nodesAt (nodeCount s p) s (nodesPlace s p)) ≡ nodeCount s p = length-nodes (nodeCount s p) s (nodesPlace s p) in
       let f = fit-at s (suc k) acc k (omega arith) .count in
       let sound = sound-to s (suc k) acc (suc k) (omega arith) .0 in
       outputs-coded s laid (functionIn s k .nodes) (spread (closed (before s k)) (schedule (functionIn s k .nodes)) [] 0 .spotted) (omega arith) (h .known) (outputCount s p) (outputsPlace s p)

@@ -1,34 +1,33 @@
 -- The code of a node that is no call.
-use Prim.Native.Nat.{ℕ, zero, suc, _+_, _-_, _*_, _%_, _/_, _≤_, _<_}
-use mathlib.Core.Path.{_≡_, refl, sym, ap, _∙_, subst}
-use mathlib.Core.Bool.{Bool, true, false}
+use Prim.Native.Nat.{ℕ, zero, suc, _+_, _*_, _%_, _/_, _≤_, _<_}
+use mathlib.Core.Path.{_≡_, refl, sym, ap, _∙_}
+use mathlib.Core.Bool.{true, false}
 use mathlib.Core.List.{List, [], _∷_, _++_, append-nil}
 use native.Mathlib.Omega.{arith}
 use native.Mathlib.Nat.{add-zero}
-use lib.Dec.{eqb}
 use lib.ListN.{length, set, length-append, length-set}
-use lib.Seq.{sets, length-sets}
+use lib.Seq.{sets}
 use borrow.Author.Tests.{eqb-true}
 use Rattle.ports.specs.declared.Form.{Form}
 use Rattle.ports.specs.declared.Form.the-variants.{Absent, Constant, References, Call}
 use Rattle.ports.specs.declared.Ports.{Ports}
 use Rattle.ports.specs.Kinds.{Kind, kindOf}
-use Rattle.ports.specs.Ports.{widths, gives, portsOf, arity, formOf, constantIn, constantWords}
+use Rattle.ports.specs.Ports.{widths, gives, portsOf, formOf, constantIn, constantWords}
 use Rattle.ports.specs.Ports as PortList
 use Rattle.ports.proofs.Laws.{words-given}
 use Rattle.graph.specs.Bytes.{byte, u64}
-use Rattle.graph.specs.Graph.{Payload, Node}
 use Rattle.graph.specs.Look.{reads}
-use Rattle.graph.specs.Read.{references, constants}
+use Rattle.graph.specs.Read.{constants}
 use Rattle.graph.proofs.Formed.{refs-length}
 use Rattle.reader.specs.Layout.{kindAt, payloadAt, nodeAt}
 use Rattle.list.specs.Compile.{Opened, Open, opened}
 use Rattle.list.specs.Code.{bytesOf, allBytes, instructionsCode}
-use Rattle.compiler.specs.Position.{before, calling}
-use Rattle.compiler.specs.Emit.{copied, addressesIn, openWith, nodeOpened, Room, Emits}
-use Rattle.compiler.proofs.Writing.{sets-append}
-use Rattle.compiler.proofs.Rows.{operandsBy, Narrow}
-use Rattle.compiler.proofs.Nodes.{row-is, row-narrow, form-is, plain-reads}
+use Rattle.sizes.specs.Position.{before, calling}
+use Rattle.compiler.specs.Emit.{copied, addressesIn, openWith, nodeOpened}
+use Rattle.resolver.proofs.Storing.{sets-append}
+use Rattle.sizes.proofs.Rows.{operandsBy}
+use Rattle.sizes.proofs.Nodes.{row-is, row-narrow, form-is}
+use Rattle.compiler.proofs.References.{plain-reads}
 
 -- ---- bytes
 

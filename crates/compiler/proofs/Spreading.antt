@@ -1,51 +1,52 @@
 -- The loop that lays the nodes of a function in their order.
-use Prim.Native.Nat.{ℕ, zero, suc, _+_, _-_, _*_, _≤_, _<_}
+use Prim.Native.Nat.{ℕ, zero, suc, _+_, _*_, _≤_, _<_}
 use mathlib.Core.Path.{_≡_, refl, sym, ap, _∙_, subst}
 use mathlib.Core.Bool.{Bool, true, false, cond}
 use mathlib.Core.List.{List, [], _∷_, map}
-use mathlib.Core.Option.{Option, none, some}
-use mathlib.Core.Logic.{_⊎_, inl, inr, ⊎-elim}
+use mathlib.Core.Option.{some}
+use mathlib.Core.Logic.{inr}
 use native.Mathlib.Omega.{arith}
 use native.Mathlib.Nat.{add-zero}
 use lib.Dec.{eqb}
 use lib.ListN.{length, getD, set, replicate, getElem?, length-map, length-set, length-replicate}
 use lib.Seq.{sets, length-sets, getD-set-same, getD-set-other}
-use borrow.Author.Tests.{eqb-true, eqb-false, eq-eqb}
+use borrow.Author.Tests.{eqb-false}
 use Rattle.value.specs.Typed.{Each}
 use Rattle.ports.specs.Kinds.{kindOf}
-use Rattle.ports.specs.Ports.{portsOf, formOf, arity}
+use Rattle.ports.specs.Ports.{portsOf, formOf}
 use Rattle.graph.specs.Bytes.{byte, u16}
-use Rattle.graph.specs.Graph.{Ref, Payload, consts, refs, calls, Node, Function}
+use Rattle.graph.specs.Graph.{Ref, Payload, consts, refs, calls, Node}
 use Rattle.graph.specs.Look.{member, reads, readsOf}
 use Rattle.graph.specs.Read.{references}
 use Rattle.graph.specs.Schedule.{schedule}
-use Rattle.graph.specs.Sound.{Is, FormedPayload, FormedNode, Sound, AllSound}
+use Rattle.graph.specs.Sound.{Is, FormedPayload, FormedNode, AllSound}
 use Rattle.graph.specs.Sums.{sum, nodeWords, resultWordsOf}
-use Rattle.graph.proofs.Loops.{In}
 use Rattle.graph.proofs.Order.{ids, sound-closed, scheduled, schedule-within}
 use Rattle.graph.proofs.Steps.{is-each}
 use Rattle.graph.proofs.Formed.{refs-length}
 use Rattle.reader.specs.Layout.{kindAt, nodeAt, nodesAt, nodePlace, nodesPlace, nodeCount, functionAt, earlier}
-use Rattle.topology.specs.Indices.{slot, indexOrder}
-use Rattle.topology.specs.Resolve.{target, Resolves}
+use Rattle.topology.specs.Indices.{indexOrder}
+use Rattle.topology.specs.Resolve.{Resolves}
 use Rattle.topology.proofs.Nodes.{at-is, at-below, ref-member}
 use Rattle.topology.proofs.Scheduled.{schedule-is}
 use Rattle.compiler.specs.declared.Reads.{Reads}
-use Rattle.compiler.specs.Static.{Spot, nowhere, input, offset, Spotted, spotOf, spotsOf, Closed, Callee, closedNode, closed, spread, Spread, Agrees}
-use Rattle.compiler.specs.Position.{placeOf, functionIn, before, positionOf, calling, ReadsOf, NodeFit}
-use Rattle.compiler.specs.Capped.{wordsAt, addsWords}
+use Rattle.compiler.specs.Static.{Spot, nowhere, input, offset, Spotted, spotOf, Closed, Callee, closedNode, closed, spread, Spread, Agrees}
+use Rattle.sizes.specs.Position.{placeOf, functionIn, before, positionOf, calling, NodeFit}
+use Rattle.compiler.specs.Spotting.{ReadsOf}
+use Rattle.sizes.specs.Capped.{wordsAt, addsWords}
 use Rattle.compiler.specs.Emit.{spotRoom, Stands, spotTable, Coded, Placed, closedAt}
 use Rattle.compiler.specs.Spotting.{Accepted, Places, Slots, readCodes, nodeCodes, Codes, PortsCoded, AllOuts, Knows, readCount, NodesLaid}
-use Rattle.compiler.proofs.Writing.{sets-in, sets-below, sets-above}
+use Rattle.resolver.proofs.Storing.{sets-in, sets-below}
 use Rattle.compiler.proofs.Bounds.{Within, outputs-within, reads-within}
 use Rattle.compiler.proofs.Spots.{Single, function-agrees}
-use Rattle.compiler.proofs.CodeSizes.{closed-words, function-words}
-use Rattle.compiler.proofs.Rows.{narrow}
-use Rattle.compiler.proofs.Nodes.{few-reads}
-use Rattle.compiler.proofs.Positions.{words-at}
-use Rattle.compiler.proofs.Sizes.{added-words, sums-are}
-use Rattle.compiler.proofs.Filling.{nodes-length, node-index, fit-index}
-use Rattle.compiler.proofs.Coding.{AllCodes, codes-length, codes-at, codes-stored, reads-coded, node-coded, node-few, knows-step}
+use Rattle.compiler.proofs.Words.{closed-words, function-words}
+use Rattle.sizes.proofs.Rows.{narrow}
+use Rattle.compiler.proofs.References.{few-reads}
+use Rattle.sizes.proofs.Positions.{words-at}
+use Rattle.sizes.proofs.Summing.{added-words, sums-are}
+use Rattle.resolver.proofs.Rows.{length-nodes}
+use Rattle.compiler.proofs.Filling.{node-index, fit-index}
+use Rattle.compiler.proofs.Coding.{AllCodes, codes-length, codes-stored, reads-coded, node-coded, node-few, knows-step}
 use Rattle.compiler.proofs.Accepting.{few, sound-to, single-at, fit-at}
 
 -- ---- ids are single
@@ -170,7 +171,7 @@ module _ (s : List ℕ) (k c : ℕ) (acc : Accepted s (suc k)) (outs ts places i
   unfolding functionAt
   resolves h =
       let f = fit-at s (suc k) acc k (omega arith) .count in
-      let l : length (nodesAt n s at) ≡ n = nodes-length n s at in
+      let l : length (nodesAt n s at) ≡ n = length-nodes n s at in
       record {
         few = omega arith;
         size = h .size;
@@ -184,7 +185,7 @@ module _ (s : List ℕ) (k c : ℕ) (acc : Accepted s (suc k)) (outs ts places i
   unfolding functionAt
   start order spots laid h ei lo ls ll eo es =
       let right = scheduled (before s k) (functionIn s k) (sound .0) in
-      let l : length (nodesAt n s at) ≡ n = nodes-length n s at in
+      let l : length (nodesAt n s at) ≡ n = length-nodes n s at in
       let size : length (schedule ns) ≡ length ns = right .size in
       let along : map (λ i. getElem? ns i) (indexOrder ts n) ≡ map some (schedule ns) =
       subst (λ (m : ℕ). map (λ i. getElem? ns i) (indexOrder ts m) ≡ map some (schedule ns)) l (schedule-is ts ns (resolves h) (sound .0 .resolved .own)) in
@@ -222,7 +223,7 @@ module _ (s : List ℕ) (k c : ℕ) (acc : Accepted s (suc k)) (outs ts places i
 
     low : i < n
     unfolding functionAt
-    low = let a = at-below ns i x stands in let b : length (nodesAt n s at) ≡ n = nodes-length n s at in omega arith
+    low = let a = at-below ns i x stands in let b : length (nodesAt n s at) ≡ n = length-nodes n s at in omega arith
 
     index-is : getD index m 0 ≡ i
     index-is = let z : m ≡ m + 0 = omega arith in ap (λ (q : ℕ). getD index q 0) z ∙ st .held 0 (omega arith)
@@ -290,7 +291,7 @@ module _ (s : List ℕ) (k c : ℕ) (acc : Accepted s (suc k)) (outs ts places i
         codes-are : AllCodes codes (map (spotOf spotted) (references (r .count) s (r .first)))
         unfolding functionAt
         codes-are =
-            let l : length (nodesAt n s at) ≡ n = nodes-length n s at in
+            let l : length (nodesAt n s at) ≡ n = length-nodes n s at in
             let f = fit-at s (suc k) acc k (omega arith) .count in
             reads-coded ns (omega arith) laid spotted (st .known) s ts i x (λ j jl. slots .slots i j x stands jl)
             (λ q w g. sound-closed (before s k) (functionIn s k) (sound .0) .closed x (q .node) (at-is ns i x stands) (ref-member (reads x) w q g))

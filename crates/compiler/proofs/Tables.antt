@@ -1,20 +1,17 @@
 -- The functions of a table are laid one after another.
-use Prim.Native.Nat.{ℕ, zero, suc, _+_, _-_, _*_, _≤_, _<_, min}
+use Prim.Native.Nat.{ℕ, zero, suc, _+_, _-_, _*_, _≤_, _<_}
 use mathlib.Core.Path.{_≡_, refl, sym, ap, _∙_, subst}
 use mathlib.Core.Bool.{Bool, true, false}
 use mathlib.Core.List.{List, [], _∷_}
 use mathlib.Core.Logic.{_⊎_, inl, inr, ⊎-elim}
 use native.Mathlib.Omega.{arith}
-use lib.Dec.{eqb}
 use lib.ListN.{length, getD, set, length-set}
 use lib.Seq.{getD-set-same, getD-set-other}
-use borrow.Author.Tests.{eqb-true, eqb-false}
 use Rattle.ports.specs.Ports.{portsOf, constantIn}
 use Rattle.graph.specs.Bytes.{byte}
 use Rattle.graph.specs.Graph.{Ref, Payload, Node}
 use Rattle.graph.specs.Look.{reads, readsOf}
 use Rattle.graph.specs.Schedule.{schedule}
-use Rattle.graph.specs.Sound.{AllSound}
 use Rattle.graph.specs.Sums.{sum}
 use Rattle.graph.proofs.Formed.{refs-length}
 use Rattle.graph.proofs.Order.{scheduled}
@@ -22,15 +19,16 @@ use Rattle.reader.specs.Layout.{kindAt, nodeAt, nodeEnd, nodesAt, nodePlace, no
 use Rattle.reader.specs.Find.{ReadsNodes}
 use Rattle.reader.proofs.Passed.{end-fits, first-reads, rest-reads, function-holds}
 use Rattle.compiler.specs.Static.{Spot, nowhere, closed}
-use Rattle.compiler.specs.Position.{placeOf, functionIn, before, calling, NodeFit, NodesFit}
-use Rattle.compiler.specs.Capped.{wordCap, wordsAt}
-use Rattle.compiler.specs.Emit.{spotRoom, Stands, spotTable, Coded, Placed, closedAt, Laid, AllLaid}
-use Rattle.compiler.specs.Spotting.{Accepted, Codes, PortsCoded, AllOuts, readCount, FunctionLaid, LaidTo}
+use Rattle.sizes.specs.Position.{placeOf, functionIn, before, calling, NodeFit, NodesFit}
+use Rattle.sizes.specs.Capped.{wordsAt}
+use Rattle.compiler.specs.Emit.{spotRoom, Stands, spotTable, Coded, Placed, closedAt, Laid}
+use Rattle.compiler.specs.Spotting.{Accepted, Codes, PortsCoded, readCount, FunctionLaid, LaidTo}
 use Rattle.compiler.proofs.Spots.{function-agrees}
-use Rattle.compiler.proofs.CodeSizes.{function-words}
-use Rattle.compiler.proofs.Nodes.{few-reads, call-payload, call-end, plain-reads, plain-end}
-use Rattle.compiler.proofs.Filling.{nodes-length}
-use Rattle.compiler.proofs.Accepting.{few, sound-to, single-at, fit-at, was-read, reads-nodes}
+use Rattle.compiler.proofs.Words.{function-words}
+use Rattle.sizes.proofs.Nodes.{call-payload, call-end, plain-end}
+use Rattle.compiler.proofs.References.{few-reads, plain-reads}
+use Rattle.resolver.proofs.Rows.{length-nodes}
+use Rattle.compiler.proofs.Accepting.{few, sound-to, single-at, fit-at, was-read}
 
 -- ---- what a later store leaves
 
@@ -106,7 +104,7 @@ module _ (s : List ℕ) (j : ℕ) (acc : Accepted s (suc j)) where
   unfolding functionAt earlier
   schedule-size =
       let right = scheduled (before s j) (functionIn s j) (sound-to s (suc j) acc (suc j) (omega arith) .0) in
-      (right .size ∙ nodes-length (nodeCount s (placeOf s j)) s (nodesPlace s (placeOf s j)), right .total sizeOf)
+      (right .size ∙ length-nodes (nodeCount s (placeOf s j)) s (nodesPlace s (placeOf s j)), right .total sizeOf)
 
 -- an accepted table with fewer functions
 pub fewer : (s : List ℕ) (k j : ℕ) → Accepted s k → j ≤ k → Accepted s j

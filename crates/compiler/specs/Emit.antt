@@ -15,7 +15,7 @@ use Rattle.list.specs.Compile.{Opened, Open, single, openFunction, opened}
 use Rattle.list.specs.Code.{instructionsCode}
 use Rattle.compiler.specs.declared.Reached.{Reached}
 use Rattle.compiler.specs.Static.{Spot, nowhere, input, offset, spotOf, Closed, closedFunction, closed, spread, Agrees}
-use Rattle.compiler.specs.Position.{placeOf, functionIn, before, NodeFit}
+use Rattle.sizes.specs.Position.{placeOf, functionIn, before, NodeFit}
 
 -- n bytes from a place on
 unfoldable pub copied : ℕ → List ℕ → ℕ → List ℕ

@@ -1,27 +1,28 @@
 -- What the layout fills in: the numbers of spots, by what its arrays hold.
 use Prim.Native.Nat.{ℕ, zero, suc, _+_, _*_, _%_, _≤_, _<_, min}
 use mathlib.Core.Path.{_≡_}
-use mathlib.Core.Bool.{Bool, true, cond}
+use mathlib.Core.Bool.{cond}
 use mathlib.Core.List.{List, [], _∷_}
-use mathlib.Core.Option.{Option, none, some}
+use mathlib.Core.Option.{some}
 use lib.Dec.{ltb, leb}
 use lib.ListN.{length, getD, getElem?}
 use Rattle.ports.specs.Ports.{width, own, portsOf, formOf}
-use Rattle.graph.specs.Outcome.{Outcome, ok}
+use Rattle.graph.specs.Outcome.{ok}
 use Rattle.graph.specs.Bytes.{Bytes, byte, u16}
-use Rattle.graph.specs.Graph.{Ref, Node, Function}
+use Rattle.graph.specs.Graph.{Node}
 use Rattle.graph.specs.Judge.{table}
-use Rattle.graph.specs.Look.{member, reads}
-use Rattle.graph.specs.Read.{reference}
+use Rattle.graph.specs.Look.{reads}
+use Rattle.graph.specs.Read.{reference, references}
 use Rattle.graph.specs.Schedule.{schedule}
 use Rattle.graph.specs.Sound.{AllSound}
 use Rattle.graph.specs.Sums.{sum}
-use Rattle.reader.specs.Layout.{kindAt, nodesAt, nodePlace, nodesPlace, nodeCount, outputCount}
+use Rattle.reader.specs.Layout.{kindAt, nodeAt, nodesAt, nodePlace, outputCount}
 use Rattle.topology.specs.Indices.{slot}
 use Rattle.topology.specs.Resolve.{target}
-use Rattle.compiler.specs.Static.{Spot, nowhere, input, offset, Spotted, spotsOf, Closed, closed, spread}
-use Rattle.compiler.specs.Position.{placeOf, functionIn, before, positionOf, calling, Fit}
-use Rattle.compiler.specs.Capped.{wordCap, wordsAt}
+use Rattle.compiler.specs.declared.Reads.{Reads}
+use Rattle.compiler.specs.Static.{Spot, nowhere, input, offset, Spotted, spotsOf, closed, spread}
+use Rattle.sizes.specs.Position.{placeOf, functionIn, before, positionOf, calling}
+use Rattle.sizes.specs.Capped.{wordCap, wordsAt}
 use Rattle.compiler.specs.Emit.{spotRoom, spotTable, Placed, closedAt, AllLaid}
 
 -- an accepted table with at least k functions
@@ -31,6 +32,12 @@ pub record Accepted (s : List ℕ) (k : ℕ) : Type 0 where
   pub most : k ≤ byte s 5
   pub short : length s < 65536
   pub small : Bytes s
+
+-- where a node's references begin, and how many there are
+pub record ReadsOf (s : List ℕ) (p : ℕ) (r : Reads) : Type 0 where
+  pub refs : reads (nodeAt s p) ≡ references (r .count) s (r .first)
+  pub first : r .first ≤ p + 7
+  pub count : r .count < 256
 
 -- ---- arrays that are read
 

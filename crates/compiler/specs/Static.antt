@@ -1,17 +1,16 @@
--- What can be said of a function's list before it is opened: sizes, and where each value stands in relation to the opening.
-use Prim.Native.Nat.{ℕ, zero, suc, _+_, _*_}
-use mathlib.Core.Bool.{Bool, true, false, cond}
+-- Where each value of a function stands in relation to the opening.
+use Prim.Native.Nat.{ℕ, _+_}
+use mathlib.Core.Bool.{cond}
 use mathlib.Core.Path.{_≡_}
 use mathlib.Core.List.{List, [], _∷_, _++_, map}
 use lib.Dec.{eqb}
-use lib.ListN.{length, getD}
+use lib.ListN.{getD}
 use Rattle.ports.specs.Kinds.{kindOf}
-use Rattle.ports.specs.Ports.{widths, gives, arity, constantWords}
-use Rattle.graph.specs.Graph.{Ref, Payload, consts, refs, calls, Node, Output, Function}
+use Rattle.ports.specs.Ports.{widths, gives}
+use Rattle.graph.specs.Graph.{Ref, Payload, consts, refs, calls, Node, Function}
 use Rattle.value.specs.Typed.{Each}
 use Rattle.graph.specs.Look.{reads, outputRefs}
 use Rattle.graph.specs.Schedule.{schedule}
-use Rattle.graph.specs.Sums.{sum}
 use Rattle.list.specs.Board.{Instruction}
 use Rattle.list.specs.Compile.{places, Open, openNode}
 
@@ -90,33 +89,6 @@ closed [] c = record { words = 0; outputs = [] }
 closed (f ∷ early) c =
     let r = closed early c in
     cond (eqb (f .id) c) (closedFunction (closed early) f) r
-
--- ---- sizes of the code
-
--- instructions of a node, and their bytes
-abbrev pub nodeInstructions : (ℕ → ℕ) → Payload → ℕ
-nodeInstructions callee (consts ws) = 1
-nodeInstructions callee (refs rs) = 1
-nodeInstructions callee (calls c rs) = callee c
-
-abbrev pub nodeBytes : (ℕ → ℕ) → Node → Payload → ℕ
-nodeBytes callee n (consts ws) = 2 + 2 * arity (kindOf (n .kind)) + 8 * constantWords (kindOf (n .kind))
-nodeBytes callee n (refs rs) = 2 + 2 * arity (kindOf (n .kind)) + 8 * constantWords (kindOf (n .kind))
-nodeBytes callee n (calls c rs) = callee c
-
-abbrev pub functionInstructions : (ℕ → ℕ) → Function → ℕ
-functionInstructions callee f = sum (λ n. nodeInstructions callee (n .payload)) (f .nodes)
-
-abbrev pub functionBytes : (ℕ → ℕ) → Function → ℕ
-functionBytes callee f = sum (λ n. nodeBytes callee n (n .payload)) (f .nodes)
-
-unfoldable pub instructionsOf : List Function → ℕ → ℕ
-instructionsOf [] c = 0
-instructionsOf (f ∷ early) c = let r = instructionsOf early c in cond (eqb (f .id) c) (functionInstructions (instructionsOf early) f) r
-
-unfoldable pub bytesOfFunction : List Function → ℕ → ℕ
-bytesOfFunction [] c = 0
-bytesOfFunction (f ∷ early) c = let r = bytesOfFunction early c in cond (eqb (f .id) c) (functionBytes (bytesOfFunction early) f) r
 
 -- ---- one table of spots for a whole function
 

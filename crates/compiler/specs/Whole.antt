@@ -1,23 +1,17 @@
 -- The whole code of a function, and what the compiler answers.
-use Prim.Native.Nat.{ℕ, zero, suc, _+_, _≤_}
+use Prim.Native.Nat.{ℕ, _+_, _≤_}
 use mathlib.Core.Path.{_≡_}
-use mathlib.Core.List.{List, [], _∷_}
+use mathlib.Core.List.{List}
 use Rattle.graph.specs.Outcome.{Outcome, ok, fault}
 use lib.ListN.{length}
 use Rattle.ports.specs.Ports.{widths}
-use Rattle.graph.specs.Bytes.{byte}
 use Rattle.graph.specs.Judge.{outputTypes}
 use Rattle.list.specs.Compile.{boardListOf}
 use Rattle.list.specs.Code.{encode}
 use Rattle.list.specs.Answers as Answers
 use Rattle.compiler.specs.declared.Compiled.{Compiled}
-use Rattle.compiler.specs.Position.{functionIn, before}
-use Rattle.compiler.specs.Capped.{wordsAt}
-
--- n type bytes, each `step` bytes behind the one before
-unfoldable pub typesBy : ℕ → ℕ → List ℕ → ℕ → List ℕ
-typesBy step zero s at = []
-typesBy step (suc n) s at = byte s at ∷ typesBy step n s (at + step)
+use Rattle.sizes.specs.Position.{functionIn, before}
+use Rattle.sizes.specs.Capped.{wordsAt}
 
 -- the code of the function at position k
 abbrev pub codeAt : List ℕ → ℕ → List ℕ

@@ -1,28 +1,27 @@
 // The compiler: from a table and a function to the board list.
 ghost use mathlib.Core.Path.{_≡_};
-ghost use mathlib.Core.List.{map};
 ghost use mathlib.Core.Option.{some};
 ghost use mathlib.Core.Bool.{true, false};
-ghost use Prim.Native.Nat.{ℕ, suc, _+_, _*_, _<_, _≤_, _^_, min};
-ghost use lib.ListN.{length, getD, set, replicate};
+ghost use Prim.Native.Nat.{ℕ, suc, _+_, _*_, _<_, _≤_, _^_};
+ghost use lib.ListN.{length, getD, replicate};
 ghost use lib.Seq.{sets};
-ghost use Rattle.ports.specs.Kinds.{kindOf};
-ghost use Rattle.ports.specs.Ports.{widths, portsOf, formOf, constantIn};
+ghost use Rattle.ports.specs.Ports.{widths, formOf, constantIn};
 ghost use Rattle.graph.specs.Bytes.{byte, u16};
 ghost use Rattle.graph.specs.Look.{reads};
 ghost use Rattle.graph.specs.Read.{reference};
 ghost use Rattle.topology.specs.Resolve as Resolve;
 ghost use Rattle.reader.specs.Find.{ReadsNodes};
 ghost use Rattle.topology.specs.Indices.{indexOrder};
-ghost use Rattle.compiler.specs.Spotting.{Accepted, NodesLaid, FunctionLaid, LaidTo, readCount, outputCodes, Places, Slots, WordsHeld, portCode, readCodes, throughCode, throughCodes, resultCodes, nodeCodes, AllOuts};
+ghost use Rattle.compiler.specs.Spotting.{ReadsOf, Accepted, NodesLaid, FunctionLaid, LaidTo, readCount, outputCodes, Places, Slots, WordsHeld, portCode, readCodes, throughCode, throughCodes, resultCodes, nodeCodes, AllOuts};
 ghost use Rattle.value.specs.Values.{span};
 ghost use Rattle.list.specs.Compile.{places, spans};
 ghost use Rattle.list.specs.Code.{bytesOf, allBytes, headerCode};
-ghost use Rattle.compiler.specs.Whole.{typesBy, codeAt, Measured, answerOf, codeAfter};
+ghost use Rattle.sizes.specs.Answers.{typesBy};
+ghost use Rattle.compiler.specs.Whole.{codeAt, Measured, answerOf, codeAfter};
 ghost use Rattle.list.specs.Answers.{compiled};
-ghost use Rattle.reader.specs.Layout.{outputCount, outputsPlace, kindAt, nodeAt, nodesAt, nodeEnd, nodePlace, nodesPlace, nodeCount};
-ghost use Rattle.compiler.specs.Position.{placeOf, positionOf, Starts, calling, ReadsOf, NodeFit, NodesFit, Fit, AllFit};
-ghost use Rattle.compiler.specs.Capped.{operationsAt, wordsAt, instructionsAt, bytesAt, addsWords, operationCap, wordCap, byteCap, Caps, AllSummed};
+ghost use Rattle.reader.specs.Layout.{outputCount, outputsPlace, kindAt, nodeAt, nodesAt, nodeEnd, nodesPlace, nodeCount};
+ghost use Rattle.sizes.specs.Position.{placeOf, Starts, calling, NodeFit, AllFit};
+ghost use Rattle.sizes.specs.Capped.{wordsAt, addsWords};
 ghost use Rattle.compiler.specs.Emit.{copied, spotRoom, addressOf, addressesIn, nodeOpened, functionOpened, Room, Emits, AllLaid};
 use checker::Verdict;
 use ports::Form;
@@ -73,20 +72,14 @@ fn put16(code: &mut [u8], at: usize, x: u16)
 
 // n bytes of the table.
 fn copy(t: &[u8], from: usize, n: usize, code: &mut [u8], at: usize)
-    requires { ⌜ (from + n ≤ 2 ^ 32) × (at + n ≤ length (now code)) ⌝ }
+    requires { ⌜ (from + n ≤ length (now t)) × (at + n ≤ length (now code)) ⌝ }
     ensures { λ _. ⌜ now (code .exit) ≡ sets (now (code .entry)) at (copied n (now (t .entry)) from) ⌝ }
 {
     let mut j = 0;
     while j < n {
-        code[at + j] = byte_at(t, from + j);
+        code[at + j] = t[from + j];
         j += 1;
     }
-}
-
-fn capped(x: usize, cap: usize) -> usize
-    ensures { λ r. ⌜ r ≡ min cap x ⌝ }
-{
-    if cap <= x { cap } else { x }
 }
 
 // ---- nodes
@@ -137,173 +130,6 @@ fn reads_at(t: &[u8], p: usize) -> Reads
             count: wide(row.operands),
         }
     }
-}
-
-// The place behind the node at p.
-fn node_end(t: &[u8], p: usize) -> usize
-    requires { ⌜ p < 65536 ⌝ }
-    ensures { λ r. ⌜ (r ≡ nodeEnd (now (t .entry)) p) × (r < 2 ^ 20) ⌝ }
-{
-    let row = ports::ports_of(byte_at(t, p + 2));
-    let form = row.form;
-    if is_call(form) {
-        p + 4 + 3 + 3 * wide(byte_at(t, p + 4 + 2))
-    } else {
-        p + 4 + 3 * wide(row.operands) + 8 * constant_words(form, row.words)
-    }
-}
-
-// Where the nodes of the function at p begin.
-fn nodes_place(t: &[u8], p: usize) -> usize
-    requires { ⌜ p < 65536 ⌝ }
-    ensures { λ r. ⌜ (r ≡ nodesPlace (now (t .entry)) p) × (r < 2 ^ 20) ⌝ }
-{
-    p + 6 + wide(byte_at(t, p + 2)) + 4 * wide(byte_at(t, p + 3))
-}
-
-// The place behind n nodes from `at` on.
-fn nodes_end(t: &[u8], at: usize, n: usize) -> usize
-    requires { ⌜ (at < 2 ^ 20) × NodesFit (now t) n at ⌝ }
-    ensures { λ r. ⌜ (r ≡ nodePlace (now (t .entry)) at n) × (r < 2 ^ 20) ⌝ }
-{
-    let mut q = at;
-    let mut i = 0;
-    while i < n {
-        q = node_end(t, q);
-        i += 1;
-    }
-    q
-}
-
-// The places of n functions.
-fn find_starts(t: &[u8], n: usize, starts: &mut [u16; 16])
-    requires { ⌜ (n ≤ 16) × AllFit (now t) n × (length (now starts) ≡ 16) ⌝ }
-    ensures { λ _. ⌜ Starts (now (t .entry)) (now (starts .exit)) n ⌝ }
-{
-    let mut p = 8;
-    let mut k = 0;
-    while k < n {
-        starts[k] = p as u16;
-        let count = u16_at(t, p + 4);
-        p = nodes_end(t, nodes_place(t, p), count);
-        k += 1;
-    }
-}
-
-// The position of the function of an id among those before k, or 16.
-fn position_of(t: &[u8], starts: &[u16; 16], k: usize, c: usize) -> usize
-    requires { ⌜ (k ≤ 16) × Starts (now t) (now starts) k ⌝ }
-    ensures { λ r. ⌜ r ≡ positionOf (now (t .entry)) k c ⌝ }
-{
-    let mut m = k;
-    while 0 < m {
-        m -= 1;
-        if u16_at(t, wide16(starts[m])) == c {
-            return m;
-        }
-    }
-    16
-}
-
-// ---- sums
-
-// Operations, result words, instructions and bytes of code; at a cap or above it, some number that is.
-pub struct Sums {
-    pub operations: usize,
-    pub words: usize,
-    pub instructions: usize,
-    pub bytes: usize,
-}
-
-// What the node at p adds to the sums of the function at position k.
-fn node_sums(
-    t: &[u8],
-    starts: &[u16; 16],
-    k: usize,
-    ops: &[u32; 16],
-    words: &[u32; 16],
-    counts: &[u32; 16],
-    sizes: &[u32; 16],
-    p: usize,
-) -> Sums
-    requires { ⌜ (k ≤ 16) × (p < 65536) × Starts (now t) (now starts) k ⌝ }
-    requires { ⌜ AllSummed (now t) (now ops) (now words) (now counts) (now sizes) k ⌝ }
-    ensures { λ r. ⌜ Caps (now (t .entry)) k (nodeAt (now (t .entry)) p) r ⌝ }
-{
-    let row = ports::ports_of(byte_at(t, p + 2));
-    let form = row.form;
-    if is_call(form) {
-        let g = position_of(t, starts, k, u16_at(t, p + 4));
-        if g < k {
-            let o = wide32(ops[g]);
-            let w = wide32(words[g]);
-            let m = wide32(counts[g]);
-            let b = wide32(sizes[g]);
-            Sums {
-                operations: 1 + o,
-                words: w,
-                instructions: m,
-                bytes: b,
-            }
-        } else {
-            Sums {
-                operations: 1,
-                words: 0,
-                instructions: 0,
-                bytes: 0,
-            }
-        }
-    } else {
-        let w = ports::result_words(row, byte_at(t, p + 3));
-        let n = wide(row.operands);
-        let c = constant_words(form, row.words);
-        Sums {
-            operations: 1,
-            words: w,
-            instructions: 1,
-            bytes: 2 + 2 * n + 8 * c,
-        }
-    }
-}
-
-// The sums of the function at position k, behind those of the functions before it.
-fn function_sums(
-    t: &[u8],
-    starts: &[u16; 16],
-    k: usize,
-    ops: &mut [u32; 16],
-    words: &mut [u32; 16],
-    counts: &mut [u32; 16],
-    sizes: &mut [u32; 16],
-)
-    requires { ⌜ (k < 16) × Fit (now t) k × Starts (now t) (now starts) (suc k) ⌝ }
-    requires { ⌜ AllSummed (now t) (now ops) (now words) (now counts) (now sizes) k ⌝ }
-    ensures { λ _. ⌜ (now (ops .exit) ≡ set (now (ops .entry)) k (min operationCap (operationsAt (now (t .entry)) k)))
-        × (now (words .exit) ≡ set (now (words .entry)) k (min wordCap (wordsAt (now (t .entry)) k)))
-        × (now (counts .exit) ≡ set (now (counts .entry)) k (min operationCap (instructionsAt (now (t .entry)) k)))
-        × (now (sizes .exit) ≡ set (now (sizes .entry)) k (min byteCap (bytesAt (now (t .entry)) k))) ⌝ }
-{
-    let p = wide16(starts[k]);
-    let n = u16_at(t, p + 4);
-    let mut q = nodes_place(t, p);
-    let mut o = 0;
-    let mut w = 0;
-    let mut m = 0;
-    let mut b = 0;
-    let mut i = 0;
-    while i < n {
-        let r = node_sums(t, starts, k, ops, words, counts, sizes, q);
-        o = capped(o + r.operations, 4097);
-        w = capped(w + r.words, 8193);
-        m = capped(m + r.instructions, 4097);
-        b = capped(b + r.bytes, 1048576);
-        q = node_end(t, q);
-        i += 1;
-    }
-    ops[k] = o as u32;
-    words[k] = w as u32;
-    counts[k] = m as u32;
-    sizes[k] = b as u32;
 }
 
 // ---- instructions
@@ -380,7 +206,7 @@ fn emit_single(
     at: usize,
     next: usize,
 ) -> Reached
-    requires { ⌜ (p < 65536) × (calling (formOf (kindAt (now t) p)) ≡ false) ⌝ }
+    requires { ⌜ (p < 65536) × (calling (formOf (kindAt (now t) p)) ≡ false) × (nodeEnd (now t) p ≤ length (now t)) ⌝ }
     requires { ⌜ (first ≤ 8192) × (spot + length (reads (nodeAt (now t) p)) ≤ spotRoom) ⌝ }
     requires { ⌜ Room (now code) at (nodeOpened (now t) (now spots) k p spot (now ins) first next) ⌝ }
     ensures { λ r. ⌜ Emits (now (code .entry)) (now (code .exit)) at
@@ -436,7 +262,7 @@ fn emit_node(
         let c = u16_at(t, p + 4);
         let mut args = [0u16; 8];
         arguments(spots, spot, n, ins, first, &mut args);
-        let g = position_of(t, starts, k, c);
+        let g = sizes::position_of(t, starts, k, c);
         if g < k {
             let r = emit(t, starts, begins, order, spots, g, &args, code, at, next);
             Reached {
@@ -510,20 +336,6 @@ fn emit(
 
 // ---- layout
 
-// The places of n nodes from `at` on.
-fn fill_places(t: &[u8], at: usize, n: usize, places: &mut [u16; 256])
-    requires { ⌜ (n ≤ 256) × (at < 2 ^ 20) × NodesFit (now t) n at × (length (now places) ≡ 256) ⌝ }
-    ensures { λ _. ⌜ Places (now (t .entry)) at (now (places .exit)) n ⌝ }
-{
-    let mut q = at;
-    let mut i = 0;
-    while i < n {
-        places[i] = q as u16;
-        q = node_end(t, q);
-        i += 1;
-    }
-}
-
 // The index of the node that the reference at q reads, or 256 for an input.
 fn target(t: &[u8], at: usize, n: usize, q: usize) -> u16
     requires { ⌜ (n ≤ 256) × (q < 2 ^ 31) × ReadsNodes n (now t) at ⌝ }
@@ -537,37 +349,6 @@ fn target(t: &[u8], at: usize, n: usize, q: usize) -> u16
     match found {
         Found::At(i, _) => i as u16,
         Found::Nothing => n as u16,
-    }
-}
-
-// The targets of the node at p, the i-th.
-fn resolve_node(t: &[u8], at: usize, n: usize, i: usize, p: usize, targets: &mut [u16; 4096])
-    requires { ⌜ (n ≤ 256) × (i < 256) × NodeFit (now t) p × ReadsNodes n (now t) at ⌝ }
-    ensures { λ _. ⌜ now (targets .exit) ≡ sets (now (targets .entry)) (16 * i)
-        (map (λ r. Resolve.target (nodesAt n (now (t .entry)) at) (some r)) (reads (nodeAt (now (t .entry)) p))) ⌝ }
-{
-    let r = reads_at(t, p);
-    let count = r.count;
-    let mut q = r.first;
-    let mut j = 0;
-    while j < count {
-        targets[16 * i + j] = target(t, at, n, q);
-        q += 3;
-        j += 1;
-    }
-}
-
-// The targets of n nodes from `at` on.
-fn resolve(t: &[u8], at: usize, n: usize, places: &[u16; 256], targets: &mut [u16; 4096])
-    requires { ⌜ (n ≤ 256) × NodesFit (now t) n at × ReadsNodes n (now t) at × Places (now t) at (now places) n ⌝ }
-    requires { ⌜ now targets ≡ replicate 4096 256 ⌝ }
-    ensures { λ _. ⌜ Slots (now (t .entry)) at n (now (targets .exit)) ⌝ }
-{
-    let mut i = 0;
-    while i < n {
-        let place = wide16(places[i]);
-        resolve_node(t, at, n, i, place, targets);
-        i += 1;
     }
 }
 
@@ -685,7 +466,7 @@ fn lay_node(
     let form = row.form;
     if is_call(form) {
         let c = u16_at(t, p + 4);
-        let g = position_of(t, starts, k, c);
+        let g = sizes::position_of(t, starts, k, c);
         if g < k {
             let count = wide(byte_at(t, wide16(starts[g]) + 3));
             let w = wide32(words[g]);
@@ -788,13 +569,13 @@ fn lay_function(
 {
     let p = wide16(starts[k]);
     let n = u16_at(t, p + 4);
-    let at = nodes_place(t, p);
+    let at = sizes::nodes_place(t, p);
     let mut places = [0u16; 256];
-    let mut targets = [256u16; 4096];
+    let mut targets = [0u16; 4096];
     let mut index = [0u16; 256];
     let mut laid = [0u16; 2048];
-    fill_places(t, at, n, &mut places);
-    resolve(t, at, n, &places, &mut targets);
+    resolver::places(t, at, n, &mut places);
+    resolver::resolve(t, at, n, &mut targets);
     topology::schedule(&targets, n, &mut index);
     let end = lay_nodes(
         t,
@@ -869,22 +650,6 @@ fn lay_functions(
 pub enum Compiled {
     Length(usize),
     Refused(u8, usize),
-}
-
-// The words of n values, whose type bytes stand `step` bytes apart.
-fn port_words(t: &[u8], at: usize, n: usize, step: usize) -> usize
-    requires { ⌜ (at < 2 ^ 20) × (n ≤ 8) × (step ≤ 4) ⌝ }
-    ensures { λ r. ⌜ (r ≡ widths (typesBy step n (now (t .entry)) at)) × (r ≤ 128) ⌝ }
-{
-    let mut q = at;
-    let mut w = 0;
-    let mut j = 0;
-    while j < n {
-        w += ports::width(byte_at(t, q));
-        q += step;
-        j += 1;
-    }
-    w
 }
 
 // The addresses of n arguments, by their type bytes.
@@ -962,27 +727,6 @@ fn put_header(code: &mut [u8], arguments: u8, outputs: u8, count: u16, words: u1
     put16(code, 10, words);
 }
 
-// The sums of the functions before k.
-fn fill_sums(
-    t: &[u8],
-    starts: &[u16; 16],
-    k: usize,
-    ops: &mut [u32; 16],
-    words: &mut [u32; 16],
-    counts: &mut [u32; 16],
-    sizes: &mut [u32; 16],
-)
-    requires { ⌜ (k ≤ 16) × AllFit (now t) k × Starts (now t) (now starts) k ⌝ }
-    requires { ⌜ (length (now ops) ≡ 16) × (length (now words) ≡ 16) × (length (now counts) ≡ 16) × (length (now sizes) ≡ 16) ⌝ }
-    ensures { λ _. ⌜ AllSummed (now (t .entry)) (now (ops .exit)) (now (words .exit)) (now (counts .exit)) (now (sizes .exit)) k ⌝ }
-{
-    let mut j = 0;
-    while j < k {
-        function_sums(t, starts, j, ops, words, counts, sizes);
-        j += 1;
-    }
-}
-
 // The whole code of the function at position k.
 fn write_list(
     t: &[u8],
@@ -1052,8 +796,8 @@ fn compile_accepted(t: &[u8], functions: usize, id: u16, code: &mut [u8]) -> Com
     ensures { λ r. ⌜ now (code .exit) ≡ codeAfter (now (code .entry)) (compiled (now (t .entry)) id (now (code .entry))) ⌝ }
 {
     let mut starts = [0u16; 16];
-    find_starts(t, functions, &mut starts);
-    let k = position_of(t, &starts, functions, wide16(id));
+    sizes::find_starts(t, functions, &mut starts);
+    let k = sizes::position_of(t, &starts, functions, wide16(id));
     if functions <= k {
         return Compiled::Refused(14, 0);
     }
@@ -1061,7 +805,7 @@ fn compile_accepted(t: &[u8], functions: usize, id: u16, code: &mut [u8]) -> Com
     let mut words = [0u32; 16];
     let mut counts = [0u32; 16];
     let mut sizes = [0u32; 16];
-    fill_sums(
+    sizes::all_sums(
         t,
         &starts,
         k + 1,
@@ -1077,12 +821,12 @@ fn compile_accepted(t: &[u8], functions: usize, id: u16, code: &mut [u8]) -> Com
     let p = wide16(starts[k]);
     let nin = wide(byte_at(t, p + 2));
     let nout = wide(byte_at(t, p + 3));
-    let inputs = port_words(t, p + 6, nin, 1);
+    let inputs = sizes::widths_at(t, p + 6, 1, nin);
     let w = wide32(words[k]);
     if 8192 < inputs + w {
         return Compiled::Refused(16, 0);
     }
-    let outputs = port_words(t, p + 6 + nin, nout, 4);
+    let outputs = sizes::widths_at(t, p + 6 + nin, 4, nout);
     let size = 12 + wide32(sizes[k]) + 2 * outputs;
     if code.len() < size {
         return Compiled::Refused(17, 0);

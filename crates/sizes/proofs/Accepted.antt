@@ -10,7 +10,7 @@ use borrow.Author.Tests.{leb-true, eqb-true, eqb-false}
 use Rattle.graph.specs.Outcome.{ok}
 use Rattle.graph.specs.Bytes.{byte, u16, Bytes}
 use Rattle.graph.specs.Graph.{Function}
-use Rattle.graph.specs.Read.{version1, Part, function, functions, parse}
+use Rattle.graph.specs.Read.{version1, Part, functions, parse}
 use Rattle.graph.specs.Judge.{table, verdict}
 use Rattle.graph.specs.Sound.{AllSound}
 use Rattle.graph.proofs.Loops.{and-inv}
@@ -89,7 +89,7 @@ module _ (s : List ℕ) (n : ℕ) (e : verdict s ≡ ok n) where
 
 module _ (s : List ℕ) where
   -- each function was read where it stands
-  at-places : (n k : ℕ) (p : Part (List Function)) → functions 256 n s (functionPlace 8 s k) ≡ ok p → (j : ℕ) → j < n → ReadsFunction s (functionPlace 8 s (k + j))
+  pub at-places : (n k : ℕ) (p : Part (List Function)) → functions 256 n s (functionPlace 8 s k) ≡ ok p → (j : ℕ) → j < n → ReadsFunction s (functionPlace 8 s (k + j))
   unfolding functionPlace
   at-places zero k p e j l = absurd (omega arith)
   at-places (suc n) k p e zero l =
@@ -107,7 +107,7 @@ module _ (s : List ℕ) where
     node-fit : (at : ℕ) → ReadsNode s at → NodeFit s at
     node-fit at r =
         let h = head-fits s at r in
-        record { near = omega arith; arguments = λ q. callee-fits s at r q .1 }
+        record { near = omega arith; arguments = λ q. callee-fits s at r q .1; reads = r }
 
     nodes-fit : (n at : ℕ) → ReadsNodes n s at → NodesFit s n at
     nodes-fit zero at r = tt
@@ -128,7 +128,7 @@ module _ (s : List ℕ) where
         let (u7, u8) = and-inv (leb 1 nout) (leb nout 8) u4 in
         (leb-true nin 8 u6, leb-true nout 8 u8)
 
-    function-fit : (k : ℕ) → ReadsFunction s (placeOf s k) → Fit s k
+    pub function-fit : (k : ℕ) → ReadsFunction s (placeOf s k) → Fit s k
     function-fit k r =
         let h = function-holds s (placeOf s k) r in
         let head = h .head in

@@ -1,3 +1,4 @@
+pub mod Tabulate
 pub mod Rows
 pub mod Nodes
 pub mod Positions

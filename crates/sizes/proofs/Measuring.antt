@@ -1,13 +1,12 @@
--- The sums of the functions in turn, and the sizes of one of them by its sums.
+-- The sizes of a function by its sums.
 use Prim.Native.Nat.{ℕ, suc, _+_, _*_, _≤_, _<_, min}
 use mathlib.Core.Path.{_≡_, refl, sym, ap, _∙_}
 use mathlib.Core.Bool.{Bool, true, false, _&&_, cond}
 use mathlib.Core.List.{List, _∷_}
 use native.Mathlib.Omega.{arith}
-use lib.Dec.{leb, eqb}
-use lib.ListN.{length, getD, set, length-set}
-use lib.Seq.{getD-set-same, getD-set-other}
-use borrow.Author.Tests.{leb-true, leb-false, le-leb, lt-leb, eqb-true, eqb-false}
+use lib.Dec.{leb}
+use lib.ListN.{length, getD}
+use borrow.Author.Tests.{leb-true, leb-false, le-leb, lt-leb}
 use Rattle.ports.specs.Ports.{widths}
 use Rattle.graph.specs.Graph.{Function}
 use Rattle.graph.specs.Judge.{outputTypes}
@@ -18,56 +17,10 @@ use Rattle.list.specs.Code.{encode}
 use Rattle.reader.specs.Layout.{functionAt, functionPlace, functionOf, earlier}
 use Rattle.sizes.specs.declared.Sizes.{Sizes}
 use Rattle.sizes.specs.CodeSums.{functionBytes, bytesOfFunction}
-use Rattle.sizes.specs.Capped.{operationCap, wordCap, byteCap, operationsAt, wordsAt, instructionsAt, bytesAt, Summed, AllSummed}
+use Rattle.sizes.specs.Capped.{operationCap, wordCap, byteCap, operationsAt, wordsAt, bytesAt, Summed}
 use Rattle.sizes.specs.Answers.{limitsHold, codeSize, cappedSizes, sizesOf, Sized}
 use Rattle.sizes.proofs.CodeSizes.{encode-length}
 use Rattle.sizes.proofs.CodeLimits.{bytes-below}
-
--- ---- the functions in turn
-
-module _ (s : List ℕ) where
-  -- the arrays have room for 16 functions, and hold the sums of those before k
-  pub record AllMeasured (os ws cs bs : List ℕ) (k : ℕ) : Type 0 where
-    pub sizes : (length os ≡ 16) × (length ws ≡ 16) × (length cs ≡ 16) × (length bs ≡ 16)
-    pub sums : AllSummed s os ws cs bs k
-
-  pub none-summed : (os ws cs bs : List ℕ) → (length os ≡ 16) × (length ws ≡ 16) × (length cs ≡ 16) × (length bs ≡ 16) → AllMeasured os ws cs bs 0
-  none-summed os ws cs bs l = record { sizes = l; sums = λ j h. absurd (omega arith) }
-
-  set-here : (xs : List ℕ) (k j v : ℕ) → length xs ≡ 16 → k < 16 → j ≡ k → getD (set xs k v) j 0 ≡ v
-  set-here xs k j v l h e = rw e (getD-set-same xs k v 0 (omega arith))
-
-  pub one-more : (os ws cs bs os' ws' cs' bs' : List ℕ) (k : ℕ) → AllMeasured os ws cs bs k → k < 16
-      → os' ≡ set os k (min operationCap (operationsAt s k)) → ws' ≡ set ws k (min wordCap (wordsAt s k))
-      → cs' ≡ set cs k (min operationCap (instructionsAt s k)) → bs' ≡ set bs k (min byteCap (bytesAt s k))
-      → AllMeasured os' ws' cs' bs' (k + 1)
-  one-more os ws cs bs os' ws' cs' bs' k m h eo ew ec eb =
-      let (lo, lw, lc, lb) = m .sizes in
-      record {
-        sizes =
-            (ap length eo ∙ length-set os k _ ∙ lo, ap length ew ∙ length-set ws k _ ∙ lw, ap length ec ∙ length-set cs k _ ∙ lc, ap length eb ∙ length-set bs k _ ∙ lb);
-        sums = λ j l. pickOne j (eqb j k) refl l;
-      }
-    where
-      pickOne : (j : ℕ) (b : Bool) → eqb j k ≡ b → j < k + 1 → Summed s os' ws' cs' bs' j
-      pickOne j true e l =
-          let (lo, lw, lc, lb) = m .sizes in
-          let q : j ≡ k = eqb-true j k e in
-          record {
-            operations = rw eo (set-here os k j _ lo h q) ∙ ap (λ (i : ℕ). min operationCap (operationsAt s i)) (sym q);
-            words = rw ew (set-here ws k j _ lw h q) ∙ ap (λ (i : ℕ). min wordCap (wordsAt s i)) (sym q);
-            instructions = rw ec (set-here cs k j _ lc h q) ∙ ap (λ (i : ℕ). min operationCap (instructionsAt s i)) (sym q);
-            bytes = rw eb (set-here bs k j _ lb h q) ∙ ap (λ (i : ℕ). min byteCap (bytesAt s i)) (sym q);
-          }
-      pickOne j false e l =
-          let q : j ≡ k → ⊥ = eqb-false j k e in
-          let x = m .sums j (omega arith) in
-          record {
-            operations = rw eo (getD-set-other os k j _ 0 q) ∙ x .operations;
-            words = rw ew (getD-set-other ws k j _ 0 q) ∙ x .words;
-            instructions = rw ec (getD-set-other cs k j _ 0 q) ∙ x .instructions;
-            bytes = rw eb (getD-set-other bs k j _ 0 q) ∙ x .bytes;
-          }
 
 -- ---- sums above a limit may be capped
 

@@ -1,13 +1,12 @@
 -- A node as the code meets it: its references, the place behind it, the nodes in turn.
 use Prim.Native.Nat.{ℕ, suc, _+_, _-_, _*_, _≤_, _<_}
 use mathlib.Core.Path.{_≡_, refl, sym, ap, _∙_, subst}
-use mathlib.Core.Bool.{Bool, true, false}
+use mathlib.Core.Bool.{true, false}
 use mathlib.Core.List.{List}
 use native.Mathlib.Omega.{arith}
-use lib.Dec.{eqb}
-use lib.ListN.{length, getD, set, length-set}
-use lib.Seq.{getD-set-same, getD-set-other}
-use borrow.Author.Tests.{eqb-true, eqb-false}
+use lib.ListN.{set}
+use lib.Seq.{sets}
+use borrow.Author.Tests.{eqb-true}
 use Rattle.ports.specs.declared.Form.{Form}
 use Rattle.ports.specs.declared.Form.the-variants.{Absent, Constant, References, Call}
 use Rattle.ports.specs.declared.Ports.{Ports}
@@ -17,8 +16,9 @@ use Rattle.graph.specs.Bytes.{byte, u16}
 use Rattle.graph.specs.Graph.{calls}
 use Rattle.graph.specs.Read.{references}
 use Rattle.reader.specs.Layout.{kindAt, payloadAt, payloadEnd, nodeAt, nodeEnd, nodePlace, nodesPlace, nodeCount, functionEnd, functionPlace}
-use Rattle.sizes.specs.Position.{placeOf, Starts, calling, NodeFit, NodesFit}
+use Rattle.sizes.specs.Position.{tabulate, placeOf, calling, NodeFit, NodesFit}
 use Rattle.sizes.proofs.Rows.{operandsBy, Narrow, narrow}
+use Rattle.sizes.proofs.Tabulate.{tabulate-none, tabulate-more}
 
 pub call-form : (f : Form) → calling f ≡ true → f ≡ Call
 call-form Absent e = let z : _≡_ {A = ℕ} 0 1 = cc in absurd (omega arith)
@@ -51,7 +51,7 @@ module _ (s : List ℕ) (p kind : ℕ) (row : Ports) (ek : kind ≡ byte s (p + 
   pub form-is : row .form ≡ formOf (kindAt s p)
   form-is = ap (λ (r : Ports). r .form) row-is
 
-  operands-are : row .operands ≡ arity (kindAt s p)
+  pub operands-are : row .operands ≡ arity (kindAt s p)
   operands-are = ap (λ (r : Ports). r .operands) row-is
 
   module _ (c : calling (row .form) ≡ true) where
@@ -67,10 +67,10 @@ module _ (s : List ℕ) (p kind : ℕ) (row : Ports) (ek : kind ≡ byte s (p + 
     call-end n e = sym (ap (λ (f : Form). payloadEnd f (kindAt s p) s (p + 4)) called ∙ ap (λ (m : ℕ). p + 4 + 3 + 3 * m) (sym e))
 
   module _ (c : calling (row .form) ≡ false) where
-    plain-form : calling (formOf (kindAt s p)) ≡ false
+    pub plain-form : calling (formOf (kindAt s p)) ≡ false
     plain-form = ap calling (sym form-is) ∙ c
 
-    by-form : operandsBy (formOf (kindAt s p)) (arity (kindAt s p)) ≡ true
+    pub by-form : operandsBy (formOf (kindAt s p)) (arity (kindAt s p)) ≡ true
     by-form = subst (λ (r : Ports). operandsBy (r .form) (r .operands) ≡ true) row-is (row-narrow .by-form)
 
     pub plain-end : (n w : ℕ) → n ≡ row .operands → w ≡ constantIn (row .form) (row .words) → p + 4 + 3 * n + 8 * w ≡ nodeEnd s p
@@ -109,29 +109,29 @@ module _ (s : List ℕ) (at n : ℕ) where
 
 -- ---- functions in turn
 
-module _ (s : List ℕ) (n : ℕ) where
+module _ (s : List ℕ) (n : ℕ) (starts₀ : List ℕ) where
   pub record Starting (starts : List ℕ) (p k : ℕ) : Type 0 where
     pub index : k ≤ n
     pub place : p ≡ placeOf s k
-    pub size : length starts ≡ 16
-    pub starts-are : Starts s starts k
+    pub starts-are : starts ≡ sets starts₀ 0 (tabulate (placeOf s) k)
 
-  pub start-none : (starts : List ℕ) → length starts ≡ 16 → Starting starts 8 0
+  pub start-none : Starting starts₀ 8 0
   unfolding functionPlace
-  start-none starts l = record { index = omega arith; place = refl; size = l; starts-are = λ j l. absurd (omega arith) }
+  start-none = record { index = omega arith; place = refl; starts-are = sym (tabulate-none (placeOf s) starts₀) }
 
-  pub start-step : (starts : List ℕ) (p k r : ℕ) → Starting starts p k → k < n → n ≤ 16 → r ≡ nodePlace s (nodesPlace s p) (nodeCount s p)
+  pub start-step : (starts : List ℕ) (p k r : ℕ) → Starting starts p k → k < n → r ≡ nodePlace s (nodesPlace s p) (nodeCount s p)
       → Starting (set starts k p) r (k + 1)
   unfolding functionPlace functionEnd
-  start-step starts p k r h lt le er =
+  start-step starts p k r h lt er =
       let z : k + 1 ≡ suc k = omega arith in
       record {
         index = omega arith;
         place = rw z (er ∙ ap (functionEnd s) (h .place));
-        size = length-set starts k p ∙ h .size;
-        starts-are = λ j jl. pickOne j (eqb j k) refl jl;
+        starts-are =
+            ap (λ (xs : List ℕ). set xs k p) (h .starts-are)
+            ∙ ap (set (sets starts₀ 0 (tabulate (placeOf s) k)) k) (h .place)
+            ∙ sym (tabulate-more (placeOf s) starts₀ k);
       }
-    where
-      pickOne : (j : ℕ) (b : Bool) → eqb j k ≡ b → j < k + 1 → getD (set starts k p) j 0 ≡ placeOf s j
-      pickOne j true e jl = let q : j ≡ k = eqb-true j k e in rw q (getD-set-same starts k p 0 (omega (arith, h .size)) ∙ h .place)
-      pickOne j false e jl = let q : j ≡ k → ⊥ = eqb-false j k e in getD-set-other starts k j p 0 q ∙ h .starts-are j (omega arith)
+
+  pub start-done : (starts : List ℕ) (p k : ℕ) → Starting starts p k → n ≤ k → starts ≡ sets starts₀ 0 (tabulate (placeOf s) n)
+  start-done starts p k h le = let z : k ≡ n = let i = h .index in omega arith in h .starts-are ∙ ap (λ (m : ℕ). sets starts₀ 0 (tabulate (placeOf s) m)) z

@@ -33,7 +33,7 @@ module _ (s : List ℕ) (k p kind : ℕ) (row : Ports) (ek : kind ≡ byte s (p 
         ap (nodeOperations (operationsOf (before s k))) (call-payload s p kind row ek er c)
         ∙ ap (λ (d : ℕ). 1 + operationsOf (before s k) d) (sym ec)
 
-    added-words : addsWords s k (nodeAt s p) ≡ resultWordsOf (before s k) callee
+    pub added-words : addsWords s k (nodeAt s p) ≡ resultWordsOf (before s k) callee
     added-words =
         ap (nodeWords (resultWordsOf (before s k)) (nodeAt s p)) (call-payload s p kind row ek er c) ∙ ap (resultWordsOf (before s k)) (sym ec)
 
@@ -133,6 +133,14 @@ module _ (s : List ℕ) (k p kind : ℕ) (row : Ports) (ek : kind ≡ byte s (p 
           bytes = ap (min byteCap) (ap (λ (y : ℕ). 2 + 2 * y + 8 * v) fn ∙ ap (λ (y : ℕ). 2 + 2 * arity (kindAt s p) + 8 * y) fv ∙ sym ab);
           small = (omega arith, omega arith, omega arith, omega arith);
         }
+
+    pub plain-words : (ty w : ℕ) → ty ≡ byte s (p + 3) → w ≡ PortList.resultWords row ty → addsWords s k (nodeAt s p) ≡ w
+    plain-words ty w et ew =
+        let r : row ≡ portsOf (kindAt s p) = row-is s p kind row ek er in
+        let f : calling (formOf (kindAt s p)) ≡ false = ap calling (sym (form-is s p kind row ek er)) ∙ c in
+        by-form (formOf (kindAt s p)) refl f .1
+        ∙ sym
+        (ew ∙ ap (λ (y : Ports). PortList.resultWords y ty) r ∙ ap (λ (t : ℕ). PortList.resultWords (portsOf (kindAt s p)) t) et ∙ words-given (kindAt s p) (byte s (p + 3)))
 
 -- ---- the loop over a function's nodes
 

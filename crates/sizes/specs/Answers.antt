@@ -26,9 +26,9 @@ abbrev pub limitsHold : ℕ → ℕ → Bool
 limitsHold operations words = leb operations operationLimit && leb words wordLimit
 
 -- n type bytes, each `step` behind the one before it
-abbrev pub typesAt : ℕ → List ℕ → ℕ → ℕ → List ℕ
-typesAt zero s at step = []
-typesAt (suc n) s at step = byte s at ∷ typesAt n s (at + step) step
+abbrev pub typesBy : ℕ → ℕ → List ℕ → ℕ → List ℕ
+typesBy step zero s at = []
+typesBy step (suc n) s at = byte s at ∷ typesBy step n s (at + step)
 
 -- the header, the instructions, and an address for each output word
 unfoldable pub codeSize : ℕ → ℕ → ℕ → ℕ → ℕ

@@ -32,6 +32,19 @@ instructionsAt s k = functionInstructions (instructionsOf (before s k)) (functio
 unfoldable pub bytesAt : List ℕ → ℕ → ℕ
 bytesAt s k = functionBytes (bytesOfFunction (before s k)) (functionIn s k)
 
+-- the same, capped
+abbrev pub cappedOperations : List ℕ → ℕ → ℕ
+cappedOperations s k = min operationCap (operationsAt s k)
+
+abbrev pub cappedWords : List ℕ → ℕ → ℕ
+cappedWords s k = min wordCap (wordsAt s k)
+
+abbrev pub cappedInstructions : List ℕ → ℕ → ℕ
+cappedInstructions s k = min operationCap (instructionsAt s k)
+
+abbrev pub cappedBytes : List ℕ → ℕ → ℕ
+cappedBytes s k = min byteCap (bytesAt s k)
+
 -- what a node adds to the sums of the function at position k
 abbrev pub addsOperations : List ℕ → ℕ → Node → ℕ
 addsOperations s k n = nodeOperations (operationsOf (before s k)) (n .payload)
@@ -55,10 +68,10 @@ pub record Caps (s : List ℕ) (k : ℕ) (n : Node) (r : Sums) : Type 0 where
 
 -- the arrays hold the sums of the function at position j
 pub record Summed (s os ws cs bs : List ℕ) (j : ℕ) : Type 0 where
-  pub operations : getD os j 0 ≡ min operationCap (operationsAt s j)
-  pub words : getD ws j 0 ≡ min wordCap (wordsAt s j)
-  pub instructions : getD cs j 0 ≡ min operationCap (instructionsAt s j)
-  pub bytes : getD bs j 0 ≡ min byteCap (bytesAt s j)
+  pub operations : getD os j 0 ≡ cappedOperations s j
+  pub words : getD ws j 0 ≡ cappedWords s j
+  pub instructions : getD cs j 0 ≡ cappedInstructions s j
+  pub bytes : getD bs j 0 ≡ cappedBytes s j
 
 -- and of all before k
 abbrev pub AllSummed : List ℕ → List ℕ → List ℕ → List ℕ → List ℕ → ℕ → Type 0

@@ -2,7 +2,7 @@
 use Prim.Native.Nat.{ℕ, zero, suc, _+_, _≤_, _<_}
 use mathlib.Core.Path.{_≡_}
 use mathlib.Core.Bool.{Bool, true, false, cond}
-use mathlib.Core.List.{List}
+use mathlib.Core.List.{List, [], _∷_, _++_}
 use lib.Dec.{eqb}
 use lib.ListN.{getD}
 use Rattle.ports.specs.declared.Form.{Form}
@@ -11,6 +11,7 @@ use Rattle.ports.specs.Ports.{formOf}
 use Rattle.graph.specs.Bytes.{byte, u16}
 use Rattle.graph.specs.Graph.{Function}
 use Rattle.reader.specs.Layout.{kindAt, nodeEnd, inputCount, outputCount, nodeCount, nodesPlace, functionPlace, functionOf, earlier}
+use Rattle.reader.specs.Find.{ReadsNode}
 
 -- where the function at a position stands; the function; those before it, the last first
 abbrev pub placeOf : List ℕ → ℕ → ℕ
@@ -27,6 +28,11 @@ unfoldable pub positionOf : List ℕ → ℕ → ℕ → ℕ
 positionOf s zero c = 16
 positionOf s (suc m) c = cond (eqb (u16 s (placeOf s m)) c) m (positionOf s m c)
 
+-- f of each number below n, in their order
+unfoldable pub tabulate : (ℕ → ℕ) → ℕ → List ℕ
+tabulate f zero = []
+tabulate f (suc n) = tabulate f n ++ (f n ∷ [])
+
 -- the places of the functions before k stand in an array
 abbrev pub Starts : List ℕ → List ℕ → ℕ → Type 0
 Starts s starts k = (j : ℕ) → j < k → getD starts j 0 ≡ placeOf s j
@@ -42,6 +48,7 @@ calling Call = true
 pub record NodeFit (s : List ℕ) (p : ℕ) : Type 0 where
   pub near : p < 65536
   pub arguments : formOf (kindAt s p) ≡ Call → byte s (p + 4 + 2) ≤ 8
+  pub reads : ReadsNode s p
 
 -- n nodes from a place on
 abbrev pub NodesFit : List ℕ → ℕ → ℕ → Type 0

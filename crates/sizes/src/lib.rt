@@ -2,15 +2,16 @@
 ghost use mathlib.Core.Path.{_≡_};
 ghost use Prim.Native.Nat.{suc, _+_, _*_, _<_, _≤_, _^_, min};
 ghost use lib.ListN.{length, set};
+ghost use lib.Seq.{sets};
 ghost use Rattle.ports.specs.Ports.{constantIn, widths};
 ghost use Rattle.graph.specs.Outcome.{ok};
 ghost use Rattle.graph.specs.Bytes.{byte, u16};
 ghost use Rattle.graph.specs.Judge.{verdict};
 ghost use Rattle.list.specs.Answers.{compilable};
 ghost use Rattle.reader.specs.Layout.{nodeAt, nodeEnd, nodePlace, nodesPlace};
-ghost use Rattle.sizes.specs.Position.{positionOf, Starts, calling, NodesFit, Fit, AllFit};
-ghost use Rattle.sizes.specs.Capped.{operationsAt, wordsAt, instructionsAt, bytesAt, operationCap, wordCap, byteCap, Caps, AllSummed};
-ghost use Rattle.sizes.specs.Answers.{typesAt, codeSize, sizesOf, Names, measuredOf, upTo, countOf, named, operationCount, wordCount, codeCount};
+ghost use Rattle.sizes.specs.Position.{tabulate, placeOf, positionOf, Starts, calling, NodesFit, Fit, AllFit};
+ghost use Rattle.sizes.specs.Capped.{Caps, AllSummed, cappedOperations, cappedWords, cappedInstructions, cappedBytes};
+ghost use Rattle.sizes.specs.Answers.{typesBy, codeSize, sizesOf, Names, measuredOf, upTo, countOf, named, operationCount, wordCount, codeCount};
 use checker::Verdict;
 use ports::Form;
 use ports::Ports;
@@ -95,7 +96,7 @@ fn node_end(t: &[u8], p: usize) -> usize
 }
 
 // Where the nodes of the function at p begin.
-fn nodes_place(t: &[u8], p: usize) -> usize
+pub fn nodes_place(t: &[u8], p: usize) -> usize
     requires { ⌜ p < 65536 ⌝ }
     ensures { λ r. ⌜ (r ≡ nodesPlace (now (t .entry)) p) × (r < 2 ^ 20) ⌝ }
 {
@@ -117,9 +118,9 @@ fn nodes_end(t: &[u8], at: usize, n: usize) -> usize
 }
 
 // The places of n functions.
-fn find_starts(t: &[u8], n: usize, starts: &mut [u16; 16])
+pub fn find_starts(t: &[u8], n: usize, starts: &mut [u16; 16])
     requires { ⌜ (n ≤ 16) × AllFit (now t) n × (length (now starts) ≡ 16) ⌝ }
-    ensures { λ _. ⌜ Starts (now (t .entry)) (now (starts .exit)) n ⌝ }
+    ensures { λ _. ⌜ now (starts .exit) ≡ sets (now (starts .entry)) 0 (tabulate (placeOf (now (t .entry))) n) ⌝ }
 {
     let mut p = 8;
     let mut k = 0;
@@ -132,7 +133,7 @@ fn find_starts(t: &[u8], n: usize, starts: &mut [u16; 16])
 }
 
 // The position of the function of an id among those before k, or 16.
-fn position_of(t: &[u8], starts: &[u16; 16], k: usize, c: usize) -> usize
+pub fn position_of(t: &[u8], starts: &[u16; 16], k: usize, c: usize) -> usize
     requires { ⌜ (k ≤ 16) × Starts (now t) (now starts) k ⌝ }
     ensures { λ r. ⌜ r ≡ positionOf (now (t .entry)) k c ⌝ }
 {
@@ -219,10 +220,10 @@ fn function_sums(
 )
     requires { ⌜ (k < 16) × Fit (now t) k × Starts (now t) (now starts) (suc k) ⌝ }
     requires { ⌜ AllSummed (now t) (now ops) (now words) (now counts) (now sizes) k ⌝ }
-    ensures { λ _. ⌜ (now (ops .exit) ≡ set (now (ops .entry)) k (min operationCap (operationsAt (now (t .entry)) k)))
-        × (now (words .exit) ≡ set (now (words .entry)) k (min wordCap (wordsAt (now (t .entry)) k)))
-        × (now (counts .exit) ≡ set (now (counts .entry)) k (min operationCap (instructionsAt (now (t .entry)) k)))
-        × (now (sizes .exit) ≡ set (now (sizes .entry)) k (min byteCap (bytesAt (now (t .entry)) k))) ⌝ }
+    ensures { λ _. ⌜ (now (ops .exit) ≡ set (now (ops .entry)) k (cappedOperations (now (t .entry)) k))
+        × (now (words .exit) ≡ set (now (words .entry)) k (cappedWords (now (t .entry)) k))
+        × (now (counts .exit) ≡ set (now (counts .entry)) k (cappedInstructions (now (t .entry)) k))
+        × (now (sizes .exit) ≡ set (now (sizes .entry)) k (cappedBytes (now (t .entry)) k)) ⌝ }
 {
     let p = wide16(starts[k]);
     let n = u16_at(t, p + 4);
@@ -248,7 +249,7 @@ fn function_sums(
 }
 
 // The sums of the first n functions.
-fn all_sums(
+pub fn all_sums(
     t: &[u8],
     starts: &[u16; 16],
     n: usize,
@@ -259,7 +260,10 @@ fn all_sums(
 )
     requires { ⌜ (n ≤ 16) × AllFit (now t) n × Starts (now t) (now starts) n ⌝ }
     requires { ⌜ (length (now ops) ≡ 16) × (length (now words) ≡ 16) × (length (now counts) ≡ 16) × (length (now sizes) ≡ 16) ⌝ }
-    ensures { λ _. ⌜ AllSummed (now (t .entry)) (now (ops .exit)) (now (words .exit)) (now (counts .exit)) (now (sizes .exit)) n ⌝ }
+    ensures { λ _. ⌜ (now (ops .exit) ≡ sets (now (ops .entry)) 0 (tabulate (cappedOperations (now (t .entry))) n))
+        × (now (words .exit) ≡ sets (now (words .entry)) 0 (tabulate (cappedWords (now (t .entry))) n))
+        × (now (counts .exit) ≡ sets (now (counts .entry)) 0 (tabulate (cappedInstructions (now (t .entry))) n))
+        × (now (sizes .exit) ≡ sets (now (sizes .entry)) 0 (tabulate (cappedBytes (now (t .entry))) n)) ⌝ }
 {
     let mut k = 0;
     while k < n {
@@ -271,9 +275,9 @@ fn all_sums(
 // ---- sizes
 
 // The words of n types, the first at p and each `step` bytes behind the one before it.
-fn widths_at(t: &[u8], p: usize, step: usize, n: usize) -> usize
+pub fn widths_at(t: &[u8], p: usize, step: usize, n: usize) -> usize
     requires { ⌜ (p < 2 ^ 20) × (step ≤ 4) × (n < 256) ⌝ }
-    ensures { λ r. ⌜ (r ≡ widths (typesAt n (now (t .entry)) p step)) × (r < 65536) ⌝ }
+    ensures { λ r. ⌜ (r ≡ widths (typesBy step n (now (t .entry)) p)) × (r < 65536) × (r ≤ 16 * n) ⌝ }
 {
     let mut total = 0;
     let mut q = p;

@@ -1,17 +1,16 @@
-use Prim.Native.Nat.{ℕ, suc, _+_, _-_, _*_, _≤_, _<_}
+use Prim.Native.Nat.{ℕ, _+_, _-_, _≤_, _<_}
 use mathlib.Core.Path.{_≡_, refl, sym, ap, _∙_, subst}
-use mathlib.Core.Bool.{true, false}
-use mathlib.Core.List.{List}
 use borrow.Author.Needs.{needs}
 use native.Mathlib.Omega.{arith}
 use lib.ListN.{length}
 use Rattle.graph.specs.Bytes.{u16}
 use Rattle.graph.specs.Look.{reads}
-use Rattle.reader.specs.Layout.{nodeAt, nodeCount}
+use Rattle.reader.specs.Layout.{nodeAt}
+use Rattle.reader.proofs.Passed.{end-fits}
 use Rattle.list.specs.Compile.{Opened}
-use Rattle.compiler.specs.Position.{placeOf, calling}
+use Rattle.sizes.specs.Position.{calling}
 use Rattle.compiler.specs.Emit.{Room, Emits, nodeOpened, functionOpened, Laid}
-use Rattle.compiler.proofs.Nodes.{called, form-is}
+use Rattle.sizes.proofs.Nodes.{called, form-is}
 use Rattle.compiler.proofs.Opening.{count-is, callee-is, callee-none, nothing}
 use Rattle.compiler.proofs.Emission.{State, whole-words, start, node-ready, advance, same-size, few-nodes, finished}
 use borrow.Fn.Kinds.{In}
@@ -26,7 +25,7 @@ use Rattle.compiler.proofs.arguments.Reads as arguments-reads
 use Rattle.compiler.proofs.byte_at.Reads as byte-at-reads
 use Rattle.compiler.proofs.emit_single.Reads as emit-single-reads
 use Rattle.compiler.proofs.is_call.Reads as is-call-reads
-use Rattle.compiler.proofs.position_of.Reads as position-of-reads
+use Rattle.sizes.proofs.position_of.Reads as position-of-reads
 use Rattle.compiler.proofs.u16_at.Reads as u16-at-reads
 use Rattle.compiler.proofs.wide.Reads as wide-reads
 use Rattle.compiler.proofs.wide16.Reads as wide16-reads
@@ -210,7 +209,7 @@ module _ (t : ℕ) where
   emit-node-emit-single-requires c κs =
       let a = c .before .before .before .before .before .before .before .args in
       let f = sym (c .before .before .is-call .ensures) ∙ c .before .if1 .left in (
-        (c .before .before .before .before .before .before .before .pre .1 .0 .2 .near, ap calling (sym (form-is (a .t .now) (a .p) (c .before .before .before .before .byte-at .result) (c .before .before .before .ports-of .result) (c .before .before .before .before .byte-at .ensures) (c .before .before .before .ports-of .ensures))) ∙ f),
+        (c .before .before .before .before .before .before .before .pre .1 .0 .2 .near, ap calling (sym (form-is (a .t .now) (a .p) (c .before .before .before .before .byte-at .result) (c .before .before .before .ports-of .result) (c .before .before .before .before .byte-at .ensures) (c .before .before .before .ports-of .ensures))) ∙ f, end-fits (a .t .now) (a .p) (c .before .before .before .before .before .before .before .pre .1 .0 .2 .reads)),
         (c .before .before .before .before .before .before .before .pre .1 .1 .0, c .before .before .before .before .before .before .before .pre .1 .1 .1 .1),
       )
 

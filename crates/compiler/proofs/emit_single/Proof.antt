@@ -1,12 +1,14 @@
 use borrow.Author.Needs.{needs}
-use mathlib.Core.Path.{_≡_, refl, sym, ap, _∙_, subst}
+use mathlib.Core.Path.{sym, ap, _∙_}
 use mathlib.Core.List.{List}
 use Prim.Native.Nat.{ℕ, _+_, _*_, _≤_, _<_}
 use native.Mathlib.Omega.{arith}
 use lib.ListN.{length, length-set}
-use lib.Seq.{sets, length-sets}
+use lib.Seq.{sets}
 use Rattle.compiler.specs.Emit.{copied, addressesIn}
 use Rattle.list.specs.Code.{allBytes}
+use Rattle.sizes.specs.Position.{calling}
+use Rattle.sizes.proofs.Nodes.{form-is, plain-end}
 use Rattle.compiler.proofs.Single.{Taken, taken, head-length, head-then, operands-length}
 use Rattle.compiler.proofs.emit_single.Statement.{statement}
 use Rattle.compiler.proofs.emit_single.Tie as tie
@@ -52,10 +54,14 @@ add-copy-3 c = let (x, x') = fits (c .before .before .before .before .before) in
 copy-requires : tie.Need-copy-requires
 copy-requires c κs =
     let (x, x') = fits (c .before .before .before .before .before) in
-    let a = c .before .before .before .before .before .before .before .before .before .before .before .before .before .args in
-    let v = c .before .before .before .before .before .before .constant-words .ensures .1 in
-    let near = c .before .before .before .before .before .before .before .before .before .before .before .before .before .pre .0 .0 in
-    let same = c .before .before .before .operands .kept .1 .1 .1 .1 .1 .0 ∙ head-length (a .code .now) (a .at) (c .before .before .before .before .before .before .before .before .before .before .byte-at .result) (c .before .before .before .before .before .before .before .before .before .byte-at2 .result) in
+    let b = c .before .before .before .before .before .before .before .before .before .before .before .before .before in
+    let a = b .args in
+    let kind = c .before .before .before .before .before .before .before .before .before .before .byte-at in
+    let row = c .before .before .before .before .before .before .before .before .ports-of in
+    let f = ap calling (form-is (a .t .now) (a .p) (kind .result) (row .result) (kind .ensures) (row .ensures)) ∙ b .pre .0 .1 in
+    let end = plain-end (a .t .now) (a .p) (kind .result) (row .result) (kind .ensures) (row .ensures) f (c .before .before .before .before .before .before .before .wide .result) (c .before .before .before .before .before .before .constant-words .result) (c .before .before .before .before .before .before .before .wide .ensures .0) (c .before .before .before .before .before .before .constant-words .ensures .0) in
+    let most = b .pre .0 .2 in
+    let same = c .before .before .before .operands .kept .1 .1 .1 .1 .1 .0 ∙ head-length (a .code .now) (a .at) (kind .result) (c .before .before .before .before .before .before .before .before .before .byte-at2 .result) in
     (omega arith, omega arith)
 
 add-t18 : tie.Need-add-t18

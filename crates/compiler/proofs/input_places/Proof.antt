@@ -6,7 +6,7 @@ use native.Mathlib.Omega.{arith}
 use Rattle.ports.specs.Ports.{width}
 use Rattle.graph.specs.Bytes.{byte}
 use Rattle.list.specs.Compile.{places}
-use Rattle.compiler.specs.Whole.{typesBy}
+use Rattle.sizes.specs.Answers.{typesBy}
 use Rattle.compiler.proofs.Filling.{Run, run-start, run-step, run-done}
 use Rattle.compiler.proofs.Ending.{types-next, types-none}
 use Rattle.compiler.proofs.input_places.Statement.{statement}

@@ -1,16 +1,19 @@
 use borrow.Author.Needs.{needs}
 use Prim.Native.Nat.{ℕ, suc, _+_, _*_, _≤_, _<_}
-use mathlib.Core.Path.{_≡_, refl, sym, ap, _∙_, subst}
-use mathlib.Core.List.{List}
+use mathlib.Core.Path.{_≡_, sym, ap, _∙_, subst}
+use mathlib.Core.List.{[]}
 use native.Mathlib.Omega.{arith}
-use lib.ListN.{length, length-replicate}
+use lib.ListN.{length-replicate}
 use lib.Seq.{sets}
+use Rattle.graph.specs.Outcome.{ok}
 use Rattle.graph.specs.Bytes.{u16}
+use Rattle.graph.specs.Judge.{fresh}
 use Rattle.reader.specs.Layout.{nodesAt, nodesPlace, nodeCount, outputCount, outputsPlace}
 use Rattle.reader.specs.Find.{ReadsNodes}
-use Rattle.compiler.specs.Position.{placeOf, NodesFit, Fit}
+use Rattle.sizes.specs.Position.{placeOf, Fit}
 use Rattle.compiler.specs.Spotting.{Slots, Places, outputCodes}
-use Rattle.compiler.proofs.Accepting.{few, fit-at, reads-nodes}
+use Rattle.compiler.proofs.Filling.{places-are, slots-are}
+use Rattle.compiler.proofs.Accepting.{few, fit-at, reads-nodes, fresh-at}
 use Rattle.compiler.proofs.Outputs.{function-laid}
 use Rattle.compiler.proofs.lay_function.Statement.{statement}
 use Rattle.compiler.proofs.lay_function.Tie as tie
@@ -40,67 +43,74 @@ begin c = c .nodes-place .ensures .0 ∙ ap (nodesPlace (c .before .before .befo
 
 -- the nodes
 nodes : (c : tie.After-nodes-place) →
-    (c .before .u16-at .result ≤ 256) × NodesFit (c .before .before .before .before .before .args .t .now) (c .before .u16-at .result) (c .nodes-place .result) × ReadsNodes (c .before .u16-at .result) (c .before .before .before .before .before .args .t .now) (c .nodes-place .result)
+    (c .before .u16-at .result ≤ 256) × ReadsNodes (c .before .u16-at .result) (c .before .before .before .before .before .args .t .now) (c .nodes-place .result)
 nodes c =
     let e = count (c .before) in
     let b = begin c in
-    let f = fit (c .before .before .before .before .before) in (
-      rw e (f .count),
-      rw (e, b) (f .nodes),
-      rw (e, b) (reads-nodes (c .before .before .before .before .before .args .t .now) (suc (c .before .before .before .before .before .args .k)) (c .before .before .before .before .before .pre .0 .0) (c .before .before .before .before .before .args .k) (omega arith)),
-    )
+    let d = c .before .before .before .before .before in
+    (rw e (fit d .count), rw (e, b) (reads-nodes (d .args .t .now) (suc (d .args .k)) (d .pre .0 .0) (d .args .k) (omega arith)))
 
-fill-places-requires : tie.Need-fill-places-requires
-fill-places-requires c κs = let (x, y, z) = nodes (c .before) in (x, c .before .nodes-place .ensures .1, y, length-replicate {A = ℕ} 256 0)
+single : (c : tie.After-nodes-place) → fresh [] (nodesAt (c .before .u16-at .result) (c .before .before .before .before .before .args .t .now) (c .nodes-place .result)) ≡ ok tt
+single c =
+    let e = count (c .before) in
+    let b = begin c in
+    let d = c .before .before .before .before .before in
+    rw (e, b) (fresh-at (d .args .t .now) (suc (d .args .k)) (d .pre .0 .0) (d .args .k) (omega arith))
+
+places-requires : tie.Need-places-requires
+places-requires c κs = let (x, z) = nodes (c .before) in (z, x, c .before .before .before .before .before .before .pre .0 .0 .short, length-replicate {A = ℕ} 256 0)
 
 resolve-requires : tie.Need-resolve-requires
-resolve-requires c κs = let (x, y, z) = nodes (c .before .before .before .before) in ((x, y, z, c .before .before .fill-places .ensures), refl)
+resolve-requires c κs = let (x, z) = nodes (c .before .before .before) in (z, x, length-replicate {A = ℕ} 4096 0, single (c .before .before .before))
 
 schedule-requires : tie.Need-schedule-requires
-schedule-requires c κs = nodes (c .before .before .before .before .before .before .before) .0
+schedule-requires c κs = nodes (c .before .before .before .before .before .before) .0
 
 lay-nodes-requires : tie.Need-lay-nodes-requires
 lay-nodes-requires c κs =
-    let s = c .before .before .before .before .before .before .before .before .before .before .before .before .before .before .before .before .before .before .before .before .args .t .now in
-    let b = begin (c .before .before .before .before .before .before .before .before .before .before .before .before .before .before .before) in (
-      (c .before .before .before .before .before .before .before .before .before .before .before .before .before .before .before .before .before .before .before .before .pre .0 .0, count (c .before .before .before .before .before .before .before .before .before .before .before .before .before .before .before .before), c .before .before .before .before .before .before .before .before .before .before .before .before .before .before .before .before .before .before .before .before .pre .0 .1, c .before .before .before .before .before .before .before .before .before .before .before .before .before .before .before .before .before .before .before .before .pre .0 .2),
+    let d = c .before .before .before .before .before .before .before .before .before .before .before .before .before .before .before .before .before .before .before in
+    let s = d .args .t .now in
+    let at = c .before .before .before .before .before .before .before .before .before .before .before .before .before .before in
+    let n = c .before .before .before .before .before .before .before .before .before .before .before .before .before .before .before .u16-at .result in
+    let few = nodes at .0 in (
+      (d .pre .0 .0, count (c .before .before .before .before .before .before .before .before .before .before .before .before .before .before .before), d .pre .0 .1, d .pre .0 .2),
       (
-        ((λ j l. c .before .before .before .before .before .before .before .before .before .before .before .before .before .before .before .before .before .before .before .before .pre .1 .0 .0 j (omega arith)), c .before .before .before .before .before .before .before .before .before .before .before .before .before .before .before .before .before .before .before .before .pre .1 .0 .1, c .before .before .before .before .before .before .before .before .before .before .before .before .before .before .before .before .before .before .before .before .pre .1 .0 .2),
+        ((λ j l. d .pre .1 .0 .0 j (omega arith)), d .pre .1 .0 .1, d .pre .1 .0 .2),
         (
           (
-            subst (λ (q : ℕ). Slots s q (c .before .before .before .before .before .before .before .before .before .before .before .before .before .before .before .before .u16-at .result) (c .before .before .before .before .before .before .before .before .before .before .resolve .last .1 .1 .1 .1 .0)) b (c .before .before .before .before .before .before .before .before .before .before .resolve .ensures),
-            subst (λ (q : ℕ). Places s q (c .before .before .before .before .before .before .before .before .before .before .before .before .before .fill-places .last .1 .1 .1 .0) (c .before .before .before .before .before .before .before .before .before .before .before .before .before .before .before .before .u16-at .result)) b (c .before .before .before .before .before .before .before .before .before .before .before .before .before .fill-places .ensures),
+            subst (λ (q : ℕ). Slots s q n (c .before .before .before .before .before .before .before .before .before .before .resolve .last .1 .1 .1 .0)) (begin at) (slots-are s (at .nodes-place .result) n few _ _ (length-replicate {A = ℕ} 4096 0) (c .before .before .before .before .before .before .before .before .before .before .resolve .ensures)),
+            subst (λ (q : ℕ). Places s q (c .before .before .before .before .before .before .before .before .before .before .before .before .places2 .last .1 .1 .1 .0) n) (begin at) (places-are s (at .nodes-place .result) n few _ _ (length-replicate {A = ℕ} 256 0) (c .before .before .before .before .before .before .before .before .before .before .before .before .places2 .ensures)),
             c .before .before .before .before .before .before .before .schedule .ensures .1,
           ),
-          (c .before .before .before .before .before .before .before .before .before .before .before .before .before .before .before .before .before .before .before .before .pre .1 .1 .1, c .before .before .before .before .before .before .before .before .before .before .before .before .before .before .before .before .before .before .before .before .pre .1 .1 .2, length-replicate {A = ℕ} 2048 0),
+          (d .pre .1 .1 .1, d .pre .1 .1 .2, length-replicate {A = ℕ} 2048 0),
         ),
       ),
     )
 
 lay-outputs-requires : tie.Need-lay-outputs-requires
 lay-outputs-requires c κs =
-    let s = c .before .before .before .before .before .before .before .before .before .before .before .before .before .before .before .before .before .before .before .before .before .before .before .args .t .now in
-    let (x, y, z) = nodes (c .before .before .before .before .before .before .before .before .before .before .before .before .before .before .before .before .before .before) in
-    (low (c .before .before .before .before .before .before .before .before .before .before .before .before .before .before .before .before .before .before .before .before .before .before .before), c .before .before .before .before .before .before .before .before .before .before .before .before .before .before .before .before .before .before .before .before .wide16 .ensures .1, subst (λ (q : ℕ). outputCount s q ≤ 8) (sym (place (c .before .before .before .before .before .before .before .before .before .before .before .before .before .before .before .before .before .before .before .before))) (fit (c .before .before .before .before .before .before .before .before .before .before .before .before .before .before .before .before .before .before .before .before .before .before .before) .outputs), x, z)
+    let d = c .before .before .before .before .before .before .before .before .before .before .before .before .before .before .before .before .before .before .before .before .before .before in
+    let s = d .args .t .now in
+    let (x, z) = nodes (c .before .before .before .before .before .before .before .before .before .before .before .before .before .before .before .before .before) in
+    (low d, c .before .before .before .before .before .before .before .before .before .before .before .before .before .before .before .before .before .before .before .wide16 .ensures .1, subst (λ (q : ℕ). outputCount s q ≤ 8) (sym (place (c .before .before .before .before .before .before .before .before .before .before .before .before .before .before .before .before .before .before .before))) (fit d .outputs), x, z)
 
 returns : tie.Need-returns
 returns c =
-    let a = c .before .before .before .before .before .before .before .before .before .before .before .before .before .before .before .before .before .before .before .before .before .before .before .before .args in
+    let d = c .before .before .before .before .before .before .before .before .before .before .before .before .before .before .before .before .before .before .before .before .before .before .before in
+    let a = d .args in
     let s = a .t .now in
-    let w = c .lay-outputs in
     let v = c .before .before .before .lay-nodes in
-    let p = place (c .before .before .before .before .before .before .before .before .before .before .before .before .before .before .before .before .before .before .before .before .before) in
-    let n = count (c .before .before .before .before .before .before .before .before .before .before .before .before .before .before .before .before .before .before .before .before) in
-    let b = begin (c .before .before .before .before .before .before .before .before .before .before .before .before .before .before .before .before .before .before .before) in
-    function-laid s (a .k) (a .spot) (c .before .before .before .before .before .before .before .before .before .before .before .before .before .before .before .before .before .before .before .before .before .before .before .before .pre .0 .0) _ _ _ _ _ _ (c .before .before .before .lay-nodes .last .1 .1 .1 .1 .1 .1 .1 .1 .1 .1 .1 .0) (v .result) (v .ensures)
-    (w .ensures
-    ∙ ap (λ (q : ℕ). sets (a .outs .now) (8 * a .k) (outputCodes s (c .before .before .before .lay-nodes .last .1 .1 .1 .1 .1 .1 .1 .1 .1 .1 .1 .0) (nodesAt q s (c .before .before .before .before .before .before .before .before .before .before .before .before .before .before .before .before .before .before .before .nodes-place .result)) (outputCount s (c .before .before .before .before .before .before .before .before .before .before .before .before .before .before .before .before .before .before .before .before .before .wide16 .result)) (outputsPlace s (c .before .before .before .before .before .before .before .before .before .before .before .before .before .before .before .before .before .before .before .before .before .wide16 .result)))) n
-    ∙ ap (λ (q : ℕ). sets (a .outs .now) (8 * a .k) (outputCodes s (c .before .before .before .lay-nodes .last .1 .1 .1 .1 .1 .1 .1 .1 .1 .1 .1 .0) (nodesAt (nodeCount s (placeOf s (a .k))) s q) (outputCount s (c .before .before .before .before .before .before .before .before .before .before .before .before .before .before .before .before .before .before .before .before .before .wide16 .result)) (outputsPlace s (c .before .before .before .before .before .before .before .before .before .before .before .before .before .before .before .before .before .before .before .before .before .wide16 .result)))) b
-    ∙ ap (λ (q : ℕ). sets (a .outs .now) (8 * a .k) (outputCodes s (c .before .before .before .lay-nodes .last .1 .1 .1 .1 .1 .1 .1 .1 .1 .1 .1 .0) (nodesAt (nodeCount s (placeOf s (a .k))) s (nodesPlace s (placeOf s (a .k)))) (outputCount s q) (outputsPlace s q))) p)
-    (c .before .before .before .before .before .before .before .before .before .before .before .before .before .before .before .before .before .before .before .before .before .before .before .before .pre .1 .1 .0)
+    let laid = v .last .1 .1 .1 .1 .1 .1 .1 .1 .1 .1 .1 .0 in
+    let p = c .before .before .before .before .before .before .before .before .before .before .before .before .before .before .before .before .before .before .before .before .wide16 .result in
+    function-laid s (a .k) (a .spot) (d .pre .0 .0) _ _ _ _ _ _ laid (v .result) (v .ensures)
+    (c .lay-outputs .ensures
+    ∙ ap (λ (q : ℕ). sets (a .outs .now) (8 * a .k) (outputCodes s laid (nodesAt q s (c .before .before .before .before .before .before .before .before .before .before .before .before .before .before .before .before .before .before .nodes-place .result)) (outputCount s p) (outputsPlace s p))) (count (c .before .before .before .before .before .before .before .before .before .before .before .before .before .before .before .before .before .before .before))
+    ∙ ap (λ (q : ℕ). sets (a .outs .now) (8 * a .k) (outputCodes s laid (nodesAt (nodeCount s (placeOf s (a .k))) s q) (outputCount s p) (outputsPlace s p))) (begin (c .before .before .before .before .before .before .before .before .before .before .before .before .before .before .before .before .before .before))
+    ∙ ap (λ (q : ℕ). sets (a .outs .now) (8 * a .k) (outputCodes s laid (nodesAt (nodeCount s (placeOf s (a .k))) s (nodesPlace s (placeOf s (a .k)))) (outputCount s q) (outputsPlace s q))) (place (c .before .before .before .before .before .before .before .before .before .before .before .before .before .before .before .before .before .before .before .before)))
+    (d .pre .1 .1 .0)
 
 pub lay-function-spec : {M : Type 1} → statement M
 lay-function-spec =
     tie.close
     (tie.spec mul-wide16 element-copy-out-wide16 (λ c κs. search needs) (λ c. search needs) (λ c κs. search needs) (λ c κs. search needs)
-    fill-places-requires resolve-requires schedule-requires lay-nodes-requires lay-outputs-requires returns)
+    places-requires resolve-requires schedule-requires lay-nodes-requires lay-outputs-requires returns)

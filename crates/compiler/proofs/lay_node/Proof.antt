@@ -1,5 +1,5 @@
 use borrow.Author.Needs.{needs}
-use Prim.Native.Nat.{ℕ, _+_, _*_, _≤_, _<_, min}
+use Prim.Native.Nat.{ℕ, _+_, _*_, _≤_}
 use mathlib.Core.Path.{_≡_, refl, sym, ap, _∙_}
 use mathlib.Core.List.{List}
 use native.Mathlib.Omega.{arith}
@@ -7,12 +7,12 @@ use lib.Seq.{sets}
 use Rattle.graph.specs.Bytes.{byte}
 use Rattle.ports.specs.Ports as PortList
 use Rattle.reader.specs.Layout.{nodeAt, outputCount}
-use Rattle.compiler.specs.Position.{placeOf}
-use Rattle.compiler.specs.Capped.{wordsAt, addsWords}
-use Rattle.compiler.proofs.Nodes.{row-narrow}
+use Rattle.sizes.specs.Position.{placeOf}
+use Rattle.sizes.specs.Capped.{addsWords}
+use Rattle.sizes.proofs.Nodes.{row-narrow}
 use Rattle.compiler.proofs.Opening.{count-is}
-use Rattle.compiler.proofs.Positions.{words-at, words-none}
-use Rattle.compiler.proofs.Sizes.{added-words, plain-words}
+use Rattle.sizes.proofs.Positions.{words-at, words-none}
+use Rattle.sizes.proofs.Summing.{added-words, plain-words}
 use Rattle.compiler.proofs.Laying.{call-codes, no-codes, plain-codes}
 use Rattle.compiler.proofs.lay_node.Statement.{statement}
 use Rattle.compiler.proofs.lay_node.Tie as tie

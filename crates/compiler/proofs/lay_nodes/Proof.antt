@@ -1,16 +1,15 @@
 use borrow.Author.Needs.{needs}
-use Prim.Native.Nat.{ℕ, suc, _+_, _-_, _*_, _≤_, _<_}
+use Prim.Native.Nat.{ℕ, suc, _+_, _-_, _≤_, _<_}
 use mathlib.Core.Path.{_≡_, refl, sym, ap, _∙_, subst}
-use mathlib.Core.List.{List}
 use native.Mathlib.Omega.{arith}
-use lib.ListN.{length, getD, replicate}
+use lib.ListN.{length, replicate}
 use lib.Seq.{sets}
 use Rattle.graph.specs.Look.{reads}
 use Rattle.graph.proofs.Formed.{refs-length}
 use Rattle.reader.specs.Layout.{nodeAt, nodesPlace, nodeCount}
 use Rattle.topology.specs.Indices.{indexOrder}
-use Rattle.compiler.specs.Position.{placeOf, NodeFit}
-use Rattle.compiler.specs.Capped.{addsWords}
+use Rattle.sizes.specs.Position.{placeOf, NodeFit}
+use Rattle.sizes.specs.Capped.{addsWords}
 use Rattle.compiler.specs.Emit.{spotRoom}
 use Rattle.compiler.specs.Spotting.{Accepted, Slots, Places}
 use Rattle.compiler.proofs.Accepting.{few, fit-at}

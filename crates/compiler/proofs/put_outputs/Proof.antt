@@ -6,7 +6,7 @@ use lib.ListN.{length, getD}
 use Rattle.ports.specs.Ports.{width, widths}
 use Rattle.graph.specs.Bytes.{byte}
 use Rattle.compiler.specs.Emit.{addressOf}
-use Rattle.compiler.specs.Whole.{typesBy}
+use Rattle.sizes.specs.Answers.{typesBy}
 use Rattle.compiler.proofs.Ending.{Outgoing, out-start, out-room, out-step, out-done}
 use Rattle.compiler.proofs.put_outputs.Statement.{statement}
 use Rattle.compiler.proofs.put_outputs.Tie as tie

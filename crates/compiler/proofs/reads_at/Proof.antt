@@ -1,6 +1,6 @@
 use borrow.Author.Needs.{needs}
 use mathlib.Core.Path.{sym, _∙_}
-use Rattle.compiler.proofs.Nodes.{call-reads, plain-reads}
+use Rattle.compiler.proofs.References.{call-reads, plain-reads}
 use Rattle.compiler.proofs.reads_at.Statement.{statement}
 use Rattle.compiler.proofs.reads_at.Tie as tie
 

@@ -1,14 +1,14 @@
 use borrow.Author.Needs.{needs}
 use Prim.Native.Nat.{ℕ, _<_}
 use mathlib.Core.Path.{_≡_, sym, ap, _∙_}
-use mathlib.Core.Bool.{cond}
 use native.Mathlib.Omega.{arith}
 use borrow.Author.Tests.{eq-eqb, ne-eqb}
 use lib.ListN.{length}
 use Rattle.graph.specs.Bytes.{u16}
 use Rattle.reader.specs.Layout.{nodesAt}
 use Rattle.topology.specs.Resolve.{indexOf}
-use Rattle.compiler.proofs.Filling.{nodes-length, found-index, none-index}
+use Rattle.resolver.proofs.Rows.{length-nodes}
+use Rattle.compiler.proofs.Filling.{found-index, none-index}
 use Rattle.compiler.proofs.target.Statement.{statement}
 use Rattle.compiler.proofs.target.Tie as tie
 
@@ -27,7 +27,7 @@ index c = found-index (c .before .before .before .before .before .u16-at .result
 cast-result : tie.Need-cast-result
 cast-result c =
     let (x, y) = index c in
-    let z = nodes-length (c .before .before .before .before .before .before .before .args .n) (c .before .before .before .before .before .before .before .args .t .now) (c .before .before .before .before .before .before .before .args .at) in
+    let z = length-nodes (c .before .before .before .before .before .before .before .args .n) (c .before .before .before .before .before .before .before .args .t .now) (c .before .before .before .before .before .before .before .args .at) in
     let n = c .before .before .before .before .before .before .before .pre .0 in
     omega arith
 
@@ -46,7 +46,7 @@ returns-3 c =
     let ns = nodesAt (a .n) s (a .at) in
     let x = none-index (c .before .before .before .before .u16-at .result) ns (sym (c .enum-told .given .1) ∙ c .before .before .find-node .ensures) in
     let y = c .before .before .before .before .u16-at .ensures .0 in
-    rw (ne-eqb (u16 s (a .q)) 0 (λ z. c .before .before .before .if1 .left (y ∙ z))) (sym (ap (λ (i : ℕ). indexOf i ns) (sym y) ∙ x ∙ nodes-length (a .n) s (a .at)))
+    rw (ne-eqb (u16 s (a .q)) 0 (λ z. c .before .before .before .if1 .left (y ∙ z))) (sym (ap (λ (i : ℕ). indexOf i ns) (sym y) ∙ x ∙ length-nodes (a .n) s (a .at)))
 
 pub target-spec : {M : Type 1} → statement M
 target-spec =

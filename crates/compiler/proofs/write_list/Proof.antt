@@ -1,23 +1,23 @@
 use borrow.Author.Needs.{needs}
-use Prim.Native.Nat.{ℕ, suc, _+_, _*_, _≤_, _<_, min}
-use mathlib.Core.Path.{_≡_, refl, sym, ap, _∙_, subst}
+use Prim.Native.Nat.{ℕ, suc, _+_, _*_, _≤_, _<_}
+use mathlib.Core.Path.{_≡_, ap, _∙_}
 use mathlib.Core.List.{List}
 use native.Mathlib.Omega.{arith}
-use lib.ListN.{length, getD, replicate, length-replicate}
-use lib.Seq.{sets, length-sets}
-use Rattle.ports.specs.Ports.{widths}
+use lib.ListN.{length, replicate, length-replicate}
+use lib.Seq.{sets}
 use Rattle.graph.specs.Bytes.{byte}
 use Rattle.reader.specs.Layout.{inputCount, outputCount, outputsPlace, functionAt}
 use Rattle.list.specs.Compile.{places, spans}
 use Rattle.list.specs.Code.{allBytes}
-use Rattle.compiler.specs.Position.{placeOf, functionIn}
-use Rattle.compiler.specs.Capped.{wordsAt}
-use Rattle.compiler.specs.Emit.{addressOf, addressesIn, closedAt}
+use Rattle.sizes.specs.Position.{placeOf, functionIn}
+use Rattle.sizes.specs.Capped.{wordsAt}
+use Rattle.compiler.specs.Emit.{addressesIn, closedAt}
 use Rattle.compiler.specs.Spotting.{PortsCoded}
-use Rattle.compiler.specs.Whole.{typesBy, codeAt}
+use Rattle.sizes.specs.Answers.{typesBy}
+use Rattle.sizes.proofs.Widths.{inputs-are}
 use Rattle.compiler.proofs.Accepting.{few, fit-at}
 use Rattle.compiler.proofs.Tables.{fewer}
-use Rattle.compiler.proofs.Assembly.{inputs-types, emit-room, outs-low, out-words, out-room, assembled}
+use Rattle.compiler.proofs.Assembly.{emit-room, outs-low, out-room, assembled}
 use Rattle.compiler.proofs.write_list.Statement.{statement}
 use Rattle.compiler.proofs.write_list.Tie as tie
 
@@ -89,7 +89,7 @@ ins-are c =
     c .input-places .ensures
     ∙ ap (λ (q : ℕ). sets (replicate 8 0) 0 (places 0 (typesBy 1 (c .before .before .before .before .before .before .before .before .before .before .before .before .before .before .before .before .wide .result) s (q + 6)))) (place (c .before .before .before .before .before .before .before .before .before .before .before .before .before .before .before .before .before .before))
     ∙ ap (λ (n : ℕ). sets (replicate 8 0) 0 (places 0 (typesBy 1 n s (placeOf s (a .k) + 6)))) e
-    ∙ ap (λ (ts : List ℕ). sets (replicate 8 0) 0 (places 0 ts)) (sym (inputs-types (inputCount s (placeOf s (a .k))) s (placeOf s (a .k) + 6)))
+    ∙ ap (λ (ts : List ℕ). sets (replicate 8 0) 0 (places 0 ts)) (inputs-are (inputCount s (placeOf s (a .k))) s (placeOf s (a .k) + 6))
 
 cast-put-header : tie.Need-cast-put-header
 cast-put-header c = let (x, y) = c .before .before .before .before .before .before .before .before .before .before .before .before .before .before .before .before .before .before .before .before .before .before .before .pre .1 .0 .narrow in omega arith

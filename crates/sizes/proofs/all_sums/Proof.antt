@@ -1,18 +1,19 @@
 use borrow.Author.Needs.{needs}
 use Prim.Native.Nat.{_-_, _≤_}
 use native.Mathlib.Omega.{arith}
-use Rattle.sizes.proofs.Measuring.{AllMeasured, none-summed, one-more}
+use mathlib.Core.Path.{_≡_}
+use Rattle.sizes.proofs.Tabulate.{SumsIn, sums-none, sums-more, summed-in}
 use Rattle.sizes.proofs.all_sums.Statement.{statement}
 use Rattle.sizes.proofs.all_sums.Tie as tie
 
 abbrev Inv-loop : tie.InvT-loop
-Inv-loop t starts n ops₀ words₀ counts₀ sizes₀ k₀ ops words counts sizes k = (k ≤ n) × AllMeasured t ops words counts sizes k
+Inv-loop t starts n ops₀ words₀ counts₀ sizes₀ k₀ ops words counts sizes k = (k ≤ n) × SumsIn t ops₀ words₀ counts₀ sizes₀ ops words counts sizes k
 
 abbrev μ-loop : tie.MeasureT-loop
 μ-loop t starts n ops₀ words₀ counts₀ sizes₀ k₀ ops words counts sizes k = n - k
 
 loop-holds : tie.Need-loop-holds Inv-loop μ-loop
-loop-holds c = let a = c .before .args in (omega arith, none-summed (a .t .now) (a .ops .now) (a .words .now) (a .counts .now) (a .sizes .now) (c .before .pre .1))
+loop-holds c = let a = c .before .args in (omega arith, sums-none (a .t .now) (a .ops .now) (a .words .now) (a .counts .now) (a .sizes .now))
 
 function-sums-requires : tie.Need-function-sums-requires Inv-loop μ-loop
 function-sums-requires c κs =
@@ -20,7 +21,7 @@ function-sums-requires c κs =
     let l = c .before .before .before .before .before .loop in
     let t = c .before .before .before .before .loop-test .taken in
     let n = b .pre .0 .0 in
-    ((omega arith, b .pre .0 .1 (l .k) t, λ j h. b .pre .0 .2 j (omega arith)), l .inv .1 .sums)
+    ((omega arith, b .pre .0 .1 (l .k) t, λ j h. b .pre .0 .2 j (omega arith)), summed-in (b .args .t .now) (b .args .ops .now) (b .args .words .now) (b .args .counts .now) (b .args .sizes .now) (l .ops) (l .words) (l .counts) (l .sizes) (l .k) (l .inv .1) (b .pre .1) (omega arith))
 
 loop-again : tie.Need-loop-again Inv-loop μ-loop
 loop-again c =
@@ -28,11 +29,16 @@ loop-again c =
     let l = c .before .before .before .before .before .before .loop in
     let t = c .before .before .before .before .before .loop-test .taken in
     let n = b .pre .0 .0 in
-    let (eo, ew, ec, eb) = c .function-sums .ensures in
-    (omega arith, one-more (b .args .t .now) (l .ops) (l .words) (l .counts) (l .sizes) _ _ _ _ (l .k) (l .inv .1) (omega arith) eo ew ec eb)
+    let a = b .args in
+    (omega arith, sums-more (a .t .now) (a .ops .now) (a .words .now) (a .counts .now) (a .sizes .now) (l .ops) (l .words) (l .counts) (l .sizes) _ _ _ _ (l .k) (l .inv .1) (c .function-sums .ensures))
 
 returns : tie.Need-returns Inv-loop μ-loop
-returns c j h = let i = c .before .loop .inv .0 in let e = c .loop-test .left in c .before .loop .inv .1 .sums j (omega arith)
+returns c =
+    let b = c .before .before in
+    let i = c .before .loop .inv .0 in
+    let e = c .loop-test .left in
+    let z : c .before .loop .k ≡ b .before .args .n = omega arith in
+    rw z at (c .before .loop .inv .1)
 
 pub all-sums-spec : {M : Type 1} → statement M
 all-sums-spec =

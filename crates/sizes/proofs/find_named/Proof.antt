@@ -6,6 +6,7 @@ use Rattle.graph.specs.Judge.{verdict}
 use Rattle.graph.specs.Bytes.{Bytes}
 use Rattle.sizes.specs.Position.{positionOf}
 use Rattle.sizes.proofs.Accepted.{few-functions, all-fit}
+use Rattle.sizes.proofs.Tabulate.{starts-in}
 use Rattle.sizes.proofs.Choosing.{is-accepted, is-refused, named-at, named-none, named-refused}
 use Rattle.sizes.proofs.find_named.Statement.{statement}
 use Rattle.sizes.proofs.find_named.Tie as tie
@@ -26,7 +27,10 @@ find-starts-requires c κs =
 position-of-requires : tie.Need-position-of-requires
 position-of-requires c κs =
     let d = c .before .before .before .before in
-    (few-functions (d .before .before .before .before .before .args .table .now) (d .before .answer .given .0 .0) (accepted d), c .before .before .find-starts .ensures)
+    let s = d .before .before .before .before .before .args .table .now in
+    let n = d .before .answer .given .0 .0 in
+    let few = few-functions s n (accepted d) in
+    (few, starts-in s _ _ n (c .before .before .find-starts .ensures) few)
 
 -- where the function stands
 position : (c : tie.After-position-of) →

@@ -5,18 +5,18 @@ use native.Mathlib.Omega.{arith}
 use Rattle.graph.specs.Bytes.{u16}
 use Rattle.reader.specs.Layout.{nodePlace, nodesPlace, nodeCount}
 use Rattle.sizes.specs.Position.{placeOf, Fit}
-use Rattle.sizes.proofs.Nodes.{Starting, start-none, start-step}
+use Rattle.sizes.proofs.Nodes.{Starting, start-none, start-step, start-done}
 use Rattle.sizes.proofs.find_starts.Statement.{statement}
 use Rattle.sizes.proofs.find_starts.Tie as tie
 
 abbrev Inv-loop : tie.InvT-loop
-Inv-loop t n starts₀ p₀ k₀ starts p k = Starting t n starts p k
+Inv-loop t n starts₀ p₀ k₀ starts p k = Starting t n starts₀ starts p k
 
 abbrev μ-loop : tie.MeasureT-loop
 μ-loop t n starts₀ p₀ k₀ starts p k = n - k
 
 loop-holds : tie.Need-loop-holds Inv-loop μ-loop
-loop-holds c = start-none (c .before .args .t .now) (c .before .args .n) (c .before .args .starts .now) (c .before .pre .2)
+loop-holds c = start-none (c .before .args .t .now) (c .before .args .n) (c .before .args .starts .now)
 
 -- the function at hand
 fit : (c : tie.In-loop Inv-loop μ-loop) → (Fit (c .before .before .before .args .t .now) (c .before .loop .k)) × (c .before .loop .p < 65536)
@@ -49,11 +49,13 @@ nodes-end-requires c κs =
 loop-again : tie.Need-loop-again Inv-loop μ-loop
 loop-again c =
     let s = c .before .before .before .before .before .before .args .t .now in
-    start-step s (c .before .before .before .before .before .before .args .n) (c .before .before .before .before .loop .starts) (c .before .before .before .before .loop .p) (c .before .before .before .before .loop .k) (c .nodes-end .result) (c .before .before .before .before .loop .inv) (c .before .before .before .loop-test .taken) (c .before .before .before .before .before .before .pre .0)
+    start-step s (c .before .before .before .before .before .before .args .n) (c .before .before .before .before .before .before .args .starts .now) (c .before .before .before .before .loop .starts) (c .before .before .before .before .loop .p) (c .before .before .before .before .loop .k) (c .nodes-end .result) (c .before .before .before .before .loop .inv) (c .before .before .before .loop-test .taken)
     (c .nodes-end .ensures .0 ∙ ap (λ (q : ℕ). nodePlace s q (c .before .before .u16-at .result)) (c .before .nodes-place .ensures .0) ∙ ap (nodePlace s (nodesPlace s (c .before .before .before .before .loop .p))) (c .before .before .u16-at .ensures .0))
 
 returns : tie.Need-returns Inv-loop μ-loop
-returns c = λ j l. c .before .loop .inv .starts-are j (let x = c .before .loop .inv .index in let y = c .loop-test .left in omega arith)
+returns c =
+    let a = c .before .before .before .args in
+    start-done (a .t .now) (a .n) (a .starts .now) (c .before .loop .starts) (c .before .loop .p) (c .before .loop .k) (c .before .loop .inv) (c .loop-test .left)
 
 pub find-starts-spec : {M : Type 1} → statement M
 find-starts-spec =

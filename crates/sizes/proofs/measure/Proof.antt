@@ -1,11 +1,12 @@
 use borrow.Author.Needs.{needs}
-use mathlib.Core.Path.{_≡_, _∙_}
+use mathlib.Core.Path.{_≡_, refl, _∙_}
 use Prim.Native.Nat.{_+_, _<_}
 use native.Mathlib.Omega.{arith}
 use Rattle.graph.specs.Bytes.{Bytes, byte}
 use Rattle.reader.specs.Layout.{functionPlace}
 use Rattle.sizes.proofs.Accepted.{few-functions, first-fit, sound-here}
 use Rattle.sizes.proofs.Widths.{inputs-by, outputs-by}
+use Rattle.sizes.proofs.Tabulate.{starts-in, summed-in}
 use Rattle.sizes.proofs.Measuring.{measured-at}
 use Rattle.sizes.proofs.measure.Statement.{statement}
 use Rattle.sizes.proofs.measure.Tie as tie
@@ -32,7 +33,7 @@ all-sums-requires c κs =
     let d = c .before .before .before .before .before .before .before in
     let a = d .before .args in
     let l = below d in
-    ((omega arith, first-fit (a .table .now) (a .count) (d .before .pre .0) (small d) (a .k) (d .before .pre .1), c .before .before .before .before .before .find-starts .ensures), (search needs, search needs, search needs, search needs))
+    ((omega arith, first-fit (a .table .now) (a .count) (d .before .pre .0) (small d) (a .k) (d .before .pre .1), starts-in (a .table .now) _ _ (a .k + 1) (c .before .before .before .before .before .find-starts .ensures) (omega arith)), (search needs, search needs, search needs, search needs))
 
 mul-wide16 : tie.Need-mul-wide16
 mul-wide16 c = let l = below (c .before .before .before .before .before .before .before .before) in search needs
@@ -65,15 +66,16 @@ returns c =
     let s = a .table .now in
     let pre = d .before .pre in
     let here : a .k < a .k + 1 = omega arith in
+    let few = below d in
     let p = c .before .before .before .before .before .before .before .before .before .before .before .wide16 in
     let i = c .before .before .before .before .before .before .wide in
     let n = c .before .before .before .wide2 in
     let ins = c .before .before .before .before .before .widths-at in
     let outs = c .before .before .widths-at2 in
-    let ep : p .result ≡ functionPlace 8 s (a .k) = p .ensures .0 ∙ c .before .before .before .before .before .before .before .before .before .before .before .before .before .before .before .before .before .before .find-starts .ensures (a .k) here in
+    let ep : p .result ≡ functionPlace 8 s (a .k) = p .ensures .0 ∙ starts-in s _ _ (a .k + 1) (c .before .before .before .before .before .before .before .before .before .before .before .before .before .before .before .before .before .before .find-starts .ensures) (omega arith) (a .k) here in
     let ei : i .result ≡ byte s (p .result + 2) = i .ensures .0 ∙ c .before .before .before .before .before .before .before .byte-at .ensures in
     let en : n .result ≡ byte s (p .result + 3) = n .ensures .0 ∙ c .before .before .before .before .byte-at2 .ensures in (
-      measured-at s (a .k) (sound-here s (a .count) (pre .0) (small d) (a .k) (pre .1)) _ _ _ _ (c .before .before .before .before .before .before .before .before .before .before .before .before .all-sums .ensures (a .k) here)
+      measured-at s (a .k) (sound-here s (a .count) (pre .0) (small d) (a .k) (pre .1)) _ _ _ _ (summed-in s _ _ _ _ _ _ _ _ (a .k + 1) (c .before .before .before .before .before .before .before .before .before .before .before .before .all-sums .ensures) (refl, refl, refl, refl) (omega arith) (a .k) here)
           (p .result) (c .before .before .before .before .before .before .before .before .before .before .wide32 .result) (c .before .before .before .before .before .before .before .before .before .wide322 .result) (c .before .capped .result) (c .before .before .before .before .before .before .before .before .wide323 .result) (c .code-size .result) (ins .result) (outs .result)
           ep (c .before .before .before .before .before .before .before .before .before .before .wide32 .ensures .0) (c .before .before .before .before .before .before .before .before .before .wide322 .ensures .0) (c .before .before .before .before .before .before .before .before .wide323 .ensures .0)
           (ins .ensures .0 ∙ inputs-by s (a .k) (p .result) ep (i .result) ei)
