@@ -82,9 +82,12 @@ uint64_t ifr_run(const uint8_t *code, size_t code_length,
                  uint64_t *work, size_t work_length,
                  uint64_t *out, size_t out_length);
 
-/* Compiles the function with this id and runs its code on the arguments.
- * Success: the count of output words; they are what the graph means. Refusals 1
- * to 17 and 19 to 21, in this order. */
+/* Compiles the function with this id into the code buffer and runs the code's
+ * bytes on the arguments. Success: the count of output words, which stand at the
+ * front of the output buffer and are what the graph means; the front of the work
+ * buffer holds all words of the list. The rest of all three buffers is unchanged.
+ * The argument words are those of the function's inputs. Refusals 1 to 17 and 19
+ * to 21, in this order; each is judged before anything is written. */
 uint64_t ifg_evaluate(const uint8_t *table, size_t table_length,
                       uint16_t id,
                       const uint64_t *arguments, size_t arguments_length,

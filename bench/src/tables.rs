@@ -37,7 +37,7 @@ fn typical(name: &'static str, graph: Graph) -> Case {
 /// The tables that are checked.
 pub fn cases() -> Vec<Case> {
     vec![
-        typical("case A", shapes::case_a()),
+        case("case A", shapes::case_a()),
         typical("typical: 8 functions of 40 nodes", shapes::typical()),
         typical("heat exchanger", generate::heat_exchanger::graph()),
         case("largest: 16 functions of 256 nodes", shapes::largest()),

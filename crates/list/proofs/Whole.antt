@@ -35,6 +35,10 @@ use Rattle.list.proofs.Promise.{runs}
 use Rattle.list.proofs.Back.{all-finite}
 use Rattle.list.proofs.Limits.{words-of, output-words, code-of}
 
+-- what is there is gone on with, whatever the fault would be
+there : {A : Type 0} {o : Option A} {a : A} (n p : ℕ) → o ≡ some a → orElse o n p ≡ ok a
+there n p e = ap (λ o. orElse o n p) e
+
 front : (xs ys : List ℕ) → length ys ≤ length xs → take (length ys) (sets xs 0 ys) ≡ ys
 front xs ys h = ap (take (length ys)) (sets-eq ys xs 0 (omega arith)) ∙ take-at ys (drop (0 + length ys) xs) (length ys) refl
 
@@ -42,23 +46,22 @@ compile-ok : (s : List ℕ) (c : ℕ) (fs : List Function) (x : Chosen) (buffer 
     → compiled s c buffer ≡ ok (record { size = length (codeOf x); buffer = sets buffer 0 (codeOf x) })
 unfolding compiled
 compile-ok s c fs x buffer w l =
-    let e : orElse (chosen c fs) 14 0 ≡ ok x = ap (λ (o : Option Chosen). orElse o 14 0) (w .chosen) in
     let found : compilable s c ≡ ok x =
     takes (table s) _ fs (w .accepted)
-    ∙ takes (orElse (chosen c fs) 14 0) _ x e
-    ∙ passes (leb (functionOperations (operationsOf (x .early)) (x .function)) 4096) 15 0 _ (le-leb _ _ (w .operations))
-    ∙ passes (leb (functionWords (x .early) (x .function)) 8192) 16 0 _ (le-leb _ _ (w .words)) in
-    takes (compilable s c) _ x found ∙ passes (leb (length (codeOf x)) (length buffer)) 17 0 _ (le-leb _ _ l)
+    ∙ takes (orElse (chosen c fs) _ _) _ x (there _ _ (w .chosen))
+    ∙ passes (leb (functionOperations (operationsOf (x .early)) (x .function)) 4096) _ _ _ (le-leb _ _ (w .operations))
+    ∙ passes (leb (functionWords (x .early) (x .function)) 8192) _ _ _ (le-leb _ _ (w .words)) in
+    takes (compilable s c) _ x found ∙ passes (leb (length (codeOf x)) (length buffer)) _ _ _ (le-leb _ _ l)
 
 pub run-ok : (code arguments work out : List ℕ) (b : BoardList) → decode code ≡ some b → length arguments ≡ b .arguments → Each Finite arguments
     → b .words ≤ length work → length (b .outputs) ≤ length out
     → ran code arguments work out ≡ ok (record { count = length (b .outputs); work = run b arguments work .memory; out = sets out 0 (run b arguments work .outputs) })
 unfolding ran
 run-ok code arguments work out b d n f w o =
-    takes (orElse (decode code) 18 0) _ b (ap (λ (o : Option BoardList). orElse o 18 0) d)
-    ∙ passes (eqb (length arguments) (b .arguments)) 19 0 _ (eq-eqb _ _ n)
-    ∙ passes (every argumentWord arguments) 20 0 _ (all-finite arguments f)
-    ∙ passes (leb (b .words) (length work) && leb (length (b .outputs)) (length out)) 21 0 _ (and-both _ _ (le-leb _ _ w) (le-leb _ _ o))
+    takes (orElse (decode code) _ _) _ b (there _ _ d)
+    ∙ passes (eqb (length arguments) (b .arguments)) _ _ _ (eq-eqb _ _ n)
+    ∙ passes (every argumentWord arguments) _ _ _ (all-finite arguments f)
+    ∙ passes (leb (b .words) (length work) && leb (length (b .outputs)) (length out)) _ _ _ (and-both _ _ (le-leb _ _ w) (le-leb _ _ o))
 
 pub demand3 : (s : List ℕ) (c : ℕ) (fs : List Function) (x : Chosen) → Within s c fs x → (buffer arguments work out : List ℕ) → Lent x buffer arguments work out
     → Demand3 s c fs x buffer arguments work out
@@ -124,9 +127,9 @@ evaluates s c fs x w code arguments work out l =
     let count : length (claim .answer) ≡ after .count = sym (claim .count) ∙ ap (λ (y : Buffers). y .count) same in
     let given : sets out 0 (claim .answer) ≡ after .out = sym (claim .given) ∙ ap (λ (y : Buffers). y .out) same in
     let found : within fs c ≡ ok x =
-    takes (orElse (chosen c fs) 14 0) _ x (ap (λ (o : Option Chosen). orElse o 14 0) (w .chosen))
-    ∙ passes (leb (functionOperations (operationsOf early) f) operationLimit) 15 0 _ (le-leb _ _ (w .operations))
-    ∙ passes (leb (functionWords early f) wordLimit) 16 0 _ (le-leb _ _ (w .words)) in
+    takes (orElse (chosen c fs) _ _) _ x (there _ _ (w .chosen))
+    ∙ passes (leb (functionOperations (operationsOf early) f) operationLimit) _ _ _ (le-leb _ _ (w .operations))
+    ∙ passes (leb (functionWords early f) wordLimit) _ _ _ (le-leb _ _ (w .words)) in
     let make : ℕ → List ℕ → Outcome Evaluated = λ n o. ok (record { count = n; code = sets code 0 (codeOf x); work = after .work; out = o }) in
     record {
       after = after;
@@ -134,12 +137,12 @@ evaluates s c fs x w code arguments work out l =
       answer =
           takes (table s) _ fs (w .accepted)
           ∙ takes (within fs c) _ x found
-          ∙ passes (leb (length (codeOf x)) (length code)) 17 0 _ (le-leb _ _ (l .code-fits))
-          ∙ passes (eqb (length arguments) (widths (f .inputs))) 19 0 _ (eq-eqb _ _ (l .count))
-          ∙ passes (every argumentWord arguments) 20 0 _ (all-finite arguments (l .finite))
-          ∙ passes (leb (functionWords early f) (length work) && leb (widths (outputTypes (f .outputs))) (length out)) 21 0 _
+          ∙ passes (leb (length (codeOf x)) (length code)) _ _ _ (le-leb _ _ (l .code-fits))
+          ∙ passes (eqb (length arguments) (widths (f .inputs))) _ _ _ (eq-eqb _ _ (l .count))
+          ∙ passes (every argumentWord arguments) _ _ _ (all-finite arguments (l .finite))
+          ∙ passes (leb (functionWords early f) (length work) && leb (widths (outputTypes (f .outputs))) (length out)) _ _ _
           (and-both _ _ (le-leb _ _ (l .work-fits)) (le-leb _ _ (l .out-fits)))
-          ∙ takes (orElse (graphMeans fs c arguments) 0 0) _ (claim .answer) (ap (λ (o : Option (List ℕ)). orElse o 0 0) (claim .meant))
+          ∙ takes (orElse (graphMeans fs c arguments) _ _) _ (claim .answer) (there _ _ (claim .meant))
           ∙ ap (λ (n : ℕ). make n (sets out 0 (claim .answer))) count
           ∙ ap (λ (o : List ℕ). make (after .count) o) given;
     }

@@ -18,7 +18,7 @@ use Rattle.graph.specs.Table.{Chosen}
 use Rattle.list.specs.Board.{execute}
 use Rattle.list.specs.Compile.{opened}
 use Rattle.list.specs.Code.{encode, decode, guard, then}
-use Rattle.list.specs.Answers.{Buffers, compilable, codeOf, ran}
+use Rattle.list.specs.Answers.{Buffers, compilable, codeOf, compiled, ran}
 use Rattle.list.specs.Listing.{decimal, functionLine, listing}
 
 -- ---- tables and codes
@@ -47,7 +47,7 @@ tableCalls = 0x49 ∷ 0x46 ∷ 0x47 ∷ 0x01 ∷ 0x00 ∷ 0x02 ∷ 0x46 ∷ 0x00
 abbrev pub codeCalls : List ℕ
 codeCalls = 0x49 ∷ 0x46 ∷ 0x52 ∷ 0x01 ∷ 0x00 ∷ 0x01 ∷ 0x01 ∷ 0x00 ∷ 0x03 ∷ 0x00 ∷ 0x04 ∷ 0x00 ∷ 0x01 ∷ 0x01 ∷ 0x00 ∷ 0x00 ∷ 0x00 ∷ 0x00 ∷ 0x01 ∷ 0x01 ∷ 0x01 ∷ 0x00 ∷ 0x01 ∷ 0x00 ∷ 0x03 ∷ 0x01 ∷ 0x01 ∷ 0x00 ∷ 0x02 ∷ 0x00 ∷ 0x03 ∷ 0x00 ∷ []
 
--- 3, 0.5, 1.5 and 72
+-- 3, 0.5, 1.5, 72 and infinity
 abbrev three : ℕ
 three = 0x4008_0000_0000_0000
 
@@ -60,6 +60,9 @@ threeHalves = 0x3FF8_0000_0000_0000
 abbrev seventyTwo : ℕ
 seventyTwo = 0x4052_0000_0000_0000
 
+abbrev infinite : ℕ
+infinite = 0x7FF0_0000_0000_0000
+
 -- ---- rows
 
 pub data Case : Type 0 where
@@ -69,6 +72,10 @@ pub data Case : Type 0 where
   compiles : List ℕ → ℕ → ℕ → ℕ → ℕ → List ℕ → Case
   -- a table and the lister's text
   prints : List ℕ → List ℕ → Case
+  -- a table, a function and a code buffer, refused by the compiler
+  uncompiled : List ℕ → ℕ → List ℕ → ℕ → ℕ → Case
+  -- a code, arguments and the two buffers, refused by the runner
+  unrun : List ℕ → List ℕ → List ℕ → List ℕ → ℕ → ℕ → Case
   -- a table, a function, its code, and arguments: what the code gives, and what the graph means
   gives : List ℕ → ℕ → List ℕ → List ℕ → List ℕ → Case
 
@@ -96,6 +103,8 @@ Holds (refused s n p) = verdict s ≡ fault n p
 Holds (compiles s count c operations words code) =
     (verdict s ≡ ok count) × (sizesOf (compilable s c) ≡ ok (record { operations = operations; words = words; code = code }))
 Holds (prints s text) = listing s ≡ text
+Holds (uncompiled s c buffer n p) = compiled s c buffer ≡ fault n p
+Holds (unrun code arguments work out n p) = ran code arguments work out ≡ fault n p
 Holds (gives s c code arguments out) =
     (outputOf (ran code arguments (replicate 5 7) (replicate (length out) 7)) ≡ out) × (meaningIn (table s) c arguments ≡ some out)
 
@@ -119,9 +128,17 @@ cases =
     -- the calls
     ∷ compiles tableCalls 2 2 5 4 codeCalls
     ∷ gives tableCalls 2 codeCalls (three ∷ []) (seventyTwo ∷ [])
+    -- not of 01: A with each of the refusals 14 and 17 to 21
+    ∷ uncompiled tableA 2 (replicate 20 7) 14 0
+    ∷ uncompiled tableA 1 (replicate 19 7) 17 0
+    ∷ unrun (set codeA 10 0x04) (three ∷ half ∷ []) (replicate 3 7) (replicate 1 7) 18 0
+    ∷ unrun codeA (three ∷ []) (replicate 3 7) (replicate 1 7) 19 0
+    ∷ unrun codeA (three ∷ infinite ∷ []) (replicate 3 7) (replicate 1 7) 20 0
+    ∷ unrun codeA (three ∷ half ∷ []) (replicate 2 7) (replicate 1 7) 21 0
+    ∷ unrun codeA (three ∷ half ∷ []) (replicate 3 7) [] 21 0
     ∷ []
 
 pub settled : Each Holds cases
-unfolding verdict table need _>>=_ _>>_ via nodeMeans meaningOf results operationsOf resultWordsOf schedule opened encode decode guard then execute ran decimal functionLine listing Ieee.add Ieee.mul Ieee.ofBits Ieee.toBits
+unfolding verdict table need _>>=_ _>>_ via nodeMeans meaningOf results operationsOf resultWordsOf schedule opened encode decode guard then execute compiled ran decimal functionLine listing Ieee.add Ieee.mul Ieee.ofBits Ieee.toBits
 settled =
-    ((refl, refl), (refl, (refl, (refl, (refl, (refl, (refl, (refl, (refl, (refl, ((refl, refl), ((refl, refl), ((refl, refl), ((refl, refl), tt))))))))))))))
+    ((refl, refl), (refl, (refl, (refl, (refl, (refl, (refl, (refl, (refl, (refl, ((refl, refl), ((refl, refl), ((refl, refl), ((refl, refl), (refl, (refl, (refl, (refl, (refl, (refl, (refl, tt)))))))))))))))))))))

@@ -268,7 +268,8 @@ pub fn check_code(s: &[u8]) -> Checked
     Checked::Formed(counts)
 }
 
-fn arguments_allowed(xs: &[u64]) -> bool
+// Whether every argument is finite.
+pub fn arguments_allowed(xs: &[u64]) -> bool
     ensures { λ r. ⌜ r ≡ every argumentWord (now (xs .entry)) ⌝ }
 {
     let mut i = 0;

@@ -8,23 +8,8 @@ use crate::marked::Marked;
 use crate::report::{Part, Report, hex, hex_words};
 use crate::run::{argument_words, some_arguments, some_room};
 
-/// What the code buffer holds when the code was compiled and the run is refused (19 to 21).
-#[derive(Clone, Copy, Debug, PartialEq, Eq)]
-pub enum CodeAfterRefusal {
-    /// What it held before: a refusal leaves every lent byte unchanged.
-    Unchanged,
-    /// The code at its front, as compiling alone leaves it.
-    Written,
-}
-
-/// Holds `evaluate`: compile, then run on the code's bytes alone.
-pub fn compare(
-    report: &mut Report,
-    random: &mut Random,
-    table: &[u8],
-    id: u16,
-    after: CodeAfterRefusal,
-) {
+/// Holds `evaluate`: compile, then run on the code's bytes alone. A refusal leaves all three buffers.
+pub fn compare(report: &mut Report, random: &mut Random, table: &[u8], id: u16) {
     let good = independent::compile(table, id, usize::MAX).unwrap_or_default();
     let length = match random.below(20) {
         0 => good.len().saturating_sub(1),
@@ -39,7 +24,7 @@ pub fn compare(
     let compiled = independent::compile(table, id, length);
     let wanted: Result<usize, Refusal> = compiled.and_then(|bytes| {
         let ran = independent::run(&bytes, &arguments, work.lent(), out.lent());
-        if ran.is_ok() || after == CodeAfterRefusal::Written {
+        if ran.is_ok() {
             code = Marked::bytes(length).with_front(&bytes);
         }
         ran

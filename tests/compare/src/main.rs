@@ -60,7 +60,7 @@ fn compare(options: &Options) -> bool {
         run::every_kind(&mut report, &mut random);
     }
     for _ in 0..options.tables {
-        random_table(&mut report, &mut random, options);
+        random_table(&mut report, &mut random);
     }
     #[cfg(feature = "run")]
     while report.count(Part::Run) < options.runs {
@@ -92,7 +92,7 @@ fn some_id(random: &mut Random, graph: &Graph) -> u16 {
 
 /// A random table and a damaged one: verdicts, codes, runs, evaluations, as far as the library has them.
 #[allow(unused_variables)]
-fn random_table(report: &mut Report, random: &mut Random, options: &Options) {
+fn random_table(report: &mut Report, random: &mut Random) {
     let graph = random_graph(random);
     let table = graph.to_bytes();
     let damaged = damaged_table(random, &graph);
@@ -117,10 +117,9 @@ fn random_table(report: &mut Report, random: &mut Random, options: &Options) {
     }
     #[cfg(feature = "evaluate")]
     {
-        let after = options.code_after_refusal;
-        evaluate::compare(report, random, &table, id, after);
+        evaluate::compare(report, random, &table, id);
         if random.chance(20) {
-            evaluate::compare(report, random, &damaged, id_damaged, after);
+            evaluate::compare(report, random, &damaged, id_damaged);
         }
     }
 }

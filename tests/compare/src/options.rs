@@ -1,16 +1,11 @@
 //! What the command line asks for.
 
-#[cfg(feature = "evaluate")]
-use crate::evaluate::CodeAfterRefusal;
-
 pub const USAGE: &str = "\
 compare [OPTION VALUE]...
   --seed N      where the random numbers begin (1)
   --tables N    random tables, and as many damaged ones (40000)
   --runs N      least number of runs (150000)
-  --lister PATH the lister program, compared if given
-  --code-after-refusal unchanged|written
-                the code buffer after an evaluation whose run is refused (unchanged)";
+  --lister PATH the lister program, compared if given";
 
 pub struct Options {
     pub seed: u64,
@@ -18,8 +13,6 @@ pub struct Options {
     #[cfg_attr(not(feature = "run"), allow(dead_code))]
     pub runs: u64,
     pub lister: Option<String>,
-    #[cfg(feature = "evaluate")]
-    pub code_after_refusal: CodeAfterRefusal,
 }
 
 impl Options {
@@ -30,8 +23,6 @@ impl Options {
             tables: 40_000,
             runs: 150_000,
             lister: None,
-            #[cfg(feature = "evaluate")]
-            code_after_refusal: CodeAfterRefusal::Unchanged,
         };
         while let Some(name) = arguments.next() {
             let value = arguments.next()?;
@@ -40,14 +31,6 @@ impl Options {
                 "--tables" => options.tables = value.parse().ok()?,
                 "--runs" => options.runs = value.parse().ok()?,
                 "--lister" => options.lister = Some(value),
-                #[cfg(feature = "evaluate")]
-                "--code-after-refusal" => {
-                    options.code_after_refusal = match value.as_str() {
-                        "unchanged" => CodeAfterRefusal::Unchanged,
-                        "written" => CodeAfterRefusal::Written,
-                        _ => return None,
-                    }
-                }
                 _ => return None,
             }
         }
