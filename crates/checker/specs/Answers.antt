@@ -10,6 +10,8 @@ use Rattle.graph.specs.Outcome.{Outcome, ok, fault, each}
 use Rattle.graph.specs.Graph.{Ref, Node, Output, Function}
 use Rattle.graph.specs.Look.{reads}
 use Rattle.graph.specs.Read.{version1, reference}
+use Rattle.graph.specs.Rules.{Gives}
+use mathlib.Core.Path.{_≡_}
 use Rattle.graph.specs.Judge.{callOk, refType, refOk, refsOk, wantsOf}
 use Rattle.reader.specs.Layout.{inputsAt, functionAt, earlier}
 use Rattle.checker.specs.declared.Verdict.{Verdict}
@@ -21,6 +23,10 @@ use Rattle.checker.specs.declared.Want.the-variants.{Types, Inputs}
 abbrev pub verdictOf : Outcome ℕ → Verdict
 verdictOf (ok n) = Verdict.Accepted n
 verdictOf (fault n p) = Verdict.Refused n p
+
+-- the same by 01's words alone, with neither the reading nor the judging that compute the verdict
+abbrev pub Judged : List ℕ → Verdict → Type 0
+Judged s r = (o : Outcome ℕ) × Gives version1 s o × (r ≡ verdictOf o)
 
 -- one of the first j ids
 abbrev pub hit : List ℕ → ℕ → ℕ → Bool

@@ -14,7 +14,7 @@ ghost use Rattle.reader.specs.Layout.{nodeAt, nodesAt, nodePlace, nodeCount, no
 ghost use Rattle.reader.specs.Find.{ReadsNode, ReadsNodes, ReadsFunction, Started};
 ghost use Rattle.reader.specs.Records.{seen};
 ghost use Rattle.reader.specs.declared.Seen.{Seen};
-ghost use Rattle.checker.specs.Answers.{hit, portOf, typeAt, wantsList, WantFits, outputsChecked, referencesChecked, nodeChecked, callsChecked, verdictOf};
+ghost use Rattle.checker.specs.Answers.{hit, portOf, typeAt, wantsList, WantFits, outputsChecked, referencesChecked, nodeChecked, callsChecked, verdictOf, Judged};
 ghost use Rattle.checker.specs.Slots.{ReadsFunctions, Scene, PlacesAre, Placed, RowIs, RowsAre, Ready, Filled};
 use ports::Form;
 use ports::Ports;
@@ -501,6 +501,7 @@ fn judge_all(s: &[u8], count: usize) -> Seen
 // The verdict on a table.
 pub fn check(table: &[u8]) -> Verdict
     ensures { λ r. ⌜ r ≡ verdictOf (verdict (now (table .entry))) ⌝ }
+    ensures { λ r. ⌜ Judged (now (table .entry)) r ⌝ }
 {
     let read = reader::read_table(table);
     match read {

@@ -13,7 +13,7 @@ use Rattle.graph.specs.Graph.{Function}
 use Rattle.graph.specs.Judge.{fresh, table, judgeAll}
 use Rattle.graph.specs.Read.{version1, Part, functions, parse}
 use Rattle.graph.specs.Sound.{AllSound}
-use Rattle.graph.proofs.Exactly.{distinct-fresh}
+use Rattle.graph.proofs.Fresh.{distinct-fresh}
 use Rattle.graph.proofs.Loops.{and-inv}
 use Rattle.graph.proofs.Steps.{took, passed}
 use Rattle.reader.specs.Layout.{nodesAt, nodeCount, nodesPlace, functionAt, functionPlace, earlier}

@@ -19,15 +19,14 @@ use Rattle.graph.specs.Outcome.{ok, _>>_}
 use Rattle.graph.specs.Read.{version1, parse}
 use Rattle.graph.specs.Judge.{judge, judgeAll, table}
 use Rattle.graph.specs.Bytes.{Bytes}
-use Rattle.graph.specs.Rules.{Distinct}
+use Rattle.graph.specs.Orders.{Distinct}
 use Rattle.graph.specs.Table.{Chosen, chosen}
 use Rattle.graph.specs.Sums.{sum}
 use Rattle.graph.specs.Sound.{Is, Sound, AllFormed}
 use Rattle.graph.proofs.Loops.{and-inv, or-inv}
 use Rattle.graph.proofs.Steps.{took, after, ok-is}
-use Rattle.graph.proofs.Formed.{parse-formed}
-use Rattle.graph.proofs.Exactly.{rules-there}
-use Rattle.graph.proofs.Order.{ids, Ordered, scheduled, schedule-within}
+use Rattle.graph.proofs.Fresh.{judged-distinct}
+use Rattle.graph.proofs.Order.{ids, Ordered, scheduled, schedule-within, schedule-distinct}
 use Rattle.list.specs.Board.{Instruction}
 use Rattle.list.specs.Compile.{Written, portsAt, address, places, Opened, Open, single, openNode, also, openNodes, openFunction, opened}
 use Rattle.compiler.specs.Static.{Spot, nowhere, input, offset, spotAt, through, Spotted, spotsOf, spotOf, Closed, Callee, closedNode, spread, closedFunction, closed, emitNodes, Agrees}
@@ -219,59 +218,16 @@ opened-next early c ins next = opened-follows early .next c ins next
 abbrev pub Single : List Node → Type 0
 Single ns = Distinct (ids ns)
 
--- how many nodes have an id
-abbrev count : ℕ → List Node → ℕ
-count i = sum (λ n. cond (eqb (n .id) i) 1 0)
-
-absent-count : (i : ℕ) (ns : List Node) → member i (ids ns) ≡ false → count i ns ≡ 0
-absent-count i [] e = refl
-absent-count i (n ∷ ns) e = pickOne (eqb (n .id) i) (absent-count i ns) e
-  where
-    pickOne : (b : Bool) → (member i (ids ns) ≡ false → count i ns ≡ 0) → cond b true (member i (ids ns)) ≡ false → cond b 1 0 + count i ns ≡ 0
-    pickOne true ih h = let z : _≡_ {A = ℕ} 0 1 = cc in absurd (omega arith)
-    pickOne false ih h = let q = ih h in omega arith
-
-count-absent : (i : ℕ) (ns : List Node) → count i ns ≡ 0 → member i (ids ns) ≡ false
-count-absent i [] e = refl
-count-absent i (n ∷ ns) e = pickOne (eqb (n .id) i) (count-absent i ns) e
-  where
-    pickOne : (b : Bool) → (count i ns ≡ 0 → member i (ids ns) ≡ false) → cond b 1 0 + count i ns ≡ 0 → cond b true (member i (ids ns)) ≡ false
-    pickOne true ih h = absurd (omega arith)
-    pickOne false ih h = ih (omega arith)
-
-single-count : (ns : List Node) → Single ns → (i : ℕ) → count i ns ≤ 1
-single-count [] s i = omega arith
-single-count (n ∷ ns) (a, s) i = pickOne (eqb (n .id) i) refl (single-count ns s i)
-  where
-    pickOne : (b : Bool) → eqb (n .id) i ≡ b → count i ns ≤ 1 → cond b 1 0 + count i ns ≤ 1
-    pickOne true e l = let z = absent-count i ns (subst (λ (j : ℕ). member j (ids ns) ≡ false) (eqb-true (n .id) i e) a) in omega arith
-    pickOne false e l = omega arith
-
-count-single : (ns : List Node) → ((i : ℕ) → count i ns ≤ 1) → Single ns
-count-single [] h = tt
-count-single (n ∷ ns) h = (count-absent (n .id) ns zeros, count-single ns (λ i. fewer i (cond (eqb (n .id) i) 1 0) (h i)))
-  where
-    zeros : count (n .id) ns ≡ 0
-    zeros =
-        let l : cond (eqb (n .id) (n .id)) 1 0 + count (n .id) ns ≤ 1 = h (n .id) in
-        let e : _≡_ {A = ℕ} (cond (eqb (n .id) (n .id)) 1 0) 1 = rw (eq-eqb (n .id) (n .id) refl) refl in
-        omega arith
-
-    fewer : (i x : ℕ) → x + count i ns ≤ 1 → count i ns ≤ 1
-    fewer i x l = omega arith
-
 -- the schedule of a function whose ids are single has single ids
 pub schedule-single : (early : List Function) (f : Function) → Sound early f → Single (f .nodes) → Single (schedule (f .nodes))
-schedule-single early f sound single =
-    count-single (schedule (f .nodes))
-    (λ i. subst (λ (x : ℕ). x ≤ 1) (sym (scheduled early f sound .total (λ n. cond (eqb (n .id) i) 1 0))) (single-count (f .nodes) single i))
+schedule-single = schedule-distinct
 
-all-single : (early fs : List Function) (u : Unit {0}) → AllFormed fs → Each (λ f. Single (f .nodes)) early → judgeAll early fs ≡ ok u
+all-single : (early fs : List Function) (u : Unit {0}) → Each (λ f. Single (f .nodes)) early → judgeAll early fs ≡ ok u
     → Each (λ f. Single (f .nodes)) (reverseAux fs early)
-all-single early [] u formed h e = h
-all-single early (f ∷ fs) u (a, formed) h e =
+all-single early [] u h e = h
+all-single early (f ∷ fs) u h e =
     let (b, p, q) = after (judge early f) (judgeAll (f ∷ early) fs) u e in
-    all-single (f ∷ early) fs u formed (rules-there early f a p .own-nodes, h) q
+    all-single (f ∷ early) fs u (judged-distinct early f b p, h) q
 
 -- every function of an accepted table has single ids
 pub accepted-single : (s : List ℕ) → Bytes s → (fs : List Function) → table s ≡ ok fs → Each (λ f. Single (f .nodes)) fs
@@ -280,7 +236,7 @@ accepted-single s small fs e =
     let (gs, p, e1) = took (parse version1 s) (λ fs. judgeAll [] fs >> ok (reverse fs)) fs e in
     let (u, j, e2) = after (judgeAll [] gs) (ok (reverse gs)) fs e1 in
     let q : reverse gs ≡ fs = ok-is e2 in
-    subst (λ (hs : List Function). Each (λ f. Single (f .nodes)) hs) q (all-single [] gs u (parse-formed s small version1 gs p .0) tt j)
+    subst (λ (hs : List Function). Each (λ f. Single (f .nodes)) hs) q (all-single [] gs u tt j)
 
 -- what holds of every function of a table holds of the one of an id, and of those before it
 pub chosen-each : (P : Function → Type 0) (c : ℕ) (fs : List Function) (x : Chosen) → chosen c fs ≡ some x → Each P fs → Each P (x .function ∷ x .early)

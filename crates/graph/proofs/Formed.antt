@@ -1,12 +1,11 @@
--- What the reading gives is formed.
+-- What the reading gives is formed, and written where it says.
 use Prim.Native.Nat.{ℕ, zero, suc, _+_, _-_, _*_, _^_, _≤_, _<_}
 use mathlib.Core.Path.{_≡_, refl, ap, sym, _∙_, subst}
 use mathlib.Core.Bool.{Bool, true, false, _&&_}
-use mathlib.Core.List.{List, [], _∷_, map, reverse}
+use mathlib.Core.List.{List, [], _∷_, _++_, map, reverse}
 use native.Mathlib.Omega.{arith}
-use native.Mathlib.Nat.{pow-succ'}
 use lib.Dec.{leb, eqb}
-use lib.ListN.{length}
+use lib.ListN.{length, length-append}
 use borrow.Author.Tests.{leb-true, eqb-true}
 use Rattle.ports.specs.Kinds.{Kind, kindOf}
 use Rattle.ports.specs.declared.Form.{Form}
@@ -15,13 +14,17 @@ use Rattle.ports.specs.Ports.{arity, constantWords, formOf, legal}
 use Rattle.value.specs.Typed.{TypeCode, Word, Each}
 use Rattle.graph.specs.Outcome.{Outcome, ok, fault, _>>=_, _>>_, need, each}
 use Rattle.graph.specs.Graph.{Ref, Payload, consts, refs, calls, Node, Output, Function}
-use Rattle.graph.specs.Bytes.{byte, u16, u64, Bytes}
-use Rattle.graph.specs.Read.{Format, version1, fits, inputs, reference, references, outputs, constants, Part, payload, node, nodes, function, functions, parse}
+use Rattle.graph.specs.Bytes.{byte, u16, u64, Bytes, bytesOf, allBytes}
+use Rattle.graph.specs.Read.{Format, version1, fits, inputs, reference, references, outputs, constants, Part, payload, node, nodes, function, functions, marked, parse}
 use Rattle.graph.specs.Judge.{outputTypes, judgeAll, table}
 use Rattle.graph.specs.Sound.{AllWithin, Is, FormedPayload, FormedNode, Formed, AllFormed, AllSound}
+use Rattle.graph.specs.Written.{flat, refBytes, outputBytes, payloadBytes, nodeBytes, functionBytes, headerBytes, tableBytes, RefsAt, PayloadAt, OutputsAt, NodesAt, FunctionAt, FunctionsAt, Short, ShortRefs, ShortPayload, ShortNode, ShortIds, Written}
 use Rattle.graph.proofs.Loops.{and-inv}
 use Rattle.graph.proofs.Steps.{took, after, passed, ok-is}
+use Rattle.graph.proofs.Stands.{bytes-length, all-length, Here, moved, join, onto, whole-is, little, little-below, little-here, u16-here, u16-below, constants-here}
 use Rattle.graph.proofs.Accept.{all-judged}
+
+-- ---- lengths
 
 pub refs-length : (n : ℕ) (s : List ℕ) (at : ℕ) → length (references n s at) ≡ n
 refs-length zero s at = refl
@@ -31,33 +34,66 @@ pub constants-length : (n : ℕ) (s : List ℕ) (at : ℕ) → length (constants
 constants-length zero s at = refl
 constants-length (suc n) s at = ap suc (constants-length n s (at + 8))
 
+pub refs-size : (rs : List Ref) → length (flat refBytes rs) ≡ 3 * length rs
+refs-size [] = omega arith
+refs-size (r ∷ rs) = let e : length (flat refBytes rs) ≡ 3 * length rs = refs-size rs in omega arith
+
+pub outputs-size : (os : List Output) → length (flat outputBytes os) ≡ 4 * length os
+outputs-size [] = omega arith
+outputs-size (o ∷ os) = let e : length (flat outputBytes os) ≡ 4 * length os = outputs-size os in omega arith
+
+pub header-length : (format : Format) (count size : ℕ) → 8 ≤ format .header → length (headerBytes format count size) ≡ format .header
+header-length format count size h = let e = bytes-length (format .header - 6) size in omega arith
+
 type-code : (t : ℕ) → leb 1 t && leb t 3 ≡ true → TypeCode t
 type-code t e = let (a, b) = and-inv (leb 1 t) (leb t 3) e in (leb-true 1 t a, leb-true t 3 b)
 
-inputs-formed : (n : ℕ) (s : List ℕ) (at : ℕ) (ts : List ℕ) → inputs n s at ≡ ok ts → (length ts ≡ n) × Each TypeCode ts
-inputs-formed zero s at [] e = (refl, tt)
-inputs-formed zero s at (t ∷ ts) e = let z : _≡_ {A = ℕ} 0 1 = cc in absurd (omega arith)
-inputs-formed (suc n) s at ts e =
-    let (a, e1) = passed _ _ _ _ _ e in
-    let (b, e2) = passed _ _ _ _ _ e1 in
-    let (r, er, e3) = took _ _ _ e2 in
-    let (l, h) = inputs-formed n s (at + 1) r er in
-    let q : byte s at ∷ r ≡ ts = cc in
-    subst (λ (us : List ℕ). (length us ≡ suc n) × Each TypeCode us) q (ap suc l, (type-code (byte s at) b, h))
-
-outputs-formed : (n : ℕ) (s : List ℕ) (at : ℕ) (os : List Output) → outputs n s at ≡ ok os → (length os ≡ n) × Each TypeCode (outputTypes os)
-outputs-formed zero s at [] e = (refl, tt)
-outputs-formed zero s at (t ∷ ts) e = let z : _≡_ {A = ℕ} 0 1 = cc in absurd (omega arith)
-outputs-formed (suc n) s at os e =
-    let (a, e1) = passed _ _ _ _ _ e in
-    let (b, e2) = passed _ _ _ _ _ e1 in
-    let (r, er, e3) = took _ _ _ e2 in
-    let (l, h) = outputs-formed n s (at + 4) r er in
-    let o : Output = record { type = byte s at; ref = reference s (at + 1) } in
-    let q : o ∷ r ≡ os = cc in
-    subst (λ (us : List Output). (length us ≡ suc n) × Each TypeCode (outputTypes us)) q (ap suc l, (type-code (byte s at) b, h))
-
 module _ (s : List ℕ) (small : Bytes s) where
+  -- ---- inputs, outputs and references
+
+  abbrev InputsRead : ℕ → ℕ → List ℕ → Type 0
+  InputsRead n at ts = (length ts ≡ n) × Each TypeCode ts × Here s at ts
+
+  inputs-formed : (n at : ℕ) (ts : List ℕ) → inputs n s at ≡ ok ts → InputsRead n at ts
+  inputs-formed zero at ts e = subst (InputsRead 0 at) (ok-is e) (refl, tt, refl)
+  inputs-formed (suc n) at ts e =
+      let (a, e1) = passed _ _ _ _ _ e in
+      let (b, e2) = passed _ _ _ _ _ e1 in
+      let (r, er, e3) = took _ _ _ e2 in
+      let (l, c, h) = inputs-formed n (at + 1) r er in
+      subst (InputsRead (suc n) at) (ok-is e3) (ap suc l, (type-code (byte s at) b, c), onto s (byte s at) r at refl h)
+
+  ref-here : (at : ℕ) → Here s at (refBytes (reference s at))
+  ref-here at = join s (bytesOf 2 (u16 s at)) (byte s (at + 2) ∷ []) at (u16-here s small at) (onto s (byte s (at + 2)) [] (at + 2) refl refl)
+
+  refs-here : (n at : ℕ) → Here s at (flat refBytes (references n s at)) × RefsAt at (references n s at) × ShortRefs (references n s at)
+  refs-here zero at = (refl, tt, tt)
+  refs-here (suc n) at =
+      let (h, p, b) = refs-here n (at + 3) in
+      (join s (refBytes (reference s at)) (flat refBytes (references n s (at + 3))) at (ref-here at) h, (refl, p), (u16-below s small at, b))
+
+  abbrev OutputsRead : ℕ → ℕ → List Output → Type 0
+  OutputsRead n at os =
+      (length os ≡ n) × Each TypeCode (outputTypes os) × Here s at (flat outputBytes os) × OutputsAt at os × Each (λ o. Short (o .ref .node)) os
+
+  outputs-formed : (n at : ℕ) (os : List Output) → outputs n s at ≡ ok os → OutputsRead n at os
+  outputs-formed zero at os e = subst (OutputsRead 0 at) (ok-is e) (refl, tt, refl, tt, tt)
+  outputs-formed (suc n) at os e =
+      let (a, e1) = passed _ _ _ _ _ e in
+      let (b, e2) = passed _ _ _ _ _ e1 in
+      let (r, er, e3) = took _ _ _ e2 in
+      let (l, c, h, p, w) = outputs-formed n (at + 4) r er in
+      let o : Output = record { type = byte s at; ref = reference s (at + 1) } in
+      subst (OutputsRead (suc n) at) (ok-is e3) (
+        ap suc l,
+        (type-code (byte s at) b, c),
+        join s (outputBytes o) (flat outputBytes r) at (onto s (byte s at) (refBytes (reference s (at + 1))) at refl (ref-here (at + 1))) h,
+        (refl, p),
+        (u16-below s small (at + 1), w),
+      )
+
+  -- ---- nodes
+
   word-below : (at : ℕ) → u64 s at < 2 ^ 64
   word-below at =
       omega
@@ -67,52 +103,130 @@ module _ (s : List ℕ) (small : Bytes s) where
   constants-words zero at = tt
   constants-words (suc n) at = (word-below at, constants-words n (at + 8))
 
-  payload-formed : (h : Form) (k : Kind) (at : ℕ) (p : Part Payload) → formOf k ≡ h → payload h k s at ≡ ok p → FormedPayload k (p .it)
+  abbrev PayloadRead : Kind → ℕ → Part Payload → Type 0
+  PayloadRead k at p =
+      FormedPayload k (p .it) × Here s at (payloadBytes (p .it)) × (p .next ≡ at + length (payloadBytes (p .it))) × PayloadAt at (p .it) × ShortPayload (p .it)
+
+  payload-formed : (h : Form) (k : Kind) (at : ℕ) (p : Part Payload) → formOf k ≡ h → payload h k s at ≡ ok p → PayloadRead k at p
   payload-formed Absent k at p q e = let z : _≡_ {A = ℕ} 0 1 = cc in absurd (omega arith)
   payload-formed Constant k at p q e =
       let (t, e1) = passed _ _ _ _ _ e in
       let (f, e2) = passed _ _ _ _ _ e1 in
       let n = constantWords k in
-      let i : consts (constants n s at) ≡ p .it = cc in
-      subst (FormedPayload k) i (q, constants-length n s at, f, constants-words n at)
+      let l : length (constants n s at) ≡ n = constants-length n s at in
+      let size : length (allBytes 8 (constants n s at)) ≡ 8 * length (constants n s at) = all-length 8 (constants n s at) in
+      subst (PayloadRead k at) (ok-is e2) ((q, l, f, constants-words n at), constants-here s small n at, omega arith, tt, tt)
+  payload-formed References k at p q e =
+      let (t, e1) = passed _ _ _ _ _ e in
+      let n = arity k in
+      let (h, w, b) = refs-here n at in
+      let l : length (references n s at) ≡ n = refs-length n s at in
+      let size : length (flat refBytes (references n s at)) ≡ 3 * length (references n s at) = refs-size (references n s at) in
+      subst (PayloadRead k at) (ok-is e1) ((q, l), h, omega arith, w, b)
   payload-formed Call k at p q e =
       let (t, e1) = passed _ _ _ _ _ e in
       let (f, e2) = passed _ _ _ _ _ e1 in
       let (u, e3) = passed _ _ _ _ _ e2 in
-      let i : calls (u16 s at) (references (byte s (at + 2)) s (at + 3)) ≡ p .it = cc in
-      let l : length (references (byte s (at + 2)) s (at + 3)) ≡ byte s (at + 2) = refs-length (byte s (at + 2)) s (at + 3) in
-      let b : byte s (at + 2) ≤ 8 = leb-true _ _ f in
-      subst (FormedPayload k) i (q, omega arith)
-  payload-formed References k at p q e =
-      let (t, e1) = passed _ _ _ _ _ e in
-      let n = arity k in
-      let i : refs (references n s at) ≡ p .it = cc in
-      subst (FormedPayload k) i (q, refs-length n s at)
+      let n = byte s (at + 2) in
+      let rs = references n s (at + 3) in
+      let (h, w, b) = refs-here n (at + 3) in
+      let l : length rs ≡ n = refs-length n s (at + 3) in
+      let m : n ≤ 8 = leb-true n 8 f in
+      let size : length (flat refBytes rs) ≡ 3 * length rs = refs-size rs in
+      let tail : Here s (at + 2) (length rs ∷ flat refBytes rs) = onto s (length rs) (flat refBytes rs) (at + 2) (sym l) (moved s (omega arith) h) in
+      subst (PayloadRead k at) (ok-is e3)
+      ((q, omega arith), join s (bytesOf 2 (u16 s at)) (length rs ∷ flat refBytes rs) at (u16-here s small at) tail, omega arith, w, (u16-below s small at, b))
 
-  node-formed : (at : ℕ) (x : Part Node) → node s at ≡ ok x → FormedNode (x .it)
-  node-formed at x e =
-      let (t, e1) = passed _ _ _ _ _ e in
-      let (u, e2) = passed _ _ _ _ _ e1 in
-      let (p, ep, e3) = took _ _ _ e2 in
-      let (i, l) = and-inv (leb 1 (u16 s at)) (legal (kindOf (byte s (at + 2))) (byte s (at + 3))) u in
-      let n : Node = record { id = u16 s at; place = at; kind = byte s (at + 2); type = byte s (at + 3); payload = p .it } in
-      let q : n ≡ x .it = cc in
-      subst FormedNode q
-      (record { id = leb-true _ _ i; legal = l; payload = payload-formed (formOf (kindOf (byte s (at + 2)))) (kindOf (byte s (at + 2))) (at + 4) p refl ep })
+  abbrev NodeRead : ℕ → Part Node → Type 0
+  NodeRead at p =
+      FormedNode (p .it) × Here s at (nodeBytes (p .it)) × (p .next ≡ at + length (nodeBytes (p .it))) × (p .it .place ≡ at)
+      × PayloadAt (at + 4) (p .it .payload)
+      × ShortNode (p .it)
 
-  nodes-formed : (n at : ℕ) (p : Part (List Node)) → nodes n s at ≡ ok p → (length (p .it) ≡ n) × Each FormedNode (p .it)
-  nodes-formed zero at p e =
-      let q : [] ≡ p .it = cc in
-      subst (λ (ns : List Node). (length ns ≡ 0) × Each FormedNode ns) q (refl, tt)
+  node-formed : (at : ℕ) (p : Part Node) → node s at ≡ ok p → NodeRead at p
+  node-formed at p e =
+      let (a, e1) = passed _ _ _ _ _ e in
+      let (b, e2) = passed _ _ _ _ _ e1 in
+      let (x, ex, e3) = took _ _ _ e2 in
+      let k = byte s (at + 2) in
+      let t = byte s (at + 3) in
+      let (i, l) = and-inv (leb 1 (u16 s at)) (legal (kindOf k) t) b in
+      let (f, h, q, w, u) = payload-formed (formOf (kindOf k)) (kindOf k) (at + 4) x refl ex in
+      let bs = payloadBytes (x .it) in
+      let tail : Here s (at + 2) (k ∷ t ∷ bs) = onto s k (t ∷ bs) (at + 2) refl (onto s t bs (at + 2 + 1) (ap (byte s) (omega arith)) (moved s (omega arith) h)) in
+      subst (NodeRead at) (ok-is e3) (
+        record { id = leb-true _ _ i; legal = l; payload = f },
+        join s (bytesOf 2 (u16 s at)) (k ∷ t ∷ bs) at (u16-here s small at) tail,
+        omega arith,
+        refl,
+        w,
+        (u16-below s small at, u),
+      )
+
+  abbrev NodesRead : ℕ → ℕ → Part (List Node) → Type 0
+  NodesRead n at p =
+      (length (p .it) ≡ n) × Each FormedNode (p .it) × Here s at (flat nodeBytes (p .it)) × (p .next ≡ at + length (flat nodeBytes (p .it))) × NodesAt at (p .it)
+      × Each ShortNode (p .it)
+
+  nodes-formed : (n at : ℕ) (p : Part (List Node)) → nodes n s at ≡ ok p → NodesRead n at p
+  nodes-formed zero at p e = subst (NodesRead 0 at) (ok-is e) (refl, tt, refl, omega arith, tt, tt)
   nodes-formed (suc n) at p e =
       let (x, ex, e1) = took _ _ _ e in
       let (r, er, e2) = took _ _ _ e1 in
-      let (l, h) = nodes-formed n (x .next) r er in
-      let q : x .it ∷ r .it ≡ p .it = cc in
-      subst (λ (ns : List Node). (length ns ≡ suc n) × Each FormedNode ns) q (ap suc l, (node-formed at x ex, h))
+      let (f, h, q, a, b, c) = node-formed at x ex in
+      let (l, fs, hs, qs, ps, cs) = nodes-formed n (x .next) r er in
+      let size = length-append (nodeBytes (x .it)) (flat nodeBytes (r .it)) in
+      subst (NodesRead (suc n) at) (ok-is e2) (
+        ap suc l,
+        (f, fs),
+        join s (nodeBytes (x .it)) (flat nodeBytes (r .it)) at h (moved s q hs),
+        omega arith,
+        (a, b, subst (λ (i : ℕ). NodesAt i (r .it)) q ps),
+        (c, cs),
+      )
 
-  pub function-formed : (limit at : ℕ) (x : Part Function) → function limit s at ≡ ok x → Formed (x .it) × (length (x .it .nodes) ≤ limit)
-  function-formed limit at x e =
+  -- ---- functions
+
+  abbrev FunctionRead : ℕ → ℕ → Part Function → Type 0
+  FunctionRead limit at p =
+      Formed (p .it) × (length (p .it .nodes) ≤ limit) × Here s at (functionBytes (p .it)) × (p .next ≡ at + length (functionBytes (p .it)))
+      × FunctionAt at (p .it)
+      × ShortIds (p .it)
+
+  function-here :
+      (limit at nin nout end : ℕ) (ins : List ℕ) (outs : List Output) (ns : List Node) → byte s (at + 2) ≡ nin → byte s (at + 3) ≡ nout
+      → (1 ≤ u16 s at) × (nin ≤ 8) × (1 ≤ nout) × (nout ≤ 8) × (u16 s (at + 4) ≤ limit) → InputsRead nin (at + 6) ins → OutputsRead nout (at + 6 + nin) outs
+      → NodesRead (u16 s (at + 4)) (at + 6 + nin + 4 * nout) (record { it = ns; next = end })
+      → FunctionRead limit at (record { it = record { id = u16 s at; place = at; inputs = ins; outputs = outs; nodes = ns }; next = end })
+  function-here limit at nin nout end ins outs ns bi bo (c1, c2, c3, c4, c5) (il, it, hi) (ol, ot, ho, po, wo) (nl, nt, hn, qn, pn, wn) =
+      let os = flat outputBytes outs in
+      let xs = flat nodeBytes ns in
+      let ys = ins ++ os ++ xs in
+      let count = bytesOf 2 (length ns) in
+      let os-size : length os ≡ 4 * length outs = outputs-size outs in
+      let l1 : length (ins ++ os) ≡ length ins + length os = length-append ins os in
+      let l2 : length ys ≡ length (ins ++ os) + length xs = length-append (ins ++ os) xs in
+      let h1 : Here s (at + 6) (ins ++ os) = join s ins os (at + 6) hi (moved s (omega arith) ho) in
+      let h2 : Here s (at + 6) ys = join s (ins ++ os) xs (at + 6) h1 (moved s (omega arith) hn) in
+      let hc : Here s (at + 4) count = subst (λ (i : ℕ). Here s (at + 4) (bytesOf 2 i)) (sym nl) (u16-here s small (at + 4)) in
+      let h3 : Here s (at + 4) (count ++ ys) = join s count ys (at + 4) hc (moved s (omega arith) h2) in
+      let h4 : Here s (at + 3) (length outs ∷ (count ++ ys)) = onto s (length outs) (count ++ ys) (at + 3) (bo ∙ sym ol) (moved s (omega arith) h3) in
+      let h5 : Here s (at + 2) (length ins ∷ length outs ∷ (count ++ ys)) =
+      onto s (length ins) (length outs ∷ (count ++ ys)) (at + 2) (bi ∙ sym il) (moved s (omega arith) h4) in (
+        record { id = c1; inputs = omega arith; inputTypes = it; some-output = omega arith; outputs = omega arith; outputTypes = ot; nodes = nt },
+        omega arith,
+        join s (bytesOf 2 (u16 s at)) (length ins ∷ length outs ∷ (count ++ ys)) at (u16-here s small at) h5,
+        omega arith,
+        record {
+          head = refl;
+          outputs = subst (λ (i : ℕ). OutputsAt (at + 6 + i) outs) (sym il) po;
+          nodes = subst (λ (i : ℕ). NodesAt i ns) (omega arith) pn;
+        },
+        record { id = u16-below s small at; outputs = wo; nodes = wn },
+      )
+
+  pub function-formed : (limit at : ℕ) (p : Part Function) → function limit s at ≡ ok p → FunctionRead limit at p
+  function-formed limit at p e =
       let (t, e1) = passed _ _ _ _ _ e in
       let (u, e2) = passed _ _ _ _ _ e1 in
       let (ins, ei, e3) = took _ _ _ e2 in
@@ -120,41 +234,77 @@ module _ (s : List ℕ) (small : Bytes s) where
       let (ns, en, e5) = took _ _ _ e4 in
       let nin = byte s (at + 2) in
       let nout = byte s (at + 3) in
-      let (u1, u2) = and-inv (leb 1 (u16 s at) && leb nin 8 && (leb 1 nout && leb nout 8)) (leb (u16 s (at + 4)) limit) u in
+      let count = u16 s (at + 4) in
+      let (u1, u2) = and-inv (leb 1 (u16 s at) && leb nin 8 && (leb 1 nout && leb nout 8)) (leb count limit) u in
       let (u3, u4) = and-inv (leb 1 (u16 s at) && leb nin 8) (leb 1 nout && leb nout 8) u1 in
       let (u5, u6) = and-inv (leb 1 (u16 s at)) (leb nin 8) u3 in
       let (u7, u8) = and-inv (leb 1 nout) (leb nout 8) u4 in
-      let (il, it) = inputs-formed nin s (at + 6) ins ei in
-      let (ol, ot) = outputs-formed nout s (at + 6 + nin) outs eo in
-      let (nl, nt) = nodes-formed (u16 s (at + 4)) (at + 6 + nin + 4 * nout) ns en in
-      let f : Function = record { id = u16 s at; place = at; inputs = ins; outputs = outs; nodes = ns .it } in
-      let q : f ≡ x .it = ap (λ (y : Part Function). y .it) (ok-is e5) in
-      subst (λ (g : Function). Formed g × (length (g .nodes) ≤ limit)) q (
-        record {
-          id = leb-true 1 (u16 s at) u5;
-          inputs = let b = leb-true nin 8 u6 in omega arith;
-          inputTypes = it;
-          some-output = let b = leb-true 1 nout u7 in omega arith;
-          outputs = let b = leb-true nout 8 u8 in omega arith;
-          outputTypes = ot;
-          nodes = nt;
-        },
-        let b = leb-true (u16 s (at + 4)) limit u2 in omega arith,
-      )
+      subst (FunctionRead limit at) (ok-is e5)
+      (function-here limit at nin nout (ns .next) ins outs (ns .it) refl refl
+      (leb-true 1 (u16 s at) u5, leb-true nin 8 u6, leb-true 1 nout u7, leb-true nout 8 u8, leb-true count limit u2) (inputs-formed nin (at + 6) ins ei)
+      (outputs-formed nout (at + 6 + nin) outs eo) (nodes-formed count (at + 6 + nin + 4 * nout) ns en))
 
   -- every function is formed, and has no more nodes than the limit
-  functions-formed : (limit n at : ℕ) (p : Part (List Function)) → functions limit n s at ≡ ok p → AllFormed (p .it) × AllWithin limit (p .it)
-  functions-formed limit zero at p e = let q : [] ≡ p .it = cc in subst (λ (fs : List Function). AllFormed fs × AllWithin limit fs) q (tt, tt)
+  abbrev FunctionsRead : ℕ → ℕ → ℕ → Part (List Function) → Type 0
+  FunctionsRead limit n at p =
+      AllFormed (p .it) × AllWithin limit (p .it) × Here s at (flat functionBytes (p .it)) × (p .next ≡ at + length (flat functionBytes (p .it)))
+      × FunctionsAt at (p .it)
+      × Each ShortIds (p .it)
+      × (length (p .it) ≡ n)
+
+  functions-formed : (limit n at : ℕ) (p : Part (List Function)) → functions limit n s at ≡ ok p → FunctionsRead limit n at p
+  functions-formed limit zero at p e = subst (FunctionsRead limit 0 at) (ok-is e) (tt, tt, refl, omega arith, tt, tt, refl)
   functions-formed limit (suc n) at p e =
       let (x, ex, e1) = took _ _ _ e in
       let (r, er, e2) = took _ _ _ e1 in
-      let q : x .it ∷ r .it ≡ p .it = cc in
-      let (a, b) = function-formed limit at x ex in
-      let (ra, rb) = functions-formed limit n (x .next) r er in
-      subst (λ (fs : List Function). AllFormed fs × AllWithin limit fs) q ((a, ra), (b, rb))
+      let (f, m, h, q, a, c) = function-formed limit at x ex in
+      let (fs, ms, hs, qs, ps, cs, l) = functions-formed limit n (x .next) r er in
+      let size = length-append (functionBytes (x .it)) (flat functionBytes (r .it)) in
+      subst (FunctionsRead limit (suc n) at) (ok-is e2) (
+        (f, fs),
+        (m, ms),
+        join s (functionBytes (x .it)) (flat functionBytes (r .it)) at h (moved s q hs),
+        omega arith,
+        (a, subst (λ (i : ℕ). FunctionsAt i (r .it)) q ps),
+        (c, cs),
+        ap suc l,
+      )
 
-  pub parse-formed : (format : Format) (fs : List Function) → parse format s ≡ ok fs → AllFormed fs × AllWithin (format .nodeLimit) fs
-  parse-formed format fs e =
+-- ---- the table
+
+-- a format whose length field takes the bytes from 6 up to the functions
+pub record Plain (format : Format) : Type 0 where
+  pub version : format .version < 65536
+  pub header : 8 ≤ format .header
+  pub limit : format .nodeLimit < 65536
+  pub size : (s : List ℕ) → format .size s ≡ little s (format .header - 6) 6
+
+pub plain1 : Plain version1
+plain1 = record { version = omega arith; header = omega arith; limit = omega arith; size = λ s. omega arith }
+
+module _ (format : Format) (plain : Plain format) (s : List ℕ) (small : Bytes s) where
+  table-stood : (gs : List Function) → marked s ≡ true → u16 s 3 ≡ format .version → format .size s ≡ length s → length gs ≡ byte s 5
+      → Here s (format .header) (flat functionBytes gs) → length s ≡ format .header + length (flat functionBytes gs) → s ≡ tableBytes format gs
+  table-stood gs mark version size count h l =
+      let (m1, b2) = and-inv (eqb (byte s 0) 0x49 && eqb (byte s 1) 0x46) (eqb (byte s 2) 0x47) mark in
+      let (b0, b1) = and-inv (eqb (byte s 0) 0x49) (eqb (byte s 1) 0x46) m1 in
+      let w = format .header - 6 in
+      let body = flat functionBytes gs in
+      let total = format .header + length body in
+      let field : little s w 6 ≡ total = sym (plain .size s) ∙ size ∙ l in
+      let head : Here s 0 (headerBytes format (length gs) total) =
+      onto s 0x49 _ 0 (eqb-true _ _ b0)
+      (onto s 0x46 _ 1 (eqb-true _ _ b1)
+      (onto s 0x47 _ 2 (eqb-true _ _ b2)
+      (join s (bytesOf 2 (format .version)) (length gs ∷ bytesOf w total) 3 (subst (λ (i : ℕ). Here s 3 (bytesOf 2 i)) version (u16-here s small 3))
+      (onto s (length gs) (bytesOf w total) 5 (sym count) (subst (λ (i : ℕ). Here s 6 (bytesOf w i)) field (little-here s small w 6)))))) in
+      let hl = header-length format (length gs) total (plain .header) in
+      let tl = length-append (headerBytes format (length gs) total) body in
+      whole-is s (tableBytes format gs) (join s (headerBytes format (length gs) total) body 0 head (moved s (omega arith) h)) (omega arith)
+
+  -- what the reading takes is written so
+  pub parse-written : (fs : List Function) → parse format s ≡ ok fs → Written format s fs
+  parse-written fs e =
       let (t1, e1) = passed _ _ _ _ _ e in
       let (t2, e2) = passed _ _ _ _ _ e1 in
       let (t3, e3) = passed _ _ _ _ _ e2 in
@@ -162,9 +312,22 @@ module _ (s : List ℕ) (small : Bytes s) where
       let (t5, e5) = passed _ _ _ _ _ e4 in
       let (p, ep, e6) = took _ _ _ e5 in
       let (t6, e7) = passed _ _ _ _ _ e6 in
-      let q : p .it ≡ fs = cc in
-      subst (λ (gs : List Function). AllFormed gs × AllWithin (format .nodeLimit) gs) q (functions-formed (format .nodeLimit) (byte s 5) (format .header) p ep)
+      let (c1, c2) = and-inv (leb 1 (byte s 5)) (leb (byte s 5) 16) t5 in
+      let size : format .size s ≡ length s = eqb-true _ _ t4 in
+      let (f, m, h, q, ps, cs, l) = functions-formed s small (format .nodeLimit) (byte s 5) (format .header) p ep in
+      subst (Written format s) (ok-is e7)
+      (record {
+        bytes = table-stood (p .it) t2 (eqb-true _ _ t3) size l h (sym (eqb-true _ _ t6) ∙ q);
+        size = subst (λ (i : ℕ). i < 256 ^ (format .header - 6)) (sym (plain .size s) ∙ size) (little-below s small (format .header - 6) 6);
+        some-function = subst (λ (i : ℕ). 1 ≤ i) (sym l) (leb-true 1 (byte s 5) c1);
+        count = subst (λ (i : ℕ). i ≤ 16) (sym l) (leb-true (byte s 5) 16 c2);
+        formed = f;
+        nodes = m;
+        ids = cs;
+        places = ps;
+      })
 
+module _ (s : List ℕ) (small : Bytes s) where
   -- an accepted table: its functions as read, each formed, and each sound over those before it
   pub accepted : (fs : List Function) → table s ≡ ok fs → AllSound fs
   unfolding table
@@ -172,4 +335,4 @@ module _ (s : List ℕ) (small : Bytes s) where
       let (gs, p, e1) = took (parse version1 s) (λ fs. judgeAll [] fs >> ok (reverse fs)) fs e in
       let (u, j, e2) = after (judgeAll [] gs) (ok (reverse gs)) fs e1 in
       let q : reverse gs ≡ fs = ok-is e2 in
-      subst AllSound q (all-judged [] gs u (parse-formed version1 gs p .0) tt j)
+      subst AllSound q (all-judged [] gs u (parse-written version1 plain1 s small gs p .formed) tt j)

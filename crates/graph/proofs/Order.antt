@@ -4,7 +4,7 @@ use mathlib.Core.Path.{_≡_, refl, ap, sym, _∙_, subst}
 use mathlib.Core.Bool.{Bool, true, false, _&&_, _||_, cond}
 use mathlib.Core.List.{List, [], _∷_, map}
 use mathlib.Core.Option.{Option, none, some}
-use mathlib.Core.Logic.{_⊎_, inl, inr, ⊎-elim}
+use mathlib.Core.Logic.{_⊎_, inl, inr, ⊎-elim, _↔_}
 use native.Mathlib.Omega.{arith}
 use lib.Dec.{eqb}
 use lib.ListN.{length, getElem?}
@@ -19,6 +19,8 @@ use Rattle.graph.proofs.Steps.{is-each}
 use Rattle.graph.specs.Outcome.{Outcome, ok}
 use Rattle.graph.specs.Sound.{Is, Wired, FormedNode, Resolved, Sound}
 use Rattle.graph.specs.Sums.{sum}
+use Rattle.graph.specs.Orders.{Distinct, Orders}
+pub use Rattle.graph.specs.Orders.{Ordered}
 use Rattle.graph.specs.Judge.{refType, givesAt, wantsOf, loopFree}
 
 abbrev pub ids : List Node → List ℕ
@@ -137,11 +139,6 @@ pick-some done (x ∷ xs) p e = go (ready done (reads x)) refl (λ q f. pick-som
 
 member-first : (i : ℕ) (xs : List ℕ) → member i (i ∷ xs) ≡ true
 member-first i xs = rw (eq-eqb i i refl) refl
-
--- each node after all that it reads
-abbrev pub Ordered : List ℕ → List Node → Type 0
-Ordered done [] = Unit {0}
-Ordered done (n ∷ ns) = (ready done (reads n) ≡ true) × Ordered (n .id ∷ done) ns
 
 -- from a state on: every node that is left, once, each after all that it reads
 pub record Right (done : List ℕ) (left os : List Node) : Type 0 where
@@ -363,21 +360,72 @@ module _ (ns : List Node) (own : (n : Node) → Is n ns → findNode (n .id) ns 
       let g = good-end os [] within o none-done in
       g i i (rw e (ends-has os [] n (has n is))) p .1 refl
 
--- an order: each node of the table, after all that it reads
-pub record Orders (ns os : List Node) : Type 0 where
-  pub within : (n : Node) → Is n os → Is n ns
-  pub has : (n : Node) → Is n ns → Is n os
-  pub ordered : Ordered [] os
+-- ---- each once
+
+-- how many have the id
+abbrev count : ℕ → List Node → ℕ
+count i = sum (λ n. cond (eqb (n .id) i) 1 0)
+
+absent-count : (i : ℕ) (ns : List Node) → member i (ids ns) ≡ false → count i ns ≡ 0
+absent-count i [] e = refl
+absent-count i (n ∷ ns) e = go (eqb (n .id) i) e (absent-count i ns)
+  where
+    go : (b : Bool) → cond b true (member i (ids ns)) ≡ false → (member i (ids ns) ≡ false → count i ns ≡ 0) → cond b 1 0 + count i ns ≡ 0
+    go true e ih = let z : _≡_ {A = ℕ} 0 1 = cc in absurd (omega arith)
+    go false e ih = let z = ih e in omega arith
+
+member-count : (i : ℕ) (ns : List Node) → member i (ids ns) ≡ true → 1 ≤ count i ns
+member-count i [] e = let z : _≡_ {A = ℕ} 0 1 = cc in absurd (omega arith)
+member-count i (n ∷ ns) e = go (eqb (n .id) i) e (member-count i ns)
+  where
+    go : (b : Bool) → cond b true (member i (ids ns)) ≡ true → (member i (ids ns) ≡ true → 1 ≤ count i ns) → 1 ≤ cond b 1 0 + count i ns
+    go true e ih = omega arith
+    go false e ih = let z = ih e in omega arith
+
+distinct-count : (ns : List Node) → Distinct (ids ns) → (i : ℕ) → count i ns ≤ 1
+distinct-count [] d i = omega arith
+distinct-count (n ∷ ns) (m, d) i = go (eqb (n .id) i) refl (distinct-count ns d i)
+  where
+    go : (b : Bool) → eqb (n .id) i ≡ b → count i ns ≤ 1 → cond b 1 0 + count i ns ≤ 1
+    go true q l =
+        let z : count i ns ≡ 0 = absent-count i ns (subst (λ (j : ℕ). member j (ids ns) ≡ false) (eqb-true (n .id) i q) m) in
+        omega arith
+    go false q l = omega arith
+
+count-distinct : (ns : List Node) → ((i : ℕ) → count i ns ≤ 1) → Distinct (ids ns)
+count-distinct [] h = tt
+count-distinct (n ∷ ns) h = (go (member (n .id) (ids ns)) refl, count-distinct ns (λ i. let l : count i (n ∷ ns) ≤ 1 = h i in omega arith))
+  where
+    go : (b : Bool) → member (n .id) (ids ns) ≡ b → b ≡ false
+    go true e =
+        let a : 1 ≤ count (n .id) ns = member-count (n .id) ns e in
+        let l : cond (eqb (n .id) (n .id)) 1 0 + count (n .id) ns ≤ 1 = h (n .id) in
+        let q : _≡_ {A = ℕ} (cond (eqb (n .id) (n .id)) 1 0) 1 = rw (eq-eqb (n .id) (n .id) refl) refl in
+        absurd (omega arith)
+    go false e = refl
+
+-- the schedule has no id twice
+pub schedule-distinct : (early : List Function) (f : Function) → Sound early f → Distinct (ids (f .nodes)) → Distinct (ids (schedule (f .nodes)))
+schedule-distinct early f s d =
+    count-distinct (schedule (f .nodes)) (λ i. rw (scheduled early f s .total (λ n. cond (eqb (n .id) i) 1 0)) (distinct-count (f .nodes) d i))
 
 -- where no earlier fault stands, 13 is not given exactly when there is an order
-pub order-iff : (early : List Function) (f : Function) → Resolved early f → (loopFree f ≡ ok tt → (os : List Node) × Orders (f .nodes) os)
-    × ((os : List Node) × Orders (f .nodes) os → loopFree f ≡ ok tt)
-order-iff early f r = (there, back)
+pub order-iff : (early : List Function) (f : Function) → Resolved early f → Distinct (ids (f .nodes))
+    → (loopFree f ≡ ok tt) ↔ ((os : List Node) × Orders (f .nodes) os)
+order-iff early f r d = (there, back)
   where
     there : loopFree f ≡ ok tt → (os : List Node) × Orders (f .nodes) os
     there e =
-        let right = scheduled early f (record { resolved = r; free = loop-free-iff f .0 e }) in
-        (schedule (f .nodes), record { within = schedule-within (f .nodes); has = right .has; ordered = right .ordered })
+        let s : Sound early f = record { resolved = r; free = loop-free-iff f .0 e } in
+        let right = scheduled early f s in (
+          schedule (f .nodes),
+          record {
+            within = schedule-within (f .nodes);
+            has = right .has;
+            once = schedule-distinct early f s d;
+            ordered = right .ordered;
+          },
+        )
 
     back : (os : List Node) × Orders (f .nodes) os → loopFree f ≡ ok tt
     back (os, o) =

@@ -77,3 +77,37 @@ module _ {A : Type 0} where
   is-each P [] h x i = absurd i
   is-each P (y ∷ ys) (p, h) x (inl e) = subst P (sym e) p
   is-each P (y ∷ ys) (p, h) x (inr i) = is-each P ys h x i
+
+-- ---- a fault is the first step's, or that step passed and it is of the rest
+
+module _ {A B : Type 0} where
+  pub took-fault : (g : Outcome A) (k : A → Outcome B) (n p : ℕ) → (g >>= k) ≡ fault n p → (g ≡ fault n p) ⊎ ((a : A) × (g ≡ ok a) × (k a ≡ fault n p))
+  unfolding _>>=_
+  took-fault (ok a) k n p e = inr (a, refl, e)
+  took-fault (fault m q) k n p e = let a : m ≡ n = cc in let b : q ≡ p = cc in inl (rw (a, b) refl)
+
+  pub after-fault : (g : Outcome A) (h : Outcome B) (n p : ℕ) → (g >> h) ≡ fault n p → (g ≡ fault n p) ⊎ ((a : A) × (g ≡ ok a) × (h ≡ fault n p))
+  unfolding _>>_
+  after-fault (ok a) h n p e = inr (a, refl, e)
+  after-fault (fault m q) h n p e = let a : m ≡ n = cc in let b : q ≡ p = cc in inl (rw (a, b) refl)
+
+module _ {B : Type 0} where
+  pub passed-fault : (t : Bool) (m q : ℕ) (g : Outcome B) (n p : ℕ) → (need t m q >> g) ≡ fault n p
+      → ((t ≡ false) × (m ≡ n) × (q ≡ p)) ⊎ ((t ≡ true) × (g ≡ fault n p))
+  unfolding need _>>_
+  passed-fault true m q g n p e = inr (refl, e)
+  passed-fault false m q g n p e = inl (refl, cc, cc)
+
+  pub no-fault : (b : B) (n p : ℕ) → ok b ≡ fault n p → ⊥
+  no-fault b n p e = let z : _≡_ {A = ℕ} 0 1 = cc in omega arith
+
+pub needed-fault : (t : Bool) (m q n p : ℕ) → need t m q ≡ fault n p → (t ≡ false) × (m ≡ n) × (q ≡ p)
+unfolding need
+needed-fault true m q n p e = let z : _≡_ {A = ℕ} 0 1 = cc in absurd (omega arith)
+needed-fault false m q n p e = (refl, cc, cc)
+
+module _ {A B C : Type 0} where
+  pub then-then : (g : Outcome A) (h : Outcome B) (k : Outcome C) → (g >> h >> k) ≡ (g >> (h >> k))
+  unfolding _>>_
+  then-then (ok a) h k = refl
+  then-then (fault n p) h k = refl

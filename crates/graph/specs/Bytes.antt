@@ -1,6 +1,6 @@
 -- Numbers in bytes, the lowest byte first. Behind the end a byte is 0.
-use Prim.Native.Nat.{ℕ, _+_, _*_, _^_, _<_}
-use mathlib.Core.List.{List}
+use Prim.Native.Nat.{ℕ, zero, suc, _+_, _*_, _/_, _%_, _^_, _<_}
+use mathlib.Core.List.{List, [], _∷_, _++_}
 use lib.ListN.{getD}
 
 abbrev pub byte : List ℕ → ℕ → ℕ
@@ -17,3 +17,14 @@ u64 s at =
 -- a list of bytes
 abbrev pub Bytes : List ℕ → Type 0
 Bytes s = (i : ℕ) → byte s i < 256
+
+-- ---- writing
+
+-- n bytes of a number, the lowest first
+abbrev pub bytesOf : ℕ → ℕ → List ℕ
+bytesOf zero x = []
+bytesOf (suc n) x = x % 256 ∷ bytesOf n (x / 256)
+
+abbrev pub allBytes : ℕ → List ℕ → List ℕ
+allBytes n [] = []
+allBytes n (x ∷ xs) = bytesOf n x ++ allBytes n xs

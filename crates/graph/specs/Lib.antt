@@ -10,4 +10,8 @@ pub mod Schedule
 pub mod Table
 pub mod Meaning
 pub mod Sound
+pub mod Orders
+pub mod Written
+pub mod Checks
+pub mod Reading
 pub mod Rules

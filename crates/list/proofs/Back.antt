@@ -5,7 +5,6 @@ use mathlib.Core.Bool.{Bool, true, false, _&&_}
 use mathlib.Core.List.{List, [], _∷_, _++_, map}
 use mathlib.Core.Option.{Option, none, some}
 use native.Mathlib.Omega.{arith}
-use native.Mathlib.Nat.{pow-succ', mul-suc}
 use native.Mathlib.Numerals.{add-one}
 use lib.Dec.{leb, ltb, eqb}
 use lib.ListN.{length, length-append}
@@ -22,7 +21,7 @@ use Rattle.graph.proofs.Loops.{and-both}
 use Rattle.list.specs.Board.{Instruction, BoardList}
 use Rattle.list.specs.Code.{bytesOf, allBytes, instructionCode, instructionsCode, headerCode, encode, guard, then, addresses, allBelow, allLess, readOperands, readKind, readInstruction, nextWord, Listed, readInstructions, readOutputs, withinLimits, readCounts, marked, decode}
 use Rattle.list.specs.Fit.{Below, Fit, AllFit, FitList}
-use Rattle.list.proofs.Memory.{cons-head, cons-tail, split}
+use Rattle.graph.proofs.Stands.{cons, cons-head, cons-tail, split, all-length, Here, u16-read, constants-read}
 
 module _ {A : Type 0} where
   pub guarded : (t : Bool) (o : Option A) → t ≡ true → guard t o ≡ o
@@ -34,69 +33,15 @@ module _ {A B : Type 0} where
   unfolding then
   then-some o k a e = rw e refl
 
--- ---- bytes
+addresses-read : (s xs : List ℕ) (at : ℕ) → Each (λ a. a < 65536) xs → Here s at (allBytes 2 xs) → addresses (length xs) s at ≡ xs
+addresses-read s [] at l h = refl
+addresses-read s (x ∷ xs) at (l, ls) h =
+    let (p, q) = split s (bytesOf 2 x) (allBytes 2 xs) at h in
+    cons (u16-read s x at l p) (addresses-read s xs (at + 2) ls q)
 
-bytes-length : (n x : ℕ) → length (bytesOf n x) ≡ n
-bytes-length zero x = refl
-bytes-length (suc n) x = ap suc (bytes-length n (x / 256))
-
-all-length : (n : ℕ) (xs : List ℕ) → length (allBytes n xs) ≡ n * length xs
-all-length n [] = omega arith
-all-length n (x ∷ xs) =
-    let a : length (allBytes n xs) ≡ n * length xs = all-length n xs in
-    let b : length (bytesOf n x) ≡ n = bytes-length n x in
-    let c : n * suc (length xs) ≡ n * length xs + n = mul-suc n (length xs) in
-    length-append (bytesOf n x) (allBytes n xs) ∙ omega arith
-
-module _ (s : List ℕ) where
-  -- xs stands in s at a place
-  abbrev Here : ℕ → List ℕ → Type 0
-  Here at xs = wordsAt s at (length xs) ≡ xs
-
-  -- n bytes from `at`, the lowest first
-  abbrev little : ℕ → ℕ → ℕ
-  little zero at = 0
-  little (suc n) at = byte s at + 256 * little n (at + 1)
-
-  little-read : (n x at : ℕ) → x < 256 ^ n → Here at (bytesOf n x) → little n at ≡ x
-  little-read zero x at l h = omega arith
-  little-read (suc n) x at l h =
-      let p : 256 ^ suc n ≡ 256 * 256 ^ n = pow-succ' 256 n in
-      let a : byte s at ≡ x % 256 = cons-head h in
-      let b : little n (suc at) ≡ x / 256 = little-read n (x / 256) (suc at) (omega arith) (cons-tail h) in
-      let c : little n (at + 1) ≡ x / 256 = subst (λ (i : ℕ). little n i ≡ x / 256) (sym (add-one at)) b in
-      omega arith
-
-  u16-read : (x at : ℕ) → x < 256 ^ 2 → Here at (bytesOf 2 x) → u16 s at ≡ x
-  u16-read x at l h = let a : little 2 at ≡ x = little-read 2 x at l h in omega arith
-
-  u64-read : (x at : ℕ) → x < 256 ^ 8 → Here at (bytesOf 8 x) → u64 s at ≡ x
-  u64-read x at l h =
-      let a : little 8 at ≡ x = little-read 8 x at l h in
-      let e2 : at + 1 + 1 ≡ at + 2 = omega arith in
-      let e3 : at + 2 + 1 ≡ at + 3 = omega arith in
-      let e4 : at + 3 + 1 ≡ at + 4 = omega arith in
-      let e5 : at + 4 + 1 ≡ at + 5 = omega arith in
-      let e6 : at + 5 + 1 ≡ at + 6 = omega arith in
-      let e7 : at + 6 + 1 ≡ at + 7 = omega arith in
-      let b = rw (e2, e3, e4, e5, e6, e7) at a in
-      omega (arith, b)
-
-  addresses-read : (xs : List ℕ) (at : ℕ) → Each (λ a. a < 65536) xs → Here at (allBytes 2 xs) → addresses (length xs) s at ≡ xs
-  addresses-read [] at l h = refl
-  addresses-read (x ∷ xs) at (l, ls) h =
-      let (p, q) = split s (bytesOf 2 x) (allBytes 2 xs) at h in
-      let a : u16 s at ≡ x = u16-read x at l p in
-      let b : addresses (length xs) s (at + 2) ≡ xs = addresses-read xs (at + 2) ls q in
-      cc
-
-  constants-read : (xs : List ℕ) (at : ℕ) → Each Finite xs → Here at (allBytes 8 xs) → constants (length xs) s at ≡ xs
-  constants-read [] at l h = refl
-  constants-read (x ∷ xs) at (l, ls) h =
-      let (p, q) = split s (bytesOf 8 x) (allBytes 8 xs) at h in
-      let a : u64 s at ≡ x = u64-read x at (l .0) p in
-      let b : constants (length xs) s (at + 8) ≡ xs = constants-read xs (at + 8) ls q in
-      cc
+each-word : (xs : List ℕ) → Each Finite xs → Each Word xs
+each-word [] h = tt
+each-word (x ∷ xs) (p, h) = (p .0, each-word xs h)
 
 pub all-finite : (xs : List ℕ) → Each Finite xs → every finite xs ≡ true
 all-finite [] h = refl
@@ -163,7 +108,7 @@ module _ (s : List ℕ) where
       let xs : addresses n s at ≡ i .operands =
       ap (λ (j : ℕ). addresses j s at) (sym nl) ∙ addresses-read s (i .operands) at (below-small next ts (i .operands) l (f .operands)) p in
       let cs : constants c s (at + 2 * n) ≡ i .constants =
-      ap (λ (j : ℕ). constants j s (at + 2 * n)) (sym cl) ∙ constants-read s (i .constants) (at + 2 * n) (f .constants) r′ in
+      ap (λ (j : ℕ). constants j s (at + 2 * n)) (sym cl) ∙ constants-read s (i .constants) (at + 2 * n) (each-word (i .constants) (f .constants)) r′ in
       let stop : at + 2 * n + 8 * c ≡ end = omega arith in
       guarded (legalInstruction (kindOf k) t) _ (f .legal)
       ∙ guarded (leb (at + 2 * n + 8 * c) (length s)) _ (le-leb (at + 2 * n + 8 * c) (length s) (omega arith))

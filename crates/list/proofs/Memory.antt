@@ -13,19 +13,9 @@ use Rattle.value.specs.Values.{wordsOf, allWords, wordAt, valueAt, valueOf, spa
 use Rattle.value.specs.Typed.{Of, Typed}
 use Rattle.value.proofs.Laws.{back-of, of-width, typed-widths}
 use Rattle.value.proofs.Laws as Laws
+use Rattle.graph.proofs.Stands.{cons, split}
 use Rattle.list.specs.Board.{Instruction, valuesAt, execute, executeAll}
 use Rattle.list.specs.Compile.{places}
-
--- ---- lists of words
-
-pub cons-head : {a b : ℕ} {xs ys : List ℕ} → a ∷ xs ≡ b ∷ ys → a ≡ b
-cons-head e = cc
-
-pub cons-tail : {a b : ℕ} {xs ys : List ℕ} → a ∷ xs ≡ b ∷ ys → xs ≡ ys
-cons-tail e = cc
-
-pub cons : {a b : ℕ} {xs ys : List ℕ} → a ≡ b → xs ≡ ys → a ∷ xs ≡ b ∷ ys
-cons p q = cc
 
 -- ---- overwriting
 
@@ -119,14 +109,6 @@ values-at m hi (t ∷ ts) (a ∷ at) (v ∷ vs) (o, h) (p, s) =
     cc
 
 -- ---- writing them
-
--- the words xs ++ ys from a on are xs, and behind them ys
-pub split : (m xs ys : List ℕ) (a : ℕ) → wordsAt m a (length (xs ++ ys)) ≡ xs ++ ys
-    → (wordsAt m a (length xs) ≡ xs) × (wordsAt m (a + length xs) (length ys) ≡ ys)
-split m [] ys a e = (refl, subst (λ (b : ℕ). wordsAt m b (length ys) ≡ ys) (sym (add-zero a)) e)
-split m (x ∷ xs) ys a e =
-    let (p, q) = split m xs ys (suc a) (cons-tail e) in
-    (cons (cons-head e) p, subst (λ (b : ℕ). wordsAt m b (length ys) ≡ ys) (suc-add a (length xs) ∙ sym (add-suc a (length xs))) q)
 
 pub stand-placed : (m : List ℕ) (hi : ℕ) (ts : List ℕ) (vs : List Value) (a : ℕ) → Typed ts vs → a + widths ts ≤ hi
     → wordsAt m a (length (allWords vs)) ≡ allWords vs → Stand m hi (places a ts) vs

@@ -1,5 +1,5 @@
 -- The bytes of a board list, and the reading of them: what is not well formed reads as `none`.
-use Prim.Native.Nat.{ℕ, zero, suc, _+_, _*_, _/_, _%_}
+use Prim.Native.Nat.{ℕ, zero, suc, _+_, _*_}
 use mathlib.Core.Bool.{Bool, true, false, _&&_}
 use mathlib.Core.List.{List, [], _∷_, _++_}
 use mathlib.Core.Option.{Option, none, some}
@@ -9,6 +9,7 @@ use Rattle.ports.specs.Kinds.{kindOf}
 use Rattle.ports.specs.Ports.{width, widths, takes, gives, arity, constantWords, legalInstruction}
 use Rattle.value.specs.Values.{constantWord, every}
 use Rattle.graph.specs.Bytes.{byte, u16}
+pub use Rattle.graph.specs.Bytes.{bytesOf, allBytes}
 use Rattle.graph.specs.Read.{constants, Part}
 use Rattle.list.specs.Board.{Instruction, BoardList}
 
@@ -25,15 +26,6 @@ abbrev pub portWordLimit : ℕ
 portWordLimit = 128
 
 -- ---- writing
-
--- n bytes of a number, the lowest first
-abbrev pub bytesOf : ℕ → ℕ → List ℕ
-bytesOf zero x = []
-bytesOf (suc n) x = x % 256 ∷ bytesOf n (x / 256)
-
-abbrev pub allBytes : ℕ → List ℕ → List ℕ
-allBytes n [] = []
-allBytes n (x ∷ xs) = bytesOf n x ++ allBytes n xs
 
 abbrev pub instructionCode : Instruction → List ℕ
 instructionCode i = i .kind ∷ i .type ∷ allBytes 2 (i .operands) ++ allBytes 8 (i .constants)

@@ -8,7 +8,7 @@ use Rattle.ports.specs.Kinds.{kindOf}
 use Rattle.ports.specs.Ports.{width, takes, constantWords, legalInstruction}
 use Rattle.value.specs.Typed.{Each, Finite}
 use Rattle.list.specs.Board.{Instruction, BoardList}
-use Rattle.list.specs.Code.{operationLimit, wordLimit, portWordLimit, nextWord}
+use Rattle.list.specs.Code.{operationLimit, wordLimit, portWordLimit, nextWord, encode}
 
 -- addresses of values of these types, whose words stand before `next`
 abbrev pub Below : ℕ → List ℕ → List ℕ → Type 0
@@ -37,3 +37,8 @@ pub record FitList (b : BoardList) : Type 0 where
   pub words : b .words ≤ wordLimit
   pub instructions : AllFit (b .arguments) (b .instructions) (b .words)
   pub below : Each (λ a. a < b .words) (b .outputs)
+
+-- 01's well formed: the bytes are the code of such a list
+pub record Codes (s : List ℕ) (b : BoardList) : Type 0 where
+  pub fit : FitList b
+  pub bytes : s ≡ encode b

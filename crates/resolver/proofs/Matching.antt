@@ -13,8 +13,8 @@ use Rattle.graph.specs.Graph.{Node}
 use Rattle.graph.specs.Look.{member}
 use Rattle.graph.specs.Outcome.{ok}
 use Rattle.graph.specs.Judge.{fresh}
-use Rattle.graph.specs.Rules.{Distinct}
-use Rattle.graph.proofs.Exactly.{fresh-distinct}
+use Rattle.graph.specs.Orders.{Distinct}
+use Rattle.graph.proofs.Fresh.{fresh-distinct}
 use Rattle.reader.specs.Layout.{nodeAt, nodeEnd, nodesAt}
 use Rattle.reader.specs.Find.{ReadsNodes}
 use Rattle.reader.proofs.Passed.{first-reads, rest-reads, node-legal}

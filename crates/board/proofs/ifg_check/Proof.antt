@@ -6,7 +6,7 @@ use Rattle.board.proofs.ifg_check.Statement.{statement}
 use Rattle.board.proofs.ifg_check.Tie as tie
 
 returns : tie.Need-returns
-returns c = c .verdict-number .ensures ∙ ap verdictNumber (c .before .check .ensures)
+returns c = c .verdict-number .ensures ∙ ap verdictNumber (c .before .check .ensures .0)
 
 pub ifg-check-spec : {M : Type 1} → statement M
 ifg-check-spec = tie.close (tie.spec (λ c κs. search needs) (λ c κs. search needs) returns)

@@ -1,26 +1,32 @@
 use borrow.Author.Needs.{needs}
 use Prim.Native.Nat.{ℕ}
-use mathlib.Core.Path.{_≡_, ap, sym, _∙_, subst}
-use mathlib.Core.List.{[]}
+use mathlib.Core.Path.{_≡_, refl, ap, sym, _∙_, subst}
+use mathlib.Core.List.{List, []}
 use native.Mathlib.Omega.{arith}
-use Rattle.graph.specs.Bytes.{byte}
+use Rattle.graph.specs.Bytes.{byte, Bytes}
 use Rattle.graph.specs.Read.{version1, parse}
 use Rattle.reader.specs.declared.Seen.{Seen}
-use Rattle.graph.specs.Judge.{judgeAll}
+use Rattle.graph.specs.Judge.{judgeAll, verdict}
+use Rattle.graph.proofs.Exactly.{verdict-iff}
 use Rattle.reader.specs.Layout.{functionsAt}
 use Rattle.reader.specs.Records.{seen}
 use Rattle.checker.specs.declared.Verdict.{Verdict}
-use Rattle.checker.specs.Answers.{verdictOf}
+use Rattle.checker.specs.Answers.{verdictOf, Judged}
 use Rattle.checker.specs.Slots.{ReadsFunctions}
 use Rattle.checker.proofs.Whole.{seen-good, seen-fault, unread, Whole, whole, refused, accepted}
 use Rattle.checker.proofs.check.Statement.{statement}
 use Rattle.checker.proofs.check.Tie as tie
 
+-- the verdict is what 01 gives
+both : (s : List ℕ) → Bytes s → (r : Verdict) → r ≡ verdictOf (verdict s) → (r ≡ verdictOf (verdict s)) × Judged s r
+both s small r e = (e, (verdict s, verdict-iff s small (verdict s) .0 refl, e))
+
 returns : tie.Need-returns
 returns c =
     let r = c .before .before .before in
     let s = r .before .before .args .table .now in
-    ap verdictOf (sym (unread s _ _ (sym (c .before .read .given .1) ∙ r .read-table .ensures)))
+    both s (λ i. omega (arith, r .before .shared-slice-known .given i)) _
+    (ap verdictOf (sym (unread s _ _ (sym (c .before .read .given .1) ∙ r .read-table .ensures))))
 
 -- the table was read
 read : (t : tie.After-enum-told) → Seen.Good ≡ seen (parse version1 (t .before .before .before .before .args .table .now))
@@ -37,15 +43,17 @@ returns-2 c =
     let j = c .before .before in
     let t = j .before .before .before in
     let s = t .before .before .before .before .args .table .now in
-    ap (λ (n : ℕ). Verdict.Accepted n) (j .before .size .ensures .0)
-    ∙ ap verdictOf (sym (accepted s (read t) (seen-good _ (sym (c .enum-told2 .given .1) ∙ judged j))))
+    both s (λ i. omega (arith, t .before .before .before .shared-slice-known .given i)) _
+    (ap (λ (n : ℕ). Verdict.Accepted n) (j .before .size .ensures .0)
+    ∙ ap verdictOf (sym (accepted s (read t) (seen-good _ (sym (c .enum-told2 .given .1) ∙ judged j)))))
 
 returns-3 : tie.Need-returns-3
 returns-3 c =
     let j = c .before .before .before in
     let t = j .before .before .before in
     let s = t .before .before .before .before .args .table .now in
-    ap verdictOf (sym (refused s (read t) _ _ (seen-fault _ _ _ (sym (c .before .judged .given .1) ∙ judged j))))
+    both s (λ i. omega (arith, t .before .before .before .shared-slice-known .given i)) _
+    (ap verdictOf (sym (refused s (read t) _ _ (seen-fault _ _ _ (sym (c .before .judged .given .1) ∙ judged j)))))
 
 sound : (t : tie.After-enum-told) → Whole (t .before .before .before .before .args .table .now)
 sound t =

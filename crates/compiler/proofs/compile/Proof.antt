@@ -8,7 +8,7 @@ use Rattle.compiler.proofs.compile.Statement.{statement}
 use Rattle.compiler.proofs.compile.Tie as tie
 
 compile-accepted-requires : tie.Need-compile-accepted-requires
-compile-accepted-requires c κs = accepts (c .before .before .before .before .before .before .before .args .table .now) (λ q. omega (arith, c .before .before .before .before .before .before .shared-slice-known .given q)) _ (sym (c .before .before .before .before .check .ensures) ∙ c .before .before .verdict .given .1)
+compile-accepted-requires c κs = accepts (c .before .before .before .before .before .before .before .args .table .now) (λ q. omega (arith, c .before .before .before .before .before .before .shared-slice-known .given q)) _ (sym (c .before .before .before .before .check .ensures .0) ∙ c .before .before .verdict .given .1)
 
 returns : tie.Need-returns
 returns c = c .before .before .compile-accepted .ensures
@@ -19,7 +19,7 @@ same-length c = c .before .before .compile-accepted .kept .1 .1 .1 .0
 returns-2 : tie.Need-returns-2
 returns-2 c =
     let a = c .before .before .before .before .before .before .args in
-    let e = refuses (a .table .now) (a .id) (a .code .now) _ _ (sym (c .before .before .before .check .ensures) ∙ c .before .verdict2 .given .1) in
+    let e = refuses (a .table .now) (a .id) (a .code .now) _ _ (sym (c .before .before .before .check .ensures .0) ∙ c .before .verdict2 .given .1) in
     (sym (ap answerOf e), sym (ap (codeAfter (a .code .now)) e))
 
 pub compile-spec : {M : Type 1} → statement M

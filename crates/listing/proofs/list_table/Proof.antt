@@ -14,7 +14,7 @@ list-accepted-requires : tie.Need-list-accepted-requires
 list-accepted-requires c κs =
     let v = c .before .before .before .before .check in
     let s = c .before .before .before .before .before .before .args .table .now in
-    is-accepted (verdict s) (sym (c .before .before .verdict .given .1) ∙ v .ensures)
+    is-accepted (verdict s) (sym (c .before .before .verdict .given .1) ∙ v .ensures .0)
 
 returns : tie.Need-returns
 returns c =
@@ -27,7 +27,7 @@ returns-2 c =
     let v = c .before .before .before .before .before .check in
     let s = c .before .before .before .before .before .before .before .args .table .now in
     let e = c .put-refused .ensures in
-    let f = is-refused (verdict s) (sym (c .before .before .before .verdict2 .given .1) ∙ v .ensures) in
+    let f = is-refused (verdict s) (sym (c .before .before .before .verdict2 .given .1) ∙ v .ensures .0) in
     let (w, l) = from-zero (same (listing-refused s _ _ f) (e .0)) in
     (w, (l, e .1))
 

@@ -15,7 +15,7 @@ small : (d : tie.After-known-told) → Bytes (d .before .before .before .before 
 small d q = omega (arith, d .before .before .before .before .shared-slice-known .given q)
 
 accepted : (d : tie.After-known-told) → verdict (d .before .before .before .before .before .args .table .now) ≡ ok (d .before .answer .given .0 .0)
-accepted d = is-accepted (verdict (d .before .before .before .before .before .args .table .now)) (d .before .answer .given .0 .0) (sym (d .before .answer .given .1) ∙ d .before .before .before .check .ensures)
+accepted d = is-accepted (verdict (d .before .before .before .before .before .args .table .now)) (d .before .answer .given .0 .0) (sym (d .before .answer .given .1) ∙ d .before .before .before .check .ensures .0)
 
 find-starts-requires : tie.Need-find-starts-requires
 find-starts-requires c κs =
@@ -56,7 +56,7 @@ returns-2 c =
 returns-3 : tie.Need-returns-3
 returns-3 c =
     let a = c .before .before .before .before .before .args in
-    named-refused (a .table .now) (a .id) _ _ (is-refused (verdict (a .table .now)) _ _ (sym (c .before .answer2 .given .1) ∙ c .before .before .before .check .ensures))
+    named-refused (a .table .now) (a .id) _ _ (is-refused (verdict (a .table .now)) _ _ (sym (c .before .answer2 .given .1) ∙ c .before .before .before .check .ensures .0))
 
 pub find-named-spec : {M : Type 1} → statement M
 find-named-spec =
