@@ -1,4 +1,4 @@
-//! Links the archive libboard.a: from the folder in QUETLAPIN_LIB_DIR, or from
+//! Links the archive libquetlapin.a: from the folder in QUETLAPIN_LIB_DIR, or from
 //! ../target/staticlib.
 
 use std::path::PathBuf;
@@ -12,12 +12,12 @@ fn main() {
     };
     println!(
         "cargo::rerun-if-changed={}",
-        folder.join("libboard.a").display()
+        folder.join("libquetlapin.a").display()
     );
-    if !folder.join("libboard.a").exists() {
-        println!("cargo::warning=libboard.a is not in {}", folder.display());
+    if !folder.join("libquetlapin.a").exists() {
+        println!("cargo::warning=libquetlapin.a is not in {}", folder.display());
     }
     println!("cargo::rustc-link-search=native={}", folder.display());
-    println!("cargo::rustc-link-lib=static:-bundle=board");
+    println!("cargo::rustc-link-lib=static:-bundle=quetlapin");
     println!("cargo::rustc-link-lib=m");
 }

@@ -1,6 +1,6 @@
 /* Quetlapin: checks graph tables (IFG), compiles them to board lists (IFR) and runs these.
  *
- * Link with libboard.a and the mathematics library (-lm).
+ * Link with libquetlapin.a and the mathematics library (-lm).
  *
  * Every function answers for every input. None keeps a pointer, takes memory or
  * has a state: all it uses is lent by the caller. A pointer may be anything that

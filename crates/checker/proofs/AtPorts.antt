@@ -10,7 +10,7 @@ use Rattle.ports.specs.declared.Form.{Form}
 use Rattle.ports.specs.declared.Form.the-variants.{Absent, Constant, References, Call}
 use Rattle.ports.specs.declared.Ports.{Ports}
 use Rattle.ports.specs.Ports.{portsOf, formOf, gives, givesRow}
-use Rattle.graph.specs.Bytes.{byte, u16}
+use Rattle.base.specs.Bytes.{byte, u16}
 use Rattle.graph.specs.Graph.{Payload, Node, Function}
 use Rattle.graph.specs.Look.{findFunction}
 use Rattle.graph.specs.Judge.{givesOf, outputsOf, outputTypes}

@@ -11,13 +11,13 @@ use lib.ListN.{length}
 use Rattle.ports.specs.declared.Form.{Form}
 use Rattle.ports.specs.declared.Form.the-variants.{Absent, Constant, References, Call}
 use Rattle.ports.specs.Ports.{formOf}
-use Rattle.graph.specs.Outcome.{Outcome, ok, fault, need, each}
-use Rattle.graph.specs.Bytes.{byte, u16}
+use Rattle.base.specs.Outcome.{Outcome, ok, fault, need, each}
+use Rattle.base.specs.Bytes.{byte, u16}
 use Rattle.graph.specs.Graph.{Payload, Node, Function}
 use Rattle.graph.specs.Look.{findFunction, found}
 use Rattle.graph.specs.Read.{references}
 use Rattle.graph.specs.Judge.{callOk, inputsOf}
-use Rattle.graph.proofs.Steps.{takes, stops}
+use Rattle.base.proofs.Outcomes.{takes, stops}
 use Rattle.graph.proofs.Formed.{refs-length}
 use Rattle.reader.specs.Layout.{kindAt, payloadAt, nodeAt, nodeEnd, nodesAt, inputsAt, functionAt}
 

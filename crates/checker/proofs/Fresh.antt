@@ -11,12 +11,12 @@ use lib.Dec.{eqb}
 use lib.ListN.{length, getD, set}
 use lib.Seq.{getD-set-same, getD-set-other}
 use borrow.Author.Tests.{eq-eqb, ne-eqb}
-use Rattle.graph.specs.Outcome.{Outcome, ok, fault, need}
-use Rattle.graph.specs.Bytes.{u16}
+use Rattle.base.specs.Outcome.{Outcome, ok, fault, need}
+use Rattle.base.specs.Bytes.{u16}
 use Rattle.graph.specs.Graph.{Node}
 use Rattle.graph.specs.Look.{findNode, found}
 use Rattle.graph.specs.Judge.{fresh}
-use Rattle.graph.proofs.Steps.{passes, fails}
+use Rattle.base.proofs.Outcomes.{passes, fails}
 use Rattle.reader.specs.Layout.{nodeAt, nodeEnd, nodesAt}
 use Rattle.reader.specs.Find.{ReadsNodes}
 use Rattle.reader.proofs.Passed.{first-reads, rest-reads}

@@ -10,13 +10,13 @@ use lib.Dec.{eqb}
 use lib.ListN.{length, getD, getElem?}
 use lib.Seq.{sets}
 use borrow.Author.Tests.{ne-eqb}
-use Rattle.graph.specs.Bytes.{u16}
+use Rattle.base.specs.Bytes.{u16}
 use Rattle.graph.specs.Graph.{Ref, Node}
 use Rattle.graph.specs.Look.{findNode, reads}
 use Rattle.graph.specs.Read.{reference, references}
-use Rattle.topology.specs.Indices.{slot}
-use Rattle.topology.specs.Resolve.{indexOf, target}
-use Rattle.topology.proofs.Nodes.{index-of}
+use Rattle.order.specs.Indices.{slot}
+use Rattle.order.specs.Resolve.{indexOf, target}
+use Rattle.order.proofs.Nodes.{index-of}
 use Rattle.reader.specs.Layout.{nodeAt, nodesAt, nodePlace, nodeCount, nodesPlace, functionAt}
 use Rattle.reader.specs.Find.{ReadsNodes}
 use Rattle.reader.proofs.Passed.{function-holds}

@@ -12,20 +12,20 @@ use lib.ListN.{length, getD, set, getElem?}
 use lib.Seq.{getD-set-same, getD-set-other}
 use borrow.Author.Tests.{leb-true, eqb-true, eqb-false}
 use Rattle.ports.specs.Kinds.{kindOf}
-use Rattle.graph.specs.Outcome.{Outcome, ok, fault, _>>_, each}
-use Rattle.graph.specs.Bytes.{byte, u16, Bytes}
+use Rattle.base.specs.Outcome.{Outcome, ok, fault, _>>_, each, Part}
+use Rattle.base.specs.Bytes.{byte, u16, Bytes}
 use Rattle.graph.specs.Graph.{Payload, consts, refs, calls, Node, Function}
 use Rattle.graph.specs.Look.{findFunction, found, reads, readsOf}
-use Rattle.graph.specs.Read.{version1, Part, functions, parse}
+use Rattle.graph.specs.Read.{version1, functions, parse}
 use Rattle.graph.specs.Sound.{FormedPayload, FormedNode, Formed}
 use Rattle.graph.specs.Judge.{fresh, callOk, refOk, refsOk, wantsOf, loopFree, judge, judgeAll, table, verdict}
-use Rattle.graph.proofs.Loops.{and-inv}
-use Rattle.graph.proofs.Steps.{took, passed, takes, stops, goes, halts, passes, fails, is-each}
+use Rattle.base.proofs.Bools.{and-inv}
+use Rattle.base.proofs.Outcomes.{took, passed, takes, stops, goes, halts, passes, fails, is-each}
 use Rattle.graph.proofs.Formed.{function-formed}
 use Rattle.graph.proofs.Accept.{resolved-by}
 use Rattle.graph.proofs.Order.{wired-in}
-use Rattle.topology.specs.Resolve.{target}
-use Rattle.topology.proofs.Nodes.{some-is, at-below}
+use Rattle.order.specs.Resolve.{target}
+use Rattle.order.proofs.Nodes.{some-is, at-below}
 use Rattle.reader.specs.Layout.{nodeAt, nodeEnd, nodesAt, nodePlace, nodeCount, nodesPlace, functionAt, functionEnd, functionsAt, functionPlace, earlier}
 use Rattle.reader.specs.Find.{ReadsFunction, Started}
 use Rattle.reader.specs.Records.{seen}

@@ -16,13 +16,13 @@ use Rattle.ports.specs.declared.Form.the-variants.{Absent, Constant, References
 use Rattle.ports.specs.declared.Ports.{Ports}
 use Rattle.ports.specs.Ports.{portsOf, formOf, types, takesRow}
 use Rattle.ports.proofs.Laws.{length-types}
-use Rattle.graph.specs.Outcome.{ok, fault, need}
-use Rattle.graph.specs.Bytes.{byte, u16}
+use Rattle.base.specs.Outcome.{ok, fault, need}
+use Rattle.base.specs.Bytes.{byte, u16}
 use Rattle.graph.specs.Graph.{Function}
 use Rattle.graph.specs.Look.{findNode, findFunction, reads, readsOf}
 use Rattle.graph.specs.Read.{version1, reference, references}
 use Rattle.graph.specs.Judge.{callOk, inputsOf, refType, refOk, wantsOf, givesOf}
-use Rattle.graph.proofs.Steps.{takes, stops, goes, halts, needed}
+use Rattle.base.proofs.Outcomes.{takes, stops, goes, halts, needed}
 use Rattle.reader.specs.Layout.{kindAt, payloadAt, nodeAt, nodesAt, nodeCount, nodesPlace, inputsAt, outputsAt, functionAt, earlier}
 use Rattle.checker.specs.declared.PortType.{PortType}
 use Rattle.checker.specs.declared.Want.{Want}

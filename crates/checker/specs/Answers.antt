@@ -6,7 +6,7 @@ use mathlib.Core.Option.{Option, none, some}
 use lib.Dec.{eqb}
 use lib.ListN.{length, getD}
 use Rattle.ports.specs.Ports.{types}
-use Rattle.graph.specs.Outcome.{Outcome, ok, fault, each}
+use Rattle.base.specs.Outcome.{Outcome, ok, fault, each}
 use Rattle.graph.specs.Graph.{Ref, Node, Output, Function}
 use Rattle.graph.specs.Look.{reads}
 use Rattle.graph.specs.Read.{version1, reference}

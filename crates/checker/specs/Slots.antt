@@ -4,13 +4,13 @@ use mathlib.Core.Path.{_≡_}
 use mathlib.Core.List.{List}
 use mathlib.Core.Option.{some}
 use lib.ListN.{length, getD, getElem?}
-use Rattle.graph.specs.Outcome.{ok}
+use Rattle.base.specs.Outcome.{ok, Part}
 use Rattle.graph.specs.Graph.{Node, Function}
 use Rattle.graph.specs.Look.{findNode, reads}
-use Rattle.graph.specs.Read.{version1, Part, reference, functions}
-use Rattle.graph.specs.Sound.{Is}
-use Rattle.topology.specs.Indices.{slot}
-use Rattle.topology.specs.Resolve.{target, Resolves}
+use Rattle.graph.specs.Read.{version1, reference, functions}
+use Rattle.base.specs.Lists.{Is}
+use Rattle.order.specs.Indices.{slot}
+use Rattle.order.specs.Resolve.{target, Resolves}
 use Rattle.reader.specs.Layout.{nodeAt, nodePlace, nodeCount, nodesPlace, functionAt}
 use Rattle.reader.specs.Find.{ReadsFunction, Started}
 use Rattle.checker.specs.declared.Head.{Head}

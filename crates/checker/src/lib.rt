@@ -5,11 +5,11 @@ ghost use mathlib.Core.List.{[]};
 ghost use mathlib.Core.Option.{some};
 ghost use lib.ListN.{length, getD, getElem?};
 ghost use Rattle.ports.specs.Ports.{givesRow};
-ghost use Rattle.graph.specs.Outcome.{ok, need, each};
+ghost use Rattle.base.specs.Outcome.{ok, need, each};
 ghost use Rattle.graph.specs.Look.{findFunction};
 ghost use Rattle.graph.specs.Read.{version1, reference, references};
 ghost use Rattle.graph.specs.Judge.{fresh, callOk, givesOf, outputsOf, outputTypes, loopFree, judge, judgeAll, verdict};
-ghost use Rattle.topology.specs.Resolve.{target};
+ghost use Rattle.order.specs.Resolve.{target};
 ghost use Rattle.reader.specs.Layout.{nodeAt, nodesAt, nodePlace, nodeCount, nodesPlace, outputsAt, functionAt, functionEnd, functionsAt, earlier};
 ghost use Rattle.reader.specs.Find.{ReadsNode, ReadsNodes, ReadsFunction, Started};
 ghost use Rattle.reader.specs.Records.{seen};
@@ -20,7 +20,7 @@ use ports::Form;
 use ports::Ports;
 use reader::Found;
 use reader::Seen;
-use topology::OnLoop;
+use order::OnLoop;
 
 fn size(x: u8) -> usize
     ensures { λ r. ⌜ (r ≡ x) × (r < 256) ⌝ }
@@ -392,10 +392,10 @@ fn loop_free(s: &[u8], f: Head, targets: &[u16; 4096]) -> Seen
     ensures { λ r. ⌜ r ≡ seen (loopFree (functionAt (now (s .entry)) (f .place))) ⌝ }
 {
     let count = f.count;
-    if topology::orderable(targets, count) {
+    if order::orderable(targets, count) {
         return Seen::Good;
     }
-    let found = topology::first_on_loop(targets, count);
+    let found = order::first_on_loop(targets, count);
     match found {
         OnLoop::At(i) => Seen::Fault(13, reader::node_place(s, f.first, count, i)),
         OnLoop::Nothing => Seen::Good,

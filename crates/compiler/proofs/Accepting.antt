@@ -6,21 +6,21 @@ use mathlib.Core.Logic.{_⊎_, inl, inr, ⊎-elim}
 use native.Mathlib.Omega.{arith}
 use lib.Dec.{leb}
 use borrow.Author.Tests.{leb-true}
-use Rattle.value.specs.Typed.{Each}
-use Rattle.graph.specs.Outcome.{ok, _>>_}
-use Rattle.graph.specs.Bytes.{byte}
+use Rattle.base.specs.Lists.{Each}
+use Rattle.base.specs.Outcome.{ok, _>>_, Part}
+use Rattle.base.specs.Bytes.{byte}
 use Rattle.graph.specs.Graph.{Function}
 use Rattle.graph.specs.Judge.{fresh, table, judgeAll}
-use Rattle.graph.specs.Read.{version1, Part, functions, parse}
+use Rattle.graph.specs.Read.{version1, functions, parse}
 use Rattle.graph.specs.Sound.{AllSound}
 use Rattle.graph.proofs.Fresh.{distinct-fresh}
-use Rattle.graph.proofs.Loops.{and-inv}
-use Rattle.graph.proofs.Steps.{took, passed}
+use Rattle.base.proofs.Bools.{and-inv}
+use Rattle.base.proofs.Outcomes.{took, passed}
 use Rattle.reader.specs.Layout.{nodesAt, nodeCount, nodesPlace, functionAt, functionPlace, earlier}
 use Rattle.reader.specs.Find.{ReadsNodes, ReadsFunction}
 use Rattle.reader.proofs.Passed.{function-holds}
-use Rattle.sizes.specs.Position.{placeOf, functionIn, before, Fit}
-use Rattle.sizes.proofs.Accepted.{at-places, function-fit}
+use Rattle.sums.specs.Position.{placeOf, functionIn, before, Fit}
+use Rattle.sums.proofs.Accepted.{at-places, function-fit}
 use Rattle.compiler.specs.Spotting.{Accepted}
 use Rattle.compiler.proofs.Spots.{Single, accepted-single}
 

@@ -13,13 +13,13 @@ use Rattle.ports.specs.Kinds.{kindOf}
 use Rattle.ports.specs.Ports.{widths, constantWords, constantIn, formOf, portsOf}
 use Rattle.ports.specs.declared.Form.{Form}
 use Rattle.ports.specs.declared.Form.the-variants.{Absent, Constant, References, Call}
-use Rattle.graph.specs.Outcome.{Outcome, ok, fault, _>>=_, _>>_, need}
-use Rattle.graph.specs.Bytes.{Bytes, byte, u16}
+use Rattle.base.specs.Outcome.{Outcome, ok, fault, _>>=_, _>>_, need}
+use Rattle.base.specs.Bytes.{Bytes, byte, u16}
 use Rattle.graph.specs.Graph.{Payload, consts, refs, calls, Node, Function}
 use Rattle.graph.specs.Judge.{table, verdict, judgeAll, outputTypes}
 use Rattle.graph.specs.Read.{version1, parse}
 use Rattle.graph.specs.Sound.{AllSound}
-use Rattle.graph.proofs.Steps.{took, passed, ok-is}
+use Rattle.base.proofs.Outcomes.{took, passed, ok-is}
 use Rattle.graph.proofs.Formed.{accepted}
 use Rattle.graph.specs.Sums.{sum, nodeOperations, functionOperations, operationsOf, functionWords}
 use Rattle.graph.specs.Table.{Chosen, chosen}
@@ -27,18 +27,19 @@ use Rattle.reader.specs.Layout.{inputCount, outputCount, outputsPlace, function
 use Rattle.reader.proofs.Standing.{table-read}
 use Rattle.checker.specs.declared.Verdict.{Verdict}
 use Rattle.checker.specs.Answers.{verdictOf}
-use Rattle.list.specs.Compile.{places, boardListOf}
-use Rattle.list.specs.Answers.{compiled}
-use Rattle.sizes.specs.CodeSums.{nodeBytes, functionBytes, bytesOfFunction}
-use Rattle.sizes.specs.Position.{placeOf, functionIn, before, positionOf}
-use Rattle.sizes.specs.Capped.{operationsAt, wordsAt, instructionsAt, bytesAt}
+use Rattle.bytecode.specs.Run.{places}
+use Rattle.lowering.specs.Compile.{boardListOf}
+use Rattle.lowering.specs.Answers.{compiled}
+use Rattle.sums.specs.CodeSums.{nodeBytes, functionBytes, bytesOfFunction}
+use Rattle.sums.specs.Position.{placeOf, functionIn, before, positionOf}
+use Rattle.sums.specs.Capped.{operationsAt, wordsAt, instructionsAt, bytesAt}
 use Rattle.compiler.specs.Spotting.{Accepted}
-use Rattle.sizes.specs.Answers.{typesBy}
+use Rattle.sums.specs.Answers.{typesBy}
 use Rattle.compiler.specs.Whole.{codeAt}
-use Rattle.sizes.proofs.Rows.{narrow}
-use Rattle.sizes.proofs.CodeSizes.{function-instructions, function-operations, encode-length}
-use Rattle.sizes.proofs.Widths.{inputs-are, outputs-are}
-use Rattle.sizes.proofs.Positions.{at-position, no-position}
+use Rattle.sums.proofs.Rows.{narrow}
+use Rattle.sums.proofs.CodeSizes.{function-instructions, function-operations, encode-length}
+use Rattle.sums.proofs.Widths.{inputs-are, outputs-are}
+use Rattle.sums.proofs.Positions.{at-position, no-position}
 use Rattle.compiler.proofs.Accepting.{few, sound-to}
 
 -- ---- instructions and bytes are bounded by the operations

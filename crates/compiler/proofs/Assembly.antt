@@ -6,26 +6,28 @@ use native.Mathlib.Omega.{arith}
 use lib.ListN.{length, getD, replicate, length-append}
 use lib.Seq.{sets, length-sets}
 use borrow.Author.Tests.{lt-ltb, le-ltb}
-use Rattle.value.specs.Typed.{Each}
+use Rattle.base.specs.Lists.{Each}
 use Rattle.ports.specs.Ports.{width, widths}
 use Rattle.graph.specs.Graph.{Function}
 use Rattle.graph.specs.Judge.{outputTypes}
 use Rattle.graph.specs.Sound.{AllSound}
 use Rattle.graph.specs.Sums.{resultWords, resultWordsOf}
 use Rattle.reader.specs.Layout.{outputCount, outputsPlace, functionAt, earlier}
-use Rattle.list.specs.Compile.{places, spans, Opened, openFunction, opened, boardListOf}
-use Rattle.list.specs.Code.{allBytes, headerCode, instructionsCode, encode}
-use Rattle.list.proofs.Limits.{words-of, output-words}
+use Rattle.bytecode.specs.Run.{places, spans}
+use Rattle.lowering.specs.Compile.{Opened, openFunction, opened, boardListOf}
+use Rattle.base.specs.Bytes.{allBytes}
+use Rattle.bytecode.specs.Code.{headerCode, instructionsCode, encode}
+use Rattle.lowering.proofs.Limits.{words-of, output-words}
 use Rattle.compiler.specs.declared.Reached.{Reached}
 use Rattle.compiler.specs.Static.{Spot, nowhere, input, offset, spotAt, closed}
-use Rattle.sizes.specs.Position.{placeOf, functionIn, before}
-use Rattle.sizes.specs.Capped.{wordsAt}
+use Rattle.sums.specs.Position.{placeOf, functionIn, before}
+use Rattle.sums.specs.Capped.{wordsAt}
 use Rattle.compiler.specs.Emit.{Stands, addressOf, addressesIn, functionOpened, Room, Emits, closedAt}
 use Rattle.compiler.specs.Spotting.{Accepted, PortsCoded}
-use Rattle.sizes.specs.Answers.{typesBy}
-use Rattle.sizes.proofs.Widths.{outputs-are}
+use Rattle.sums.specs.Answers.{typesBy}
+use Rattle.sums.proofs.Widths.{outputs-are}
 use Rattle.compiler.specs.Whole.{codeAt, Measured}
-use Rattle.resolver.proofs.Storing.{sets-append}
+use Rattle.base.proofs.Stores.{sets-append}
 use Rattle.compiler.proofs.Bounds.{Within, outputs-within}
 use Rattle.compiler.proofs.Spots.{opened-follows, function-ports}
 use Rattle.compiler.proofs.Words.{function-words}

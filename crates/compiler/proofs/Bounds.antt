@@ -11,15 +11,16 @@ use lib.ListN.{length, getD, getElem?}
 use borrow.Author.Tests.{eqb-true, eq-eqb}
 use Rattle.ports.specs.Kinds.{kindOf}
 use Rattle.ports.specs.Ports.{width, widths, gives}
-use Rattle.value.specs.Typed.{Each}
+use Rattle.base.specs.Lists.{Each, member, Is}
 use Rattle.graph.specs.Graph.{Ref, Payload, consts, refs, calls, Node, Function}
-use Rattle.graph.specs.Look.{member, findNode, findFunction, readsOf, reads, outputRefs}
+use Rattle.graph.specs.Look.{findNode, findFunction, readsOf, reads, outputRefs}
 use Rattle.graph.specs.Schedule.{ready, schedule}
 use Rattle.graph.specs.Judge.{outputTypes, wantsOf, givesOf, givesAt, refType}
-use Rattle.graph.specs.Sound.{Is, Wired, Shaped, Sound, AllSound}
-use Rattle.graph.proofs.Loops.{In, and-inv, and-both, or-left, or-right}
+use Rattle.graph.specs.Sound.{Wired, Shaped, Sound, AllSound}
+use Rattle.graph.proofs.Loops.{In}
+use Rattle.base.proofs.Bools.{and-inv, and-both, or-left, or-right}
 use Rattle.graph.proofs.Order.{ids, in-is, Ordered, scheduled, schedule-within, reads-in}
-use Rattle.list.specs.Compile.{places}
+use Rattle.bytecode.specs.Run.{places}
 use Rattle.compiler.specs.Static.{Spot, nowhere, input, offset, through, Spotted, spotsOf, spotOf, Callee, closedNode, Spread, spread, closedFunction, closed}
 use Rattle.compiler.proofs.Spots.{spotting}
 

@@ -10,11 +10,11 @@ use lib.Dec.{eqb, ltb, leb}
 use lib.ListN.{length, getD, replicate, getElem?, length-map, List·getD-eq-default}
 use lib.Seq.{sets}
 use borrow.Author.Tests.{eqb-true, eqb-false, leb-true, leb-false, lt-ltb, le-ltb}
-use Rattle.value.specs.Typed.{Each}
+use Rattle.base.specs.Lists.{Each}
 use Rattle.ports.specs.declared.Form.{Form}
 use Rattle.ports.specs.declared.Form.the-variants.{Absent, Constant, References, Call}
 use Rattle.ports.specs.Ports.{width, own, portsOf, formOf}
-use Rattle.graph.specs.Bytes.{byte, u16}
+use Rattle.base.specs.Bytes.{byte, u16}
 use Rattle.graph.specs.Graph.{Ref, Payload, calls, Node, Output}
 use Rattle.graph.specs.Look.{reads, readsOf, outputRefs}
 use Rattle.graph.specs.Read.{reference, references}
@@ -22,19 +22,19 @@ use Rattle.graph.proofs.Loops.{In}
 use Rattle.graph.proofs.Order.{ids}
 use Rattle.graph.proofs.Formed.{refs-length}
 use Rattle.reader.specs.Layout.{kindAt, payloadAt, nodeAt, outputsAt, outputCount, outputsPlace, functionAt, earlier}
-use Rattle.list.specs.Compile.{places}
-use Rattle.topology.specs.Indices.{slot}
-use Rattle.topology.specs.Resolve.{indexOf, target}
-use Rattle.topology.proofs.Nodes.{index-of, in-index}
+use Rattle.bytecode.specs.Run.{places}
+use Rattle.order.specs.Indices.{slot}
+use Rattle.order.specs.Resolve.{indexOf, target}
+use Rattle.order.proofs.Nodes.{index-of, in-index}
 use Rattle.compiler.specs.Static.{Spot, nowhere, input, offset, through, Spotted, spotsOf, spotOf, Closed, Callee, closedNode, closed}
-use Rattle.sizes.specs.Position.{placeOf, functionIn, before, positionOf, calling, NodeFit}
+use Rattle.sums.specs.Position.{placeOf, functionIn, before, positionOf, calling, NodeFit}
 use Rattle.compiler.specs.Emit.{closedAt}
 use Rattle.compiler.specs.Spotting.{portCode, readCodes, throughCode, throughCodes, resultCodes, calleeCodes, nodeCodes, Codes, PortsCoded, Knows}
-use Rattle.resolver.proofs.Storing.{sets-in, sets-below, sets-above}
+use Rattle.base.proofs.Stores.{sets-in, sets-below, sets-above}
 use Rattle.compiler.proofs.Bounds.{Within}
-use Rattle.sizes.proofs.Rows.{narrow}
-use Rattle.sizes.proofs.Nodes.{call-payload, call-form}
-use Rattle.sizes.proofs.Positions.{at-position, no-position}
+use Rattle.sums.proofs.Rows.{narrow}
+use Rattle.sums.proofs.Nodes.{call-payload, call-form}
+use Rattle.sums.proofs.Positions.{at-position, no-position}
 
 cmp : (a b : ℕ) → (a < b) ⊎ (b ≤ a)
 cmp a zero = inr (omega arith)

@@ -12,16 +12,16 @@ use Rattle.graph.specs.Look.{reads}
 use Rattle.graph.specs.Schedule.{schedule}
 use Rattle.graph.specs.Sums.{sum}
 use Rattle.reader.specs.Layout.{nodeAt, nodeCount}
-use Rattle.list.specs.Compile.{Opened, Open, openNode, opened}
-use Rattle.list.specs.Board.{Instruction}
-use Rattle.list.specs.Code.{instructionsCode}
+use Rattle.lowering.specs.Compile.{Opened, Open, openNode, opened}
+use Rattle.bytecode.specs.Run.{Instruction}
+use Rattle.bytecode.specs.Code.{instructionsCode}
 use Rattle.compiler.specs.declared.Reached.{Reached}
 use Rattle.compiler.specs.Static.{Spot, nowhere, input, offset, spotAt, Callee, Spotted, closedNode, closed, spread, emitNodes}
-use Rattle.sizes.specs.Position.{placeOf, functionIn, before, NodeFit}
+use Rattle.sums.specs.Position.{placeOf, functionIn, before, NodeFit}
 use Rattle.compiler.specs.Emit.{spotRoom, Stands, addressOf, addressesIn, openWith, nodeOpened, functionOpened, Room, Emits, spotTable, Coded, Placed, closedAt, Laid}
-use Rattle.resolver.proofs.Storing.{sets-append}
+use Rattle.base.proofs.Stores.{sets-append}
 use Rattle.compiler.proofs.Spots.{node-next, opened-follows, function-next, function-table}
-use Rattle.sizes.proofs.CodeSizes.{code-append}
+use Rattle.sums.proofs.CodeSizes.{code-append}
 use Rattle.compiler.proofs.Opening.{open-with}
 
 -- ---- addresses of spots

@@ -6,13 +6,13 @@ use native.Mathlib.Omega.{arith}
 use lib.ListN.{length, getD, set}
 use lib.Seq.{sets, length-sets}
 use Rattle.ports.specs.Ports.{width, widths}
-use Rattle.value.specs.Values.{span}
-use Rattle.graph.specs.Bytes.{byte}
-use Rattle.list.specs.Compile.{spans}
-use Rattle.list.specs.Code.{bytesOf, allBytes, headerCode}
+use Rattle.base.specs.Lists.{span}
+use Rattle.base.specs.Bytes.{byte, bytesOf, allBytes}
+use Rattle.bytecode.specs.Run.{spans}
+use Rattle.bytecode.specs.Code.{headerCode}
 use Rattle.compiler.specs.Emit.{addressOf, addressesIn}
-use Rattle.sizes.specs.Answers.{typesBy}
-use Rattle.resolver.proofs.Storing.{sets-append}
+use Rattle.sums.specs.Answers.{typesBy}
+use Rattle.base.proofs.Stores.{sets-append}
 
 -- ---- type bytes
 

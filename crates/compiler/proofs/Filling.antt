@@ -9,16 +9,16 @@ use native.Mathlib.Nat.{add-zero}
 use lib.Dec.{eqb}
 use lib.ListN.{length, getD, set, getElem?, length-set}
 use lib.Seq.{sets}
-use Rattle.graph.specs.Bytes.{byte}
+use Rattle.base.specs.Bytes.{byte}
 use Rattle.graph.specs.Graph.{Node}
 use Rattle.graph.specs.Read.{reference}
 use Rattle.reader.specs.Layout.{nodeAt, nodeEnd, nodesAt, nodePlace}
 use Rattle.reader.specs.Find.{nodeFound}
 use Rattle.reader.specs.declared.Found.{Found}
 use Rattle.reader.specs.declared.Found.the-variants.{At, Nothing}
-use Rattle.topology.specs.Indices.{slot}
-use Rattle.topology.specs.Resolve.{indexOf, target}
-use Rattle.sizes.specs.Position.{NodeFit, NodesFit}
+use Rattle.order.specs.Indices.{slot}
+use Rattle.order.specs.Resolve.{indexOf, target}
+use Rattle.sums.specs.Position.{NodeFit, NodesFit}
 use Rattle.compiler.specs.Spotting.{Places, Slots, portCode, readCodes, throughCode, throughCodes, resultCodes, outputCodes}
 use Rattle.resolver.specs.Slots.{rowsOf, placesOf}
 use Rattle.resolver.proofs.Rows.{length-nodes, place-at, row-slot, rows-size}

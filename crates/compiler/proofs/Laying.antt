@@ -7,11 +7,11 @@ use borrow.Author.Tests.{lt-ltb, le-ltb}
 use Rattle.ports.specs.declared.Ports.{Ports}
 use Rattle.ports.specs.Kinds.{kindOf}
 use Rattle.ports.specs.Ports.{portsOf, formOf, width, own}
-use Rattle.graph.specs.Bytes.{byte, u16}
+use Rattle.base.specs.Bytes.{byte, u16}
 use Rattle.reader.specs.Layout.{kindAt, outputCount}
-use Rattle.sizes.specs.Position.{placeOf, positionOf, calling}
+use Rattle.sums.specs.Position.{placeOf, positionOf, calling}
 use Rattle.compiler.specs.Spotting.{throughCodes, resultCodes, calleeCodes, nodeCodes}
-use Rattle.sizes.proofs.Nodes.{row-is, form-is}
+use Rattle.sums.proofs.Nodes.{row-is, form-is}
 
 module _ (s outs spots : List ℕ) (k p spot d kind : ℕ) (row : Ports) (ek : kind ≡ byte s (p + 2)) (er : row ≡ portsOf (kindOf kind)) where
   by-call : (b : Bool) → calling (row .form) ≡ b → calling (formOf (kindAt s p)) ≡ b

@@ -6,9 +6,8 @@ use native.Mathlib.Omega.{arith}
 use native.Mathlib.Nat.{add-zero}
 use lib.ListN.{length, getD, set, length-set}
 use lib.Seq.{sets, length-sets}
-use Rattle.graph.specs.Bytes.{byte}
-use Rattle.resolver.proofs.Storing.{sets-append}
-use Rattle.list.specs.Code.{bytesOf, allBytes}
+use Rattle.base.specs.Bytes.{byte, bytesOf, allBytes}
+use Rattle.base.proofs.Stores.{sets-append}
 use Rattle.compiler.specs.Emit.{copied, addressOf, addressesIn}
 
 -- j of the n bytes are copied

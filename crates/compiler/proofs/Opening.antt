@@ -11,18 +11,18 @@ use lib.Seq.{sets}
 use Rattle.ports.specs.declared.Ports.{Ports}
 use Rattle.ports.specs.Kinds.{kindOf}
 use Rattle.ports.specs.Ports.{portsOf}
-use Rattle.graph.specs.Bytes.{byte, u16}
+use Rattle.base.specs.Bytes.{byte, u16}
 use Rattle.graph.specs.Graph.{Ref, Payload, consts, refs, calls, Node, Function}
 use Rattle.graph.specs.Look.{readsOf, reads, outputRefs}
 use Rattle.graph.specs.Schedule.{schedule}
 use Rattle.graph.proofs.Formed.{refs-length}
 use Rattle.reader.specs.Layout.{nodeAt, functionAt, earlier}
-use Rattle.list.specs.Compile.{Written, portsAt, address, Opened, Open, single, openNode, Body, also, behind, openNodes, openFunction, opened}
-use Rattle.sizes.specs.Position.{placeOf, functionIn, before, positionOf, calling}
+use Rattle.lowering.specs.Compile.{Written, portsAt, address, Opened, Open, single, openNode, Body, also, behind, openNodes, openFunction, opened}
+use Rattle.sums.specs.Position.{placeOf, functionIn, before, positionOf, calling}
 use Rattle.compiler.specs.Emit.{addressesIn, openWith, nodeOpened, functionOpened}
-use Rattle.resolver.proofs.Storing.{sets-in, sets-above}
-use Rattle.sizes.proofs.Nodes.{call-payload}
-use Rattle.sizes.proofs.Positions.{at-position, no-position}
+use Rattle.base.proofs.Stores.{sets-in, sets-above}
+use Rattle.sums.proofs.Nodes.{call-payload}
+use Rattle.sums.proofs.Positions.{at-position, no-position}
 use Rattle.compiler.proofs.Single.{addresses-length}
 
 -- ---- addresses that are the same at every port

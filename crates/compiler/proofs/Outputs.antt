@@ -6,7 +6,7 @@ use mathlib.Core.Logic.{_⊎_}
 use native.Mathlib.Omega.{arith}
 use lib.ListN.{length, getD}
 use lib.Seq.{sets, length-sets}
-use Rattle.value.specs.Typed.{Each}
+use Rattle.base.specs.Lists.{Each}
 use Rattle.graph.specs.Graph.{Ref, Node, Function}
 use Rattle.graph.specs.Judge.{refType, outputTypes}
 use Rattle.graph.specs.Look.{outputRefs}
@@ -17,10 +17,10 @@ use Rattle.graph.proofs.Loops.{In}
 use Rattle.graph.proofs.Order.{ids, reads-in}
 use Rattle.reader.specs.Layout.{nodesAt, nodesPlace, nodeCount, outputsAt, outputCount, outputsPlace, functionAt, earlier}
 use Rattle.compiler.specs.Static.{nowhere, Spotted, spotOf, closed, spread}
-use Rattle.sizes.specs.Position.{placeOf, functionIn, before}
+use Rattle.sums.specs.Position.{placeOf, functionIn, before}
 use Rattle.compiler.specs.Emit.{closedAt}
 use Rattle.compiler.specs.Spotting.{Accepted, outputCodes, Codes, Knows, NodesLaid, FunctionLaid}
-use Rattle.resolver.proofs.Storing.{sets-below}
+use Rattle.base.proofs.Stores.{sets-below}
 use Rattle.resolver.proofs.Rows.{length-nodes}
 use Rattle.compiler.proofs.Coding.{AllCodes, codes-length, codes-stored, port-coded, closed-size}
 use Rattle.compiler.proofs.Accepting.{few, sound-to, fit-at}

@@ -11,15 +11,15 @@ use Rattle.ports.specs.declared.Form.the-variants.{Absent, Constant, References
 use Rattle.ports.specs.declared.Ports.{Ports}
 use Rattle.ports.specs.Kinds.{Kind, kindOf}
 use Rattle.ports.specs.Ports.{portsOf, arity, formOf}
-use Rattle.graph.specs.Bytes.{byte}
+use Rattle.base.specs.Bytes.{byte}
 use Rattle.graph.specs.Graph.{Payload}
 use Rattle.graph.specs.Look.{readsOf, reads}
 use Rattle.graph.specs.Read.{references}
 use Rattle.graph.proofs.Formed.{refs-length}
 use Rattle.reader.specs.Layout.{kindAt, payloadAt, nodeAt}
-use Rattle.sizes.specs.Position.{calling, NodeFit}
-use Rattle.sizes.proofs.Rows.{operandsBy}
-use Rattle.sizes.proofs.Nodes.{row-narrow, operands-are, called, call-payload, plain-form, by-form}
+use Rattle.sums.specs.Position.{calling, NodeFit}
+use Rattle.sums.proofs.Rows.{operandsBy}
+use Rattle.sums.proofs.Nodes.{row-narrow, operands-are, called, call-payload, plain-form, by-form}
 use Rattle.compiler.specs.Spotting.{ReadsOf}
 
 payload-reads : (s : List ℕ) (at : ℕ) (k : Kind) (f : Form) → calling f ≡ false → operandsBy f (arity k) ≡ true → readsOf (payloadAt f k s at) ≡ references (arity k) s at

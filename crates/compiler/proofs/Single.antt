@@ -15,18 +15,17 @@ use Rattle.ports.specs.Kinds.{Kind, kindOf}
 use Rattle.ports.specs.Ports.{widths, gives, portsOf, formOf, constantIn, constantWords}
 use Rattle.ports.specs.Ports as PortList
 use Rattle.ports.proofs.Laws.{words-given}
-use Rattle.graph.specs.Bytes.{byte, u64}
+use Rattle.base.specs.Bytes.{byte, u64, constants, bytesOf, allBytes}
 use Rattle.graph.specs.Look.{reads}
-use Rattle.graph.specs.Read.{constants}
 use Rattle.graph.proofs.Formed.{refs-length}
 use Rattle.reader.specs.Layout.{kindAt, payloadAt, nodeAt}
-use Rattle.list.specs.Compile.{Opened, Open, opened}
-use Rattle.list.specs.Code.{bytesOf, allBytes, instructionsCode}
-use Rattle.sizes.specs.Position.{before, calling}
+use Rattle.lowering.specs.Compile.{Opened, Open, opened}
+use Rattle.bytecode.specs.Code.{instructionsCode}
+use Rattle.sums.specs.Position.{before, calling}
 use Rattle.compiler.specs.Emit.{copied, addressesIn, openWith, nodeOpened}
-use Rattle.resolver.proofs.Storing.{sets-append}
-use Rattle.sizes.proofs.Rows.{operandsBy}
-use Rattle.sizes.proofs.Nodes.{row-is, row-narrow, form-is}
+use Rattle.base.proofs.Stores.{sets-append}
+use Rattle.sums.proofs.Rows.{operandsBy}
+use Rattle.sums.proofs.Nodes.{row-is, row-narrow, form-is}
 use Rattle.compiler.proofs.References.{plain-reads}
 
 -- ---- bytes

@@ -12,23 +12,22 @@ use borrow.Author.Tests.{eqb-true, eq-eqb}
 use Rattle.ports.specs.Kinds.{kindOf}
 use Rattle.ports.specs.Ports.{width, gives}
 use Rattle.graph.specs.Graph.{Ref, Payload, consts, refs, calls, Node, Function}
-use Rattle.value.specs.Typed.{Each}
-use Rattle.graph.specs.Look.{member, readsOf, reads, outputRefs}
+use Rattle.base.specs.Lists.{Each, member, Distinct, Is}
+use Rattle.graph.specs.Look.{readsOf, reads, outputRefs}
 use Rattle.graph.specs.Schedule.{ready, schedule}
-use Rattle.graph.specs.Outcome.{ok, _>>_}
+use Rattle.base.specs.Outcome.{ok, _>>_}
 use Rattle.graph.specs.Read.{version1, parse}
 use Rattle.graph.specs.Judge.{judge, judgeAll, table}
-use Rattle.graph.specs.Bytes.{Bytes}
-use Rattle.graph.specs.Orders.{Distinct}
+use Rattle.base.specs.Bytes.{Bytes}
 use Rattle.graph.specs.Table.{Chosen, chosen}
 use Rattle.graph.specs.Sums.{sum}
-use Rattle.graph.specs.Sound.{Is, Sound, AllFormed}
-use Rattle.graph.proofs.Loops.{and-inv, or-inv}
-use Rattle.graph.proofs.Steps.{took, after, ok-is}
+use Rattle.graph.specs.Sound.{Sound, AllFormed}
+use Rattle.base.proofs.Bools.{and-inv, or-inv}
+use Rattle.base.proofs.Outcomes.{took, after, ok-is}
 use Rattle.graph.proofs.Fresh.{judged-distinct}
 use Rattle.graph.proofs.Order.{ids, Ordered, scheduled, schedule-within, schedule-distinct}
-use Rattle.list.specs.Board.{Instruction}
-use Rattle.list.specs.Compile.{Written, portsAt, address, places, Opened, Open, single, openNode, also, openNodes, openFunction, opened}
+use Rattle.bytecode.specs.Run.{Instruction, places}
+use Rattle.lowering.specs.Compile.{Written, portsAt, address, Opened, Open, single, openNode, also, openNodes, openFunction, opened}
 use Rattle.compiler.specs.Static.{Spot, nowhere, input, offset, spotAt, through, Spotted, spotsOf, spotOf, Closed, Callee, closedNode, spread, closedFunction, closed, emitNodes, Agrees}
 
 -- ---- lists

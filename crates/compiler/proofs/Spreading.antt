@@ -11,39 +11,38 @@ use lib.Dec.{eqb}
 use lib.ListN.{length, getD, set, replicate, getElem?, length-map, length-set, length-replicate}
 use lib.Seq.{sets, length-sets, getD-set-same, getD-set-other}
 use borrow.Author.Tests.{eqb-false}
-use Rattle.value.specs.Typed.{Each}
+use Rattle.base.specs.Lists.{Each, member, Is}
 use Rattle.ports.specs.Kinds.{kindOf}
 use Rattle.ports.specs.Ports.{portsOf, formOf}
-use Rattle.graph.specs.Bytes.{byte, u16}
+use Rattle.base.specs.Bytes.{byte, u16}
 use Rattle.graph.specs.Graph.{Ref, Payload, consts, refs, calls, Node}
-use Rattle.graph.specs.Look.{member, reads, readsOf}
+use Rattle.graph.specs.Look.{reads, readsOf}
 use Rattle.graph.specs.Read.{references}
 use Rattle.graph.specs.Schedule.{schedule}
-use Rattle.graph.specs.Sound.{Is, FormedPayload, FormedNode, AllSound}
+use Rattle.graph.specs.Sound.{FormedPayload, FormedNode, AllSound}
 use Rattle.graph.specs.Sums.{sum, nodeWords, resultWordsOf}
 use Rattle.graph.proofs.Order.{ids, sound-closed, scheduled, schedule-within}
-use Rattle.graph.proofs.Steps.{is-each}
+use Rattle.base.proofs.Outcomes.{is-each}
 use Rattle.graph.proofs.Formed.{refs-length}
 use Rattle.reader.specs.Layout.{kindAt, nodeAt, nodesAt, nodePlace, nodesPlace, nodeCount, functionAt, earlier}
-use Rattle.topology.specs.Indices.{indexOrder}
-use Rattle.topology.specs.Resolve.{Resolves}
-use Rattle.topology.proofs.Nodes.{at-is, at-below, ref-member}
-use Rattle.topology.proofs.Scheduled.{schedule-is}
+use Rattle.order.specs.Indices.{indexOrder}
+use Rattle.order.specs.Resolve.{Resolves}
+use Rattle.order.proofs.Nodes.{at-is, at-below, ref-member}
+use Rattle.order.proofs.Scheduled.{schedule-is}
 use Rattle.compiler.specs.declared.Reads.{Reads}
 use Rattle.compiler.specs.Static.{Spot, nowhere, input, offset, Spotted, spotOf, Closed, Callee, closedNode, closed, spread, Spread, Agrees}
-use Rattle.sizes.specs.Position.{placeOf, functionIn, before, positionOf, calling, NodeFit}
-use Rattle.compiler.specs.Spotting.{ReadsOf}
-use Rattle.sizes.specs.Capped.{wordsAt, addsWords}
+use Rattle.sums.specs.Position.{placeOf, functionIn, before, positionOf, calling, NodeFit}
+use Rattle.compiler.specs.Spotting.{ReadsOf, Accepted, Places, Slots, readCodes, nodeCodes, Codes, PortsCoded, AllOuts, Knows, readCount, NodesLaid}
+use Rattle.sums.specs.Capped.{wordsAt, addsWords}
 use Rattle.compiler.specs.Emit.{spotRoom, Stands, spotTable, Coded, Placed, closedAt}
-use Rattle.compiler.specs.Spotting.{Accepted, Places, Slots, readCodes, nodeCodes, Codes, PortsCoded, AllOuts, Knows, readCount, NodesLaid}
-use Rattle.resolver.proofs.Storing.{sets-in, sets-below}
+use Rattle.base.proofs.Stores.{sets-in, sets-below}
 use Rattle.compiler.proofs.Bounds.{Within, outputs-within, reads-within}
 use Rattle.compiler.proofs.Spots.{Single, function-agrees}
 use Rattle.compiler.proofs.Words.{closed-words, function-words}
-use Rattle.sizes.proofs.Rows.{narrow}
+use Rattle.sums.proofs.Rows.{narrow}
 use Rattle.compiler.proofs.References.{few-reads}
-use Rattle.sizes.proofs.Positions.{words-at}
-use Rattle.sizes.proofs.Summing.{added-words, sums-are}
+use Rattle.sums.proofs.Positions.{words-at}
+use Rattle.sums.proofs.Summing.{added-words, sums-are}
 use Rattle.resolver.proofs.Rows.{length-nodes}
 use Rattle.compiler.proofs.Filling.{node-index, fit-index}
 use Rattle.compiler.proofs.Coding.{AllCodes, codes-length, codes-stored, reads-coded, node-coded, node-few, knows-step}

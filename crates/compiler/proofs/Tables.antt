@@ -8,7 +8,7 @@ use native.Mathlib.Omega.{arith}
 use lib.ListN.{length, getD, set, length-set}
 use lib.Seq.{getD-set-same, getD-set-other}
 use Rattle.ports.specs.Ports.{portsOf, constantIn}
-use Rattle.graph.specs.Bytes.{byte}
+use Rattle.base.specs.Bytes.{byte}
 use Rattle.graph.specs.Graph.{Ref, Payload, Node}
 use Rattle.graph.specs.Look.{reads, readsOf}
 use Rattle.graph.specs.Schedule.{schedule}
@@ -19,13 +19,13 @@ use Rattle.reader.specs.Layout.{kindAt, nodeAt, nodeEnd, nodesAt, nodePlace, no
 use Rattle.reader.specs.Find.{ReadsNodes}
 use Rattle.reader.proofs.Passed.{end-fits, first-reads, rest-reads, function-holds}
 use Rattle.compiler.specs.Static.{Spot, nowhere, closed}
-use Rattle.sizes.specs.Position.{placeOf, functionIn, before, calling, NodeFit, NodesFit}
-use Rattle.sizes.specs.Capped.{wordsAt}
+use Rattle.sums.specs.Position.{placeOf, functionIn, before, calling, NodeFit, NodesFit}
+use Rattle.sums.specs.Capped.{wordsAt}
 use Rattle.compiler.specs.Emit.{spotRoom, Stands, spotTable, Coded, Placed, closedAt, Laid}
 use Rattle.compiler.specs.Spotting.{Accepted, Codes, PortsCoded, readCount, FunctionLaid, LaidTo}
 use Rattle.compiler.proofs.Spots.{function-agrees}
 use Rattle.compiler.proofs.Words.{function-words}
-use Rattle.sizes.proofs.Nodes.{call-payload, call-end, plain-end}
+use Rattle.sums.proofs.Nodes.{call-payload, call-end, plain-end}
 use Rattle.compiler.proofs.References.{few-reads, plain-reads}
 use Rattle.resolver.proofs.Rows.{length-nodes}
 use Rattle.compiler.proofs.Accepting.{few, sound-to, single-at, fit-at, was-read}

@@ -7,8 +7,9 @@ use Rattle.ports.specs.Ports.{widths}
 use Rattle.graph.specs.Graph.{Function}
 use Rattle.graph.specs.Sums.{resultWords, resultWordsOf}
 use Rattle.graph.specs.Sound.{AllSound}
-use Rattle.list.specs.Compile.{places, opened, boardListOf}
-use Rattle.list.proofs.Limits.{opened-size, words-of}
+use Rattle.bytecode.specs.Run.{places}
+use Rattle.lowering.specs.Compile.{opened, boardListOf}
+use Rattle.lowering.proofs.Limits.{opened-size, words-of}
 use Rattle.compiler.specs.Static.{closedFunction, closed}
 use Rattle.compiler.proofs.Spots.{opened-follows, opened-next, function-next}
 

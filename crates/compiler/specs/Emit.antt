@@ -6,16 +6,16 @@ use mathlib.Core.List.{List, [], _∷_}
 use lib.Dec.{ltb}
 use lib.ListN.{length, getD}
 use lib.Seq.{sets}
-use Rattle.graph.specs.Bytes.{byte}
+use Rattle.base.specs.Bytes.{byte}
 use Rattle.graph.specs.Graph.{Ref, Payload, consts, refs, calls, Node}
 use Rattle.graph.specs.Look.{reads}
 use Rattle.graph.specs.Schedule.{schedule}
 use Rattle.reader.specs.Layout.{nodeAt, nodeCount}
-use Rattle.list.specs.Compile.{Opened, Open, single, openFunction, opened}
-use Rattle.list.specs.Code.{instructionsCode}
+use Rattle.lowering.specs.Compile.{Opened, Open, single, openFunction, opened}
+use Rattle.bytecode.specs.Code.{instructionsCode}
 use Rattle.compiler.specs.declared.Reached.{Reached}
 use Rattle.compiler.specs.Static.{Spot, nowhere, input, offset, spotOf, Closed, closedFunction, closed, spread, Agrees}
-use Rattle.sizes.specs.Position.{placeOf, functionIn, before, NodeFit}
+use Rattle.sums.specs.Position.{placeOf, functionIn, before, NodeFit}
 
 -- n bytes from a place on
 unfoldable pub copied : ℕ → List ℕ → ℕ → List ℕ

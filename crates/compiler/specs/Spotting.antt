@@ -7,8 +7,8 @@ use mathlib.Core.Option.{some}
 use lib.Dec.{ltb, leb}
 use lib.ListN.{length, getD, getElem?}
 use Rattle.ports.specs.Ports.{width, own, portsOf, formOf}
-use Rattle.graph.specs.Outcome.{ok}
-use Rattle.graph.specs.Bytes.{Bytes, byte, u16}
+use Rattle.base.specs.Outcome.{ok}
+use Rattle.base.specs.Bytes.{Bytes, byte, u16}
 use Rattle.graph.specs.Graph.{Node}
 use Rattle.graph.specs.Judge.{table}
 use Rattle.graph.specs.Look.{reads}
@@ -17,12 +17,12 @@ use Rattle.graph.specs.Schedule.{schedule}
 use Rattle.graph.specs.Sound.{AllSound}
 use Rattle.graph.specs.Sums.{sum}
 use Rattle.reader.specs.Layout.{kindAt, nodeAt, nodesAt, nodePlace, outputCount}
-use Rattle.topology.specs.Indices.{slot}
-use Rattle.topology.specs.Resolve.{target}
+use Rattle.order.specs.Indices.{slot}
+use Rattle.order.specs.Resolve.{target}
 use Rattle.compiler.specs.declared.Reads.{Reads}
 use Rattle.compiler.specs.Static.{Spot, nowhere, input, offset, Spotted, spotsOf, closed, spread}
-use Rattle.sizes.specs.Position.{placeOf, functionIn, before, positionOf, calling}
-use Rattle.sizes.specs.Capped.{wordCap, wordsAt}
+use Rattle.sums.specs.Position.{placeOf, functionIn, before, positionOf, calling}
+use Rattle.sums.specs.Capped.{wordCap, wordsAt}
 use Rattle.compiler.specs.Emit.{spotRoom, spotTable, Placed, closedAt, AllLaid}
 
 -- an accepted table with at least k functions

@@ -8,11 +8,11 @@ use lib.ListN.{getD}
 use Rattle.ports.specs.Kinds.{kindOf}
 use Rattle.ports.specs.Ports.{widths, gives}
 use Rattle.graph.specs.Graph.{Ref, Payload, consts, refs, calls, Node, Function}
-use Rattle.value.specs.Typed.{Each}
+use Rattle.base.specs.Lists.{Each}
 use Rattle.graph.specs.Look.{reads, outputRefs}
 use Rattle.graph.specs.Schedule.{schedule}
-use Rattle.list.specs.Board.{Instruction}
-use Rattle.list.specs.Compile.{places, Open, openNode}
+use Rattle.bytecode.specs.Run.{Instruction, places}
+use Rattle.lowering.specs.Compile.{Open, openNode}
 
 -- ---- spots
 

@@ -2,16 +2,16 @@
 use Prim.Native.Nat.{ℕ, _+_, _≤_}
 use mathlib.Core.Path.{_≡_}
 use mathlib.Core.List.{List}
-use Rattle.graph.specs.Outcome.{Outcome, ok, fault}
+use Rattle.base.specs.Outcome.{Outcome, ok, fault}
 use lib.ListN.{length}
 use Rattle.ports.specs.Ports.{widths}
 use Rattle.graph.specs.Judge.{outputTypes}
-use Rattle.list.specs.Compile.{boardListOf}
-use Rattle.list.specs.Code.{encode}
-use Rattle.list.specs.Answers as Answers
+use Rattle.lowering.specs.Compile.{boardListOf}
+use Rattle.bytecode.specs.Code.{encode}
+use Rattle.lowering.specs.Answers as Answers
 use Rattle.compiler.specs.declared.Compiled.{Compiled}
-use Rattle.sizes.specs.Position.{functionIn, before}
-use Rattle.sizes.specs.Capped.{wordsAt}
+use Rattle.sums.specs.Position.{functionIn, before}
+use Rattle.sums.specs.Capped.{wordsAt}
 
 -- the code of the function at position k
 abbrev pub codeAt : List ℕ → ℕ → List ℕ

@@ -6,22 +6,22 @@ ghost use Prim.Native.Nat.{ℕ, suc, _+_, _*_, _<_, _≤_, _^_};
 ghost use lib.ListN.{length, getD, replicate};
 ghost use lib.Seq.{sets};
 ghost use Rattle.ports.specs.Ports.{widths, formOf, constantIn};
-ghost use Rattle.graph.specs.Bytes.{byte, u16};
+ghost use Rattle.base.specs.Bytes.{byte, u16, bytesOf, allBytes};
 ghost use Rattle.graph.specs.Look.{reads};
 ghost use Rattle.graph.specs.Read.{reference};
-ghost use Rattle.topology.specs.Resolve as Resolve;
+ghost use Rattle.order.specs.Resolve as Resolve;
 ghost use Rattle.reader.specs.Find.{ReadsNodes};
-ghost use Rattle.topology.specs.Indices.{indexOrder};
+ghost use Rattle.order.specs.Indices.{indexOrder};
 ghost use Rattle.compiler.specs.Spotting.{ReadsOf, Accepted, NodesLaid, FunctionLaid, LaidTo, readCount, outputCodes, Places, Slots, WordsHeld, portCode, readCodes, throughCode, throughCodes, resultCodes, nodeCodes, AllOuts};
-ghost use Rattle.value.specs.Values.{span};
-ghost use Rattle.list.specs.Compile.{places, spans};
-ghost use Rattle.list.specs.Code.{bytesOf, allBytes, headerCode};
-ghost use Rattle.sizes.specs.Answers.{typesBy};
+ghost use Rattle.base.specs.Lists.{span};
+ghost use Rattle.bytecode.specs.Run.{places, spans};
+ghost use Rattle.bytecode.specs.Code.{headerCode};
+ghost use Rattle.sums.specs.Answers.{typesBy};
 ghost use Rattle.compiler.specs.Whole.{codeAt, Measured, answerOf, codeAfter};
-ghost use Rattle.list.specs.Answers.{compiled};
+ghost use Rattle.lowering.specs.Answers.{compiled};
 ghost use Rattle.reader.specs.Layout.{outputCount, outputsPlace, kindAt, nodeAt, nodesAt, nodeEnd, nodesPlace, nodeCount};
-ghost use Rattle.sizes.specs.Position.{placeOf, Starts, calling, NodeFit, AllFit};
-ghost use Rattle.sizes.specs.Capped.{wordsAt, addsWords};
+ghost use Rattle.sums.specs.Position.{placeOf, Starts, calling, NodeFit, AllFit};
+ghost use Rattle.sums.specs.Capped.{wordsAt, addsWords};
 ghost use Rattle.compiler.specs.Emit.{copied, spotRoom, addressOf, addressesIn, nodeOpened, functionOpened, Room, Emits, AllLaid};
 use checker::Verdict;
 use ports::Form;
@@ -262,7 +262,7 @@ fn emit_node(
         let c = u16_at(t, p + 4);
         let mut args = [0u16; 8];
         arguments(spots, spot, n, ins, first, &mut args);
-        let g = sizes::position_of(t, starts, k, c);
+        let g = sums::position_of(t, starts, k, c);
         if g < k {
             let r = emit(t, starts, begins, order, spots, g, &args, code, at, next);
             Reached {
@@ -466,7 +466,7 @@ fn lay_node(
     let form = row.form;
     if is_call(form) {
         let c = u16_at(t, p + 4);
-        let g = sizes::position_of(t, starts, k, c);
+        let g = sums::position_of(t, starts, k, c);
         if g < k {
             let count = wide(byte_at(t, wide16(starts[g]) + 3));
             let w = wide32(words[g]);
@@ -569,14 +569,14 @@ fn lay_function(
 {
     let p = wide16(starts[k]);
     let n = u16_at(t, p + 4);
-    let at = sizes::nodes_place(t, p);
+    let at = sums::nodes_place(t, p);
     let mut places = [0u16; 256];
     let mut targets = [0u16; 4096];
     let mut index = [0u16; 256];
     let mut laid = [0u16; 2048];
     resolver::places(t, at, n, &mut places);
     resolver::resolve(t, at, n, &mut targets);
-    topology::schedule(&targets, n, &mut index);
+    order::schedule(&targets, n, &mut index);
     let end = lay_nodes(
         t,
         starts,
@@ -796,8 +796,8 @@ fn compile_accepted(t: &[u8], functions: usize, id: u16, code: &mut [u8]) -> Com
     ensures { λ r. ⌜ now (code .exit) ≡ codeAfter (now (code .entry)) (compiled (now (t .entry)) id (now (code .entry))) ⌝ }
 {
     let mut starts = [0u16; 16];
-    sizes::find_starts(t, functions, &mut starts);
-    let k = sizes::position_of(t, &starts, functions, wide16(id));
+    sums::find_starts(t, functions, &mut starts);
+    let k = sums::position_of(t, &starts, functions, wide16(id));
     if functions <= k {
         return Compiled::Refused(14, 0);
     }
@@ -805,7 +805,7 @@ fn compile_accepted(t: &[u8], functions: usize, id: u16, code: &mut [u8]) -> Com
     let mut words = [0u32; 16];
     let mut counts = [0u32; 16];
     let mut sizes = [0u32; 16];
-    sizes::all_sums(
+    sums::all_sums(
         t,
         &starts,
         k + 1,
@@ -821,12 +821,12 @@ fn compile_accepted(t: &[u8], functions: usize, id: u16, code: &mut [u8]) -> Com
     let p = wide16(starts[k]);
     let nin = wide(byte_at(t, p + 2));
     let nout = wide(byte_at(t, p + 3));
-    let inputs = sizes::widths_at(t, p + 6, 1, nin);
+    let inputs = sums::widths_at(t, p + 6, 1, nin);
     let w = wide32(words[k]);
     if 8192 < inputs + w {
         return Compiled::Refused(16, 0);
     }
-    let outputs = sizes::widths_at(t, p + 6 + nin, 4, nout);
+    let outputs = sums::widths_at(t, p + 6 + nin, 4, nout);
     let size = 12 + wide32(sizes[k]) + 2 * outputs;
     if code.len() < size {
         return Compiled::Refused(17, 0);

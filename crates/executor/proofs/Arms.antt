@@ -18,12 +18,12 @@ use Rattle.value.specs.declared.Operator.{Operator}
 use Rattle.value.specs.declared.Operator.the-variants.{Add, Subtract, Multiply, Divide, Minimum, Maximum, Absolute, Remainder, Select, Clamp}
 use Rattle.value.specs.Values.{allWords}
 use Rattle.value.specs.Results.{each, results}
-use Rattle.graph.specs.Read.{constants}
-use Rattle.graph.proofs.Loops.{and-inv, or-inv}
-use Rattle.list.specs.Board.{valuesAt, execute}
-use Rattle.list.specs.Code.{addresses}
-use Rattle.list.specs.Fit.{Below}
-use Rattle.list.proofs.Decoded.{addresses-length}
+use Rattle.base.specs.Bytes.{constants}
+use Rattle.base.proofs.Bools.{and-inv, or-inv}
+use Rattle.bytecode.specs.Run.{valuesAt, execute}
+use Rattle.bytecode.specs.Code.{addresses}
+use Rattle.bytecode.specs.WellFormed.{Below}
+use Rattle.bytecode.proofs.Decoded.{addresses-length}
 use Rattle.executor.specs.declared.Next.{Next}
 use Rattle.executor.specs.Execution.{instructionAt, endOf, wordsGiven, operate, Ready, Executable, Operands, Executed, Operated}
 

@@ -17,18 +17,19 @@ use Rattle.ports.proofs.Laws.{length-takes}
 use Rattle.value.specs.declared.Row.{Row}
 use Rattle.value.specs.declared.Value.{Value}
 use Rattle.value.specs.declared.Value.the-variants.{Scalar, Vector, Matrix}
-use Rattle.value.specs.Values.{word, rowWords, wordsOf, allWords, wordAt, valueAt, wordsAt}
-use Rattle.value.specs.Typed.{TypeCode, Each, Held, RowHeld, ValueHeld, Of, Typed}
+use Rattle.value.specs.Values.{word, rowWords, wordsOf, allWords, valueAt}
+use Rattle.base.specs.Lists.{wordAt, wordsAt, Each}
+use Rattle.value.specs.Typed.{TypeCode, Held, RowHeld, ValueHeld, Of, Typed}
 use Rattle.value.specs.Results.{results}
 use Rattle.value.proofs.Laws.{there, typed-widths, results-typed, value-of, value-at}
 use Rattle.value.proofs.Floats.{nan-read}
-use Rattle.graph.specs.Read.{constants}
-use Rattle.graph.proofs.Loops.{and-inv}
-use Rattle.list.specs.Board.{valuesAt, execute}
-use Rattle.list.specs.Code.{addresses}
-use Rattle.list.proofs.Decoded.{addresses-length}
-use Rattle.list.proofs.Memory.{sets-below}
-use Rattle.list.proofs.Origins.{takes-codes}
+use Rattle.base.specs.Bytes.{constants}
+use Rattle.base.proofs.Bools.{and-inv}
+use Rattle.bytecode.specs.Run.{valuesAt, execute}
+use Rattle.bytecode.specs.Code.{addresses}
+use Rattle.bytecode.proofs.Decoded.{addresses-length}
+use Rattle.base.proofs.Stores.{sets-below}
+use Rattle.bytecode.proofs.Origins.{takes-codes}
 use Rattle.executor.specs.Execution.{Canonical, CanonicalBefore, Loadable, instructionAt, wordsGiven, Ready, Executable, Operands}
 
 -- ---- one word

@@ -13,12 +13,14 @@ use borrow.Author.Tests.{leb-true}
 use Rattle.ports.specs.Kinds.{kindOf}
 use Rattle.ports.specs.Ports.{takes, arity, constantWords, legalInstruction}
 use Rattle.ports.proofs.Laws.{length-takes}
-use Rattle.value.specs.Values.{constantWord, every}
-use Rattle.graph.specs.Bytes.{byte}
-use Rattle.graph.specs.Read.{constants, Part}
-use Rattle.list.specs.Board.{Instruction, execute, executeAll}
-use Rattle.list.specs.Code.{addresses, allBelow, readInstruction, nextWord, Listed, readInstructions}
-use Rattle.list.proofs.Decoded.{guard-inv, some-is, then-inv, addresses-length, all-below}
+use Rattle.value.specs.Values.{constantWord}
+use Rattle.base.specs.Lists.{every}
+use Rattle.base.specs.Bytes.{byte, constants}
+use Rattle.base.specs.Outcome.{Part}
+use Rattle.bytecode.specs.Run.{Instruction, execute, executeAll}
+use Rattle.bytecode.specs.Code.{addresses, allBelow, readInstruction, nextWord, Listed, readInstructions}
+use Rattle.bytecode.proofs.Decoded.{guard-inv, then-inv, addresses-length, all-below}
+use Rattle.base.proofs.Lists.{some-is}
 use Rattle.executor.specs.declared.Next.{Next}
 use Rattle.executor.specs.Execution.{instructionAt, endOf, wordsGiven, CanonicalBefore, Executable, Executed}
 use Rattle.executor.specs.Listing.{afterAll, Listing}

@@ -13,10 +13,10 @@ use Rattle.value.specs.Values.{mat, word, vecWords, wordsOf, vecAt, matAt}
 use Rattle.value.specs.Steps.{zeroMat, Step, stepOf, eachMat, fromColumns, fromRows}
 use Rattle.value.specs.Results.{results}
 use Rattle.value.proofs.Laws.{mat-cong}
-use Rattle.value.proofs.Stores.{then}
-use Rattle.graph.specs.Bytes.{u16}
-use Rattle.list.specs.Board.{execute}
-use Rattle.list.specs.Code.{addresses}
+use Rattle.base.proofs.Stores.{then}
+use Rattle.base.specs.Bytes.{u16}
+use Rattle.bytecode.specs.Run.{execute}
+use Rattle.bytecode.specs.Code.{addresses}
 use Rattle.executor.specs.Execution.{instructionAt, operate, constantRow, scalarsRow}
 
 abbrev stored : List ℕ → ℕ → Mat4 → List ℕ

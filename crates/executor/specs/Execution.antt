@@ -11,13 +11,13 @@ use Rattle.ports.specs.Kinds.{kindOf}
 use Rattle.ports.specs.Ports.{width, widths, takes, gives, arity, constantWords, legalInstruction}
 use Rattle.value.specs.declared.Row.{Row}
 use Rattle.value.specs.declared.Operator.{Operator}
-use Rattle.value.specs.Values.{row, word, allWords, wordAt, floatAt}
+use Rattle.value.specs.Values.{row, word, allWords, floatAt}
+use Rattle.base.specs.Lists.{wordAt}
 use Rattle.value.specs.Results.{each}
-use Rattle.graph.specs.Bytes.{u16, u64}
-use Rattle.graph.specs.Read.{constants}
-use Rattle.list.specs.Board.{Instruction, valuesAt, execute}
-use Rattle.list.specs.Code.{addresses}
-use Rattle.list.specs.Fit.{Below}
+use Rattle.base.specs.Bytes.{u16, u64, constants}
+use Rattle.bytecode.specs.Run.{Instruction, valuesAt, execute}
+use Rattle.bytecode.specs.Code.{addresses}
+use Rattle.bytecode.specs.WellFormed.{Below}
 use Rattle.executor.specs.declared.Next.{Next}
 
 -- the instruction that stands there

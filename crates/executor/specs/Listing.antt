@@ -4,8 +4,8 @@ use mathlib.Core.Path.{_≡_}
 use mathlib.Core.List.{List}
 use mathlib.Core.Option.{Option, none, some}
 use lib.ListN.{length}
-use Rattle.list.specs.Board.{executeAll}
-use Rattle.list.specs.Code.{Listed, readInstructions}
+use Rattle.bytecode.specs.Run.{executeAll}
+use Rattle.bytecode.specs.Code.{Listed, readInstructions}
 use Rattle.executor.specs.Execution.{CanonicalBefore}
 
 -- the words after the instructions that were read

@@ -14,14 +14,16 @@ use Rattle.ports.proofs.Laws.{length-takes}
 use Rattle.ports.specs.Kinds.{Kind, unknown, addition, subtraction, multiplication, division, constant, constvec, constmat, composevector, vectorfromscalar, decomposevector, composematrix, matrixfromcolumns, matrixfromrows, dot, cross, matvecmultiplication, transpose, min, max, abs, fmod, select, clamp, call, kindOf}
 use Rattle.ports.specs.Ports as Ports
 use Rattle.ports.specs.Ports.{formOf}
-use Rattle.graph.specs.Outcome.{Outcome, ok, fault, _>>=_, _>>_, need, each}
+use Rattle.base.specs.Outcome.{Outcome, ok, fault, _>>=_, _>>_, need, each}
 use Rattle.graph.specs.Graph.{Ref, Payload, consts, refs, calls, Node, Output, Function}
 use Rattle.graph.specs.Look.{findNode, findFunction, found, reads, readsOf, outputRefs}
 use Rattle.graph.specs.Loops.{Leads, loops}
 use Rattle.graph.specs.Judge.{inputsOf, wantsOf, refType, outputTypes, fresh, callOk, typeIs, refOk, refsOk, loopFree, judge, judgeAll}
-use Rattle.graph.specs.Sound.{Is, Wired, Shaped, FormedPayload, FormedNode, Formed, AllFormed, Resolved, Sound, AllSound}
-use Rattle.graph.proofs.Loops.{and-inv, Among, leads-node, loops-iff}
-use Rattle.graph.proofs.Steps.{took, after, passed, needed, each-is, is-each, takes, needs}
+use Rattle.base.specs.Lists.{Is}
+use Rattle.graph.specs.Sound.{Wired, Shaped, FormedPayload, FormedNode, Formed, AllFormed, Resolved, Sound, AllSound}
+use Rattle.base.proofs.Bools.{and-inv}
+use Rattle.graph.proofs.Loops.{Among, leads-node, loops-iff}
+use Rattle.base.proofs.Outcomes.{took, after, passed, needed, each-is, is-each, takes, needs}
 
 module _ {A : Type 0} where
   pub not-found : (o : Option A) → not (found o) ≡ true → o ≡ none

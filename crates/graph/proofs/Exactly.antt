@@ -4,14 +4,14 @@ use mathlib.Core.Path.{_≡_, refl, ap, sym, _∙_, subst}
 use mathlib.Core.List.{List, [], reverse}
 use mathlib.Core.Logic.{_⊎_, inl, inr, ⊎-elim, _↔_}
 use lib.ListN.{length, length-reverse}
-use Rattle.graph.specs.Outcome.{Outcome, ok, fault, _>>=_, _>>_}
-use Rattle.graph.specs.Bytes.{Bytes}
+use Rattle.base.specs.Outcome.{Outcome, ok, fault, _>>=_, _>>_}
+use Rattle.base.specs.Bytes.{Bytes}
 use Rattle.graph.specs.Graph.{Function}
 use Rattle.graph.specs.Read.{version1, parse}
 use Rattle.graph.specs.Judge.{judgeAll, table, verdict}
 use Rattle.graph.specs.Checks.{All, First, Says, tableChecks}
 use Rattle.graph.specs.Rules.{Meets, Fault, of-header, of-reading, of-rules, Gives}
-use Rattle.graph.proofs.Steps.{took, after, takes, stops, goes, halts, took-fault, after-fault, no-fault, ok-is}
+use Rattle.base.proofs.Outcomes.{took, after, takes, stops, goes, halts, took-fault, after-fault, no-fault, ok-is}
 use Rattle.graph.proofs.Formed.{plain1, parse-written}
 use Rattle.graph.proofs.Writes.{written-parse}
 use Rattle.graph.proofs.First.{says-one, judge-all-says}

@@ -9,19 +9,21 @@ use native.Mathlib.Omega.{arith}
 use lib.Dec.{eqb}
 use lib.ListN.{length}
 use borrow.Author.Tests.{eqb-true, eq-eqb, not-true}
-use Rattle.graph.specs.Outcome.{Outcome, ok, fault, _>>=_, _>>_, need, each}
+use Rattle.base.specs.Outcome.{Outcome, ok, fault, _>>=_, _>>_, need, each}
 use Rattle.graph.specs.Graph.{Ref, Payload, consts, refs, calls, Node, Output, Function}
 use Rattle.graph.specs.Look.{findNode, findFunction, found, reads, outputRefs}
 use Rattle.graph.specs.Loops.{Leads, loops}
 use Rattle.graph.specs.Judge.{inputsOf, wantsOf, refType, outputTypes, fresh, callOk, typeIs, refOk, refsOk, loopFree, judge, judgeAll}
-use Rattle.graph.specs.Sound.{Is, Formed, Resolved}
-use Rattle.graph.specs.Orders.{FirstOnLoop, Distinct, Orders}
+use Rattle.base.specs.Lists.{Is, Distinct}
+use Rattle.graph.specs.Sound.{Formed, Resolved}
+use Rattle.graph.specs.Orders.{FirstOnLoop, Orders}
 use Rattle.graph.specs.Checks.{CalleeThere, Check, check, All, First, Says, idChecks, callChecks, refChecks, nodeRefChecks, loopChecks, linkChecks, functionChecks, tableChecks}
-use Rattle.graph.proofs.Loops.{and-inv, loops-iff}
+use Rattle.base.proofs.Bools.{and-inv}
+use Rattle.graph.proofs.Loops.{loops-iff}
 use Rattle.graph.proofs.Accept.{not-found, is-found, resolved-by}
 use Rattle.graph.proofs.Order.{order-iff}
 use Rattle.graph.proofs.Fresh.{fresh-distinct}
-use Rattle.graph.proofs.Steps.{after, passed, goes, needed, needs, no-fault, then-then}
+use Rattle.base.proofs.Outcomes.{after, passed, goes, needed, needs, no-fault, then-then}
 
 -- ---- checks in turn
 

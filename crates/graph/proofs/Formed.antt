@@ -11,17 +11,18 @@ use Rattle.ports.specs.Kinds.{Kind, kindOf}
 use Rattle.ports.specs.declared.Form.{Form}
 use Rattle.ports.specs.declared.Form.the-variants.{Absent, Constant, References, Call}
 use Rattle.ports.specs.Ports.{arity, constantWords, formOf, legal}
-use Rattle.value.specs.Typed.{TypeCode, Word, Each}
-use Rattle.graph.specs.Outcome.{Outcome, ok, fault, _>>=_, _>>_, need, each}
+use Rattle.value.specs.Typed.{TypeCode}
+use Rattle.base.specs.Lists.{Word, Each, Is}
+use Rattle.base.specs.Outcome.{Outcome, ok, fault, _>>=_, _>>_, need, each, Part}
 use Rattle.graph.specs.Graph.{Ref, Payload, consts, refs, calls, Node, Output, Function}
-use Rattle.graph.specs.Bytes.{byte, u16, u64, Bytes, bytesOf, allBytes}
-use Rattle.graph.specs.Read.{Format, version1, fits, inputs, reference, references, outputs, constants, Part, payload, node, nodes, function, functions, marked, parse}
+use Rattle.base.specs.Bytes.{byte, u16, u64, Bytes, bytesOf, allBytes, constants}
+use Rattle.graph.specs.Read.{Format, version1, fits, inputs, reference, references, outputs, payload, node, nodes, function, functions, marked, parse}
 use Rattle.graph.specs.Judge.{outputTypes, judgeAll, table}
-use Rattle.graph.specs.Sound.{AllWithin, Is, FormedPayload, FormedNode, Formed, AllFormed, AllSound}
+use Rattle.graph.specs.Sound.{AllWithin, FormedPayload, FormedNode, Formed, AllFormed, AllSound}
 use Rattle.graph.specs.Written.{flat, refBytes, outputBytes, payloadBytes, nodeBytes, functionBytes, headerBytes, tableBytes, RefsAt, PayloadAt, OutputsAt, NodesAt, FunctionAt, FunctionsAt, Short, ShortRefs, ShortPayload, ShortNode, ShortIds, Written}
-use Rattle.graph.proofs.Loops.{and-inv}
-use Rattle.graph.proofs.Steps.{took, after, passed, ok-is}
-use Rattle.graph.proofs.Stands.{bytes-length, all-length, Here, moved, join, onto, whole-is, little, little-below, little-here, u16-here, u16-below, constants-here}
+use Rattle.base.proofs.Bools.{and-inv}
+use Rattle.base.proofs.Outcomes.{took, after, passed, ok-is}
+use Rattle.base.proofs.Stands.{bytes-length, all-length, Here, moved, join, onto, whole-is, little, little-below, little-here, u16-here, u16-below, constants-here, constants-length, constants-words}
 use Rattle.graph.proofs.Accept.{all-judged}
 
 -- ---- lengths
@@ -29,10 +30,6 @@ use Rattle.graph.proofs.Accept.{all-judged}
 pub refs-length : (n : ℕ) (s : List ℕ) (at : ℕ) → length (references n s at) ≡ n
 refs-length zero s at = refl
 refs-length (suc n) s at = ap suc (refs-length n s (at + 3))
-
-pub constants-length : (n : ℕ) (s : List ℕ) (at : ℕ) → length (constants n s at) ≡ n
-constants-length zero s at = refl
-constants-length (suc n) s at = ap suc (constants-length n s (at + 8))
 
 pub refs-size : (rs : List Ref) → length (flat refBytes rs) ≡ 3 * length rs
 refs-size [] = omega arith
@@ -94,15 +91,6 @@ module _ (s : List ℕ) (small : Bytes s) where
 
   -- ---- nodes
 
-  word-below : (at : ℕ) → u64 s at < 2 ^ 64
-  word-below at =
-      omega
-      (arith, small at, small (at + 1), small (at + 2), small (at + 3), small (at + 4), small (at + 5), small (at + 6), small (at + 7))
-
-  pub constants-words : (n at : ℕ) → Each Word (constants n s at)
-  constants-words zero at = tt
-  constants-words (suc n) at = (word-below at, constants-words n (at + 8))
-
   abbrev PayloadRead : Kind → ℕ → Part Payload → Type 0
   PayloadRead k at p =
       FormedPayload k (p .it) × Here s at (payloadBytes (p .it)) × (p .next ≡ at + length (payloadBytes (p .it))) × PayloadAt at (p .it) × ShortPayload (p .it)
@@ -115,7 +103,7 @@ module _ (s : List ℕ) (small : Bytes s) where
       let n = constantWords k in
       let l : length (constants n s at) ≡ n = constants-length n s at in
       let size : length (allBytes 8 (constants n s at)) ≡ 8 * length (constants n s at) = all-length 8 (constants n s at) in
-      subst (PayloadRead k at) (ok-is e2) ((q, l, f, constants-words n at), constants-here s small n at, omega arith, tt, tt)
+      subst (PayloadRead k at) (ok-is e2) ((q, l, f, constants-words s small n at), constants-here s small n at, omega arith, tt, tt)
   payload-formed References k at p q e =
       let (t, e1) = passed _ _ _ _ _ e in
       let n = arity k in

@@ -8,13 +8,12 @@ use mathlib.Core.Logic.{_⊎_, inl, inr}
 use native.Mathlib.Omega.{arith}
 use lib.Dec.{eqb}
 use borrow.Author.Tests.{eqb-true, eqb-false, eq-eqb, ne-eqb}
-use Rattle.graph.specs.Outcome.{Outcome, ok, _>>_, need}
+use Rattle.base.specs.Outcome.{Outcome, ok, _>>_, need}
 use Rattle.graph.specs.Graph.{Node, Function}
-use Rattle.graph.specs.Look.{findNode, findFunction, found, member}
+use Rattle.graph.specs.Look.{findNode, findFunction, found}
+use Rattle.base.specs.Lists.{member, Is, Distinct}
 use Rattle.graph.specs.Judge.{fresh, judge}
-use Rattle.graph.specs.Sound.{Is}
-use Rattle.graph.specs.Orders.{Distinct}
-use Rattle.graph.proofs.Steps.{passed, after, passes}
+use Rattle.base.proofs.Outcomes.{passed, after, passes}
 use Rattle.graph.proofs.Accept.{not-found}
 
 abbrev ids : List Node → List ℕ

@@ -13,17 +13,18 @@ use Rattle.ports.specs.declared.Form.{Form}
 use Rattle.ports.specs.declared.Form.the-variants.{Absent, Constant, References, Call}
 use Rattle.ports.specs.Kinds.{Kind, kindOf}
 use Rattle.ports.specs.Ports.{isType, arity, constantWords, formOf, exists, typeFits, portsOf, legal}
-use Rattle.value.specs.Values.{constantWord, every}
+use Rattle.value.specs.Values.{constantWord}
+use Rattle.base.specs.Lists.{every}
 use Rattle.value.specs.Typed.{TypeCode}
-use Rattle.graph.specs.Outcome.{Outcome, ok, fault, _>>=_, _>>_, need}
-use Rattle.graph.specs.Bytes.{byte, u16, Bytes}
+use Rattle.base.specs.Outcome.{Outcome, ok, fault, _>>=_, _>>_, need, Part}
+use Rattle.base.specs.Bytes.{byte, u16, Bytes, constants}
 use Rattle.graph.specs.Graph.{Ref, Payload, consts, refs, calls, Node, Output, Function}
 use Rattle.graph.specs.Read as Read
-use Rattle.graph.specs.Read.{Format, Part, reference, references, constants, inRange}
+use Rattle.graph.specs.Read.{Format, reference, references, inRange}
 use Rattle.graph.specs.Checks.{Check, check, All, First, Says}
 use Rattle.graph.specs.Reading.{headerChecks, Shape, head, input, output, node, payload, arguments, size, times, fields, recordChecks, next, Reading, end, stop, on, ReadingOf}
-use Rattle.graph.proofs.Loops.{and-inv, and-both}
-use Rattle.graph.proofs.Steps.{took, after, passed, takes, stops, halts, needs, took-fault, after-fault, passed-fault, no-fault, then-then}
+use Rattle.base.proofs.Bools.{and-inv, and-both}
+use Rattle.base.proofs.Outcomes.{took, after, passed, takes, stops, halts, needs, took-fault, after-fault, passed-fault, no-fault, then-then}
 use Rattle.graph.proofs.First.{first-all, says-one, says-test, says-then}
 
 module _ {A B C : Type 0} where

@@ -10,16 +10,18 @@ use lib.Dec.{eqb}
 use lib.ListN.{length, getElem?}
 use borrow.Author.Tests.{eqb-true, eqb-false, eq-eqb}
 use Rattle.graph.specs.Graph.{Ref, Payload, Node, Output, Function}
-use Rattle.graph.specs.Look.{member, readIds, findNode, reads}
+use Rattle.base.specs.Lists.{member, Is, Distinct}
+use Rattle.graph.specs.Look.{readIds, findNode, reads}
 use Rattle.graph.specs.Loops.{readsId, Leads, one, more}
 use Rattle.graph.specs.Schedule.{ready, Picked, before, pick, order, schedule}
-use Rattle.graph.proofs.Loops.{In, stuck-loops, and-inv, or-inv, leads-node}
+use Rattle.graph.proofs.Loops.{In, stuck-loops, leads-node}
+use Rattle.base.proofs.Bools.{and-inv, or-inv}
 use Rattle.graph.proofs.Accept.{loop-free-iff, among-is}
-use Rattle.graph.proofs.Steps.{is-each}
-use Rattle.graph.specs.Outcome.{Outcome, ok}
-use Rattle.graph.specs.Sound.{Is, Wired, FormedNode, Resolved, Sound}
+use Rattle.base.proofs.Outcomes.{is-each}
+use Rattle.base.specs.Outcome.{Outcome, ok}
+use Rattle.graph.specs.Sound.{Wired, FormedNode, Resolved, Sound}
 use Rattle.graph.specs.Sums.{sum}
-use Rattle.graph.specs.Orders.{Distinct, Orders}
+use Rattle.graph.specs.Orders.{Orders}
 pub use Rattle.graph.specs.Orders.{Ordered}
 use Rattle.graph.specs.Judge.{refType, givesAt, wantsOf, loopFree}
 

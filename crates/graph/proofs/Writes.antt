@@ -12,19 +12,20 @@ use Rattle.ports.specs.Kinds.{Kind, kindOf}
 use Rattle.ports.specs.declared.Form.{Form}
 use Rattle.ports.specs.declared.Form.the-variants.{Absent, Constant, References, Call}
 use Rattle.ports.specs.Ports.{isType, arity, constantWords, formOf, legal}
-use Rattle.value.specs.Values.{constantWord, every, wordsAt}
-use Rattle.value.proofs.Laws.{whole}
-use Rattle.value.specs.Typed.{TypeCode, Word, Each}
-use Rattle.graph.specs.Outcome.{Outcome, ok, fault, _>>=_, _>>_, need}
-use Rattle.graph.specs.Bytes.{byte, u16, u64, Bytes, bytesOf, allBytes}
+use Rattle.value.specs.Values.{constantWord}
+use Rattle.base.specs.Lists.{every, wordsAt, Word, Each}
+use Rattle.base.proofs.Lists.{whole}
+use Rattle.value.specs.Typed.{TypeCode}
+use Rattle.base.specs.Outcome.{Outcome, ok, fault, _>>=_, _>>_, need, Part}
+use Rattle.base.specs.Bytes.{byte, u16, u64, Bytes, bytesOf, allBytes, constants}
 use Rattle.graph.specs.Graph.{Ref, Payload, consts, refs, calls, Node, Output, Function}
-use Rattle.graph.specs.Read.{Format, version1, fits, inputs, reference, references, outputs, constants, Part, payload, node, nodes, inRange, function, functions, marked, parse}
+use Rattle.graph.specs.Read.{Format, version1, fits, inputs, reference, references, outputs, payload, node, nodes, inRange, function, functions, marked, parse}
 use Rattle.graph.specs.Judge.{outputTypes}
 use Rattle.graph.specs.Sound.{AllWithin, FormedPayload, FormedNode, Formed, AllFormed}
 use Rattle.graph.specs.Written.{flat, refBytes, outputBytes, payloadBytes, nodeBytes, functionBytes, headerBytes, tableBytes, RefsAt, PayloadAt, OutputsAt, NodesAt, FunctionAt, FunctionsAt, Short, ShortRefs, ShortPayload, ShortNode, ShortIds, Written}
-use Rattle.graph.proofs.Loops.{and-both}
-use Rattle.graph.proofs.Steps.{takes, passes}
-use Rattle.graph.proofs.Stands.{split, all-length, Here, moved, off, little-read, u16-read, constants-read}
+use Rattle.base.proofs.Bools.{and-both}
+use Rattle.base.proofs.Outcomes.{takes, passes}
+use Rattle.base.proofs.Stands.{split, all-length, Here, moved, off, little-read, u16-read, constants-read}
 use Rattle.graph.proofs.Formed.{refs-size, outputs-size, header-length, Plain, parse-written}
 
 ref-is : (r : Ref) {a b c : ℕ} → a ≡ r .node → b ≡ r .port → r .place ≡ c → record { node = a; port = b; place = c } ≡ r

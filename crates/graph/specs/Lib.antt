@@ -1,5 +1,3 @@
-pub mod Outcome
-pub mod Bytes
 pub mod Graph
 pub mod Read
 pub mod Look

@@ -35,10 +35,6 @@ outputRefs = map (λ o. o .ref)
 
 -- ---- ids
 
-abbrev pub member : ℕ → List ℕ → Bool
-member i [] = false
-member i (x ∷ xs) = let r = member i xs in cond (eqb x i) true r
-
 -- the ids that the nodes with these ids read
 abbrev pub readIds : Option Node → List ℕ
 readIds none = []

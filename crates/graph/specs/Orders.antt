@@ -4,10 +4,10 @@ use mathlib.Core.Path.{_≡_}
 use mathlib.Core.Bool.{true, false}
 use mathlib.Core.List.{List, [], _∷_, _++_, map}
 use Rattle.graph.specs.Graph.{Node}
-use Rattle.graph.specs.Look.{reads, member}
+use Rattle.graph.specs.Look.{reads}
+use Rattle.base.specs.Lists.{member, Is, Distinct}
 use Rattle.graph.specs.Loops.{Leads}
 use Rattle.graph.specs.Schedule.{ready}
-use Rattle.graph.specs.Sound.{Is}
 
 -- the first node in the table that lies on a loop: following references from it can return to it
 pub record FirstOnLoop (ns : List Node) (m : Node) : Type 0 where
@@ -16,11 +16,6 @@ pub record FirstOnLoop (ns : List Node) (m : Node) : Type 0 where
   pub stands : ns ≡ before ++ m ∷ behind
   pub first : (n : Node) → Is n before → Leads ns (n .id) (n .id) → ⊥
   pub lies : Leads ns (m .id) (m .id)
-
--- no number stands twice
-abbrev pub Distinct : List ℕ → Type 0
-Distinct [] = Unit {0}
-Distinct (x ∷ xs) = (member x xs ≡ false) × Distinct xs
 
 -- each node after all that it reads; `done` has the ids before
 abbrev pub Ordered : List ℕ → List Node → Type 0

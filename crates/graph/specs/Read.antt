@@ -8,9 +8,10 @@ use Rattle.ports.specs.declared.Form.{Form}
 use Rattle.ports.specs.declared.Form.the-variants.{Absent, Constant, References, Call}
 use Rattle.ports.specs.Kinds.{Kind, kindOf}
 use Rattle.ports.specs.Ports.{isType, arity, constantWords, formOf, legal}
-use Rattle.value.specs.Values.{constantWord, every}
-use Rattle.graph.specs.Outcome.{Outcome, ok, fault, _>>=_, _>>_, need}
-use Rattle.graph.specs.Bytes.{byte, u16, u64}
+use Rattle.value.specs.Values.{constantWord}
+use Rattle.base.specs.Lists.{every}
+use Rattle.base.specs.Outcome.{Outcome, ok, fault, _>>=_, _>>_, need, Part}
+use Rattle.base.specs.Bytes.{byte, u16, u64, constants}
 use Rattle.graph.specs.Graph.{Ref, Payload, consts, refs, calls, Node, Output, Function}
 
 -- what a table version says: its number, the bytes of its header, its length field, and the most nodes of a function
@@ -53,16 +54,6 @@ outputs (suc n) s at = do
   ok (record { type = byte s at; ref = reference s (at + 1) } ∷ rest)
 
 -- ---- nodes
-
--- the words of n constants
-abbrev pub constants : ℕ → List ℕ → ℕ → List ℕ
-constants zero s at = []
-constants (suc n) s at = u64 s at ∷ constants n s (at + 8)
-
--- what was read, and the place behind it
-pub record Part (A : Type 0) : Type 0 where
-  pub it : A
-  pub next : ℕ
 
 -- no node of an absent kind comes this far
 abbrev pub payload : Form → Kind → List ℕ → ℕ → Outcome (Part Payload)

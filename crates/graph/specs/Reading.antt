@@ -8,11 +8,12 @@ use Rattle.ports.specs.declared.Form.{Form}
 use Rattle.ports.specs.declared.Form.the-variants.{Absent, Constant, References, Call}
 use Rattle.ports.specs.Kinds.{Kind, kindOf}
 use Rattle.ports.specs.Ports.{arity, constantWords, formOf, legal}
-use Rattle.value.specs.Values.{constantWord, every}
+use Rattle.value.specs.Values.{constantWord}
+use Rattle.base.specs.Lists.{every}
 use Rattle.value.specs.Typed.{TypeCode}
-use Rattle.graph.specs.Outcome.{Outcome, ok, fault}
-use Rattle.graph.specs.Bytes.{byte, u16}
-use Rattle.graph.specs.Read.{Format, constants}
+use Rattle.base.specs.Outcome.{Outcome, ok, fault}
+use Rattle.base.specs.Bytes.{byte, u16, constants}
+use Rattle.graph.specs.Read.{Format}
 use Rattle.graph.specs.Checks.{Check, check, All, First, Says}
 
 -- 1 to 4 in this order, and the function count

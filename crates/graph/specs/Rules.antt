@@ -3,7 +3,7 @@ use Prim.Native.Nat.{ℕ}
 use mathlib.Core.Path.{_≡_}
 use mathlib.Core.List.{List, []}
 use lib.ListN.{length}
-use Rattle.graph.specs.Outcome.{Outcome, ok, fault}
+use Rattle.base.specs.Outcome.{Outcome, ok, fault}
 use Rattle.graph.specs.Graph.{Function}
 use Rattle.graph.specs.Read.{Format}
 use Rattle.graph.specs.Written.{Written}

@@ -6,7 +6,8 @@ use mathlib.Core.Option.{Option, none, some}
 use lib.Dec.{eqb}
 use lib.ListN.{length}
 use Rattle.graph.specs.Graph.{Ref, Node}
-use Rattle.graph.specs.Look.{member, reads}
+use Rattle.base.specs.Lists.{member}
+use Rattle.graph.specs.Look.{reads}
 
 -- all that it reads is done; id 0 stands for the inputs
 abbrev pub ready : List ℕ → List Ref → Bool

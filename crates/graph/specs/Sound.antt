@@ -9,16 +9,13 @@ use lib.ListN.{length}
 use Rattle.ports.specs.Kinds.{Kind, kindOf}
 use Rattle.ports.specs.declared.Form.the-variants.{Constant, References, Call}
 use Rattle.ports.specs.Ports.{takes, arity, constantWords, formOf, legal}
-use Rattle.value.specs.Values.{constantWord, every}
-use Rattle.value.specs.Typed.{TypeCode, Word, Each}
+use Rattle.value.specs.Values.{constantWord}
+use Rattle.base.specs.Lists.{every, Word, Each, Is}
+use Rattle.value.specs.Typed.{TypeCode}
 use Rattle.graph.specs.Graph.{Ref, Payload, consts, refs, calls, Node, Output, Function}
 use Rattle.graph.specs.Look.{findNode, findFunction, reads, outputRefs}
 use Rattle.graph.specs.Loops.{Leads}
 use Rattle.graph.specs.Judge.{wantsOf, refType, outputTypes}
-
-abbrev pub Is : {A : Type 0} → A → List A → Type 0
-Is n [] = ⊥
-Is n (x ∷ xs) = (n ≡ x) ⊎ Is n xs
 
 -- ---- what the reading ensures
 

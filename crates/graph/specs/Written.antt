@@ -3,8 +3,8 @@ use Prim.Native.Nat.{ℕ, _+_, _-_, _*_, _^_, _≤_, _<_}
 use mathlib.Core.Path.{_≡_}
 use mathlib.Core.List.{List, [], _∷_, _++_}
 use lib.ListN.{length}
-use Rattle.value.specs.Typed.{Each}
-use Rattle.graph.specs.Bytes.{bytesOf, allBytes}
+use Rattle.base.specs.Lists.{Each}
+use Rattle.base.specs.Bytes.{bytesOf, allBytes}
 use Rattle.graph.specs.Graph.{Ref, Payload, consts, refs, calls, Node, Output, Function}
 use Rattle.graph.specs.Read.{Format}
 use Rattle.graph.specs.Sound.{Formed, AllFormed, AllWithin}

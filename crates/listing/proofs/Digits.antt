@@ -9,7 +9,7 @@ use lib.Dec.{ltb}
 use lib.ListN.{length, getD, set, take, drop, length-set, length-drop}
 use lib.Seq.{drop-cons, getD-set-same, drop-set-lt, drop-length, take-all}
 use borrow.Author.Tests.{lt-ltb, le-ltb, ltb-true, ltb-false}
-use Rattle.list.specs.Listing.{digits, decimal}
+use Rattle.lowering.specs.Listing.{digits, decimal}
 
 -- ---- one digit
 

@@ -6,10 +6,10 @@ use native.Mathlib.Nat.{add-zero}
 use native.Mathlib.Numerals.{add-one}
 use native.Mathlib.Omega.{arith}
 use lib.ListN.{length}
-use Rattle.graph.specs.Outcome.{ok}
+use Rattle.base.specs.Outcome.{ok}
 use Rattle.graph.specs.Judge.{verdict}
 use Rattle.reader.specs.Layout.{functionOf, earlier}
-use Rattle.list.specs.Listing.{functionLine, functionLines}
+use Rattle.lowering.specs.Listing.{functionLine, functionLines}
 use Rattle.listing.specs.Lines.{Put}
 use Rattle.listing.proofs.Text.{then, same}
 use Rattle.listing.proofs.Table.{function-count}

@@ -7,9 +7,9 @@ use native.Mathlib.Omega.{arith}
 use lib.ListN.{length, length-append}
 use lib.Dec.{leb}
 use borrow.Author.Tests.{leb-true}
-use Rattle.graph.specs.Bytes.{byte, u16}
-use Rattle.list.specs.Code.{operationLimit, wordLimit}
-use Rattle.list.specs.Listing.{decimal, newline, acceptedText, refusedText, atText, functionText, inputsText, outputsText, nodesText, operationsText, wordsText, codeText, noneText, limited}
+use Rattle.base.specs.Bytes.{byte, u16}
+use Rattle.base.specs.Limits.{operationLimit, wordLimit}
+use Rattle.lowering.specs.Listing.{decimal, newline, acceptedText, refusedText, atText, functionText, inputsText, outputsText, nodesText, operationsText, wordsText, codeText, noneText, limited}
 use Rattle.listing.specs.Lines.{headText, countsText, within, lineAt}
 use Rattle.listing.proofs.Text.{rooms}
 use Rattle.listing.proofs.Digits.{decimal-length, decimal-most}

@@ -7,18 +7,19 @@ use native.Mathlib.Omega.{arith}
 use lib.Dec.{leb}
 use lib.ListN.{length}
 use borrow.Author.Tests.{leb-true, leb-false, le-leb, lt-leb}
-use Rattle.graph.specs.Outcome.{Outcome, ok, fault, _>>=_}
-use Rattle.graph.specs.Bytes.{byte, u16}
+use Rattle.base.specs.Outcome.{Outcome, ok, fault, _>>=_}
+use Rattle.base.specs.Bytes.{byte, u16}
 use Rattle.graph.specs.Graph.{Node, Output, Function}
 use Rattle.graph.specs.Read.{version1, parse}
 use Rattle.graph.specs.Judge.{table, judgeAll, verdict}
 use Rattle.graph.specs.Sums.{functionOperations, operationsOf, functionWords}
-use Rattle.graph.proofs.Steps.{took, after, passed, ok-is}
+use Rattle.base.proofs.Outcomes.{took, after, passed, ok-is}
 use Rattle.reader.specs.Layout.{nodeAt, nodeEnd, nodesAt, inputsAt, outputsAt, functionAt, functionPlace, functionOf, earlier, inputCount, outputCount, nodeCount, outputsPlace, nodesPlace}
 use Rattle.reader.proofs.Standing.{table-read}
-use Rattle.list.specs.Compile.{boardListOf}
-use Rattle.list.specs.Code.{operationLimit, wordLimit, encode}
-use Rattle.list.specs.Listing.{decimal, newline, acceptedText, refusedText, atText, functionText, inputsText, outputsText, nodesText, operationsText, wordsText, codeText, noneText, limited, codeSize, functionLine, functionLines, report, listing}
+use Rattle.lowering.specs.Compile.{boardListOf}
+use Rattle.base.specs.Limits.{operationLimit, wordLimit}
+use Rattle.bytecode.specs.Code.{encode}
+use Rattle.lowering.specs.Listing.{decimal, newline, acceptedText, refusedText, atText, functionText, inputsText, outputsText, nodesText, operationsText, wordsText, codeText, noneText, limited, codeSize, functionLine, functionLines, report, listing}
 use Rattle.listing.specs.Lines.{headText, countsText, within, lineAt}
 
 -- ---- a function's line by its numbers

@@ -7,7 +7,7 @@ use native.Mathlib.Numerals.{add-one}
 use native.Mathlib.Omega.{arith}
 use lib.ListN.{length, getD, set, take, length-append}
 use lib.Seq.{sets, take-suc, take-length, length-take-le}
-use Rattle.value.proofs.Stores as Stores
+use Rattle.base.proofs.Stores as Stores
 use Rattle.listing.specs.Lines.{Put}
 
 -- ---- a copy

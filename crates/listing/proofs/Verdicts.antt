@@ -2,7 +2,7 @@
 use Prim.Native.Nat.{ℕ}
 use mathlib.Core.Path.{_≡_, refl}
 use native.Mathlib.Omega.{arith}
-use Rattle.graph.specs.Outcome.{Outcome, ok, fault}
+use Rattle.base.specs.Outcome.{Outcome, ok, fault}
 use Rattle.checker.specs.declared.Verdict.{Verdict}
 use Rattle.checker.specs.declared.Verdict.the-variants.{Accepted, Refused}
 use Rattle.checker.specs.Answers.{verdictOf}

@@ -6,9 +6,9 @@ use mathlib.Core.List.{List, _++_}
 use lib.Dec.{leb}
 use lib.ListN.{length}
 use lib.Seq.{sets}
-use Rattle.graph.specs.Bytes.{byte, u16}
-use Rattle.list.specs.Code.{operationLimit, wordLimit}
-use Rattle.list.specs.Listing.{decimal, newline, functionText, inputsText, outputsText, nodesText, operationsText, wordsText, codeText, noneText, limited}
+use Rattle.base.specs.Bytes.{byte, u16}
+use Rattle.base.specs.Limits.{operationLimit, wordLimit}
+use Rattle.lowering.specs.Listing.{decimal, newline, functionText, inputsText, outputsText, nodesText, operationsText, wordsText, codeText, noneText, limited}
 
 -- bytes written from a place on, and nothing else; r is the place behind them
 pub record Put (entry : List ℕ) (at : ℕ) (bytes exit : List ℕ) (r : ℕ) : Type 0 where

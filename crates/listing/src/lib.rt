@@ -5,9 +5,9 @@ ghost use mathlib.Core.List.{List, _++_};
 ghost use Prim.Native.Nat.{_+_, _<_, _≤_};
 ghost use lib.ListN.{length, drop};
 ghost use lib.Seq.{sets};
-ghost use Rattle.list.specs.Listing.{decimal, newline, refusedText, atText, functionLines, listing};
-ghost use Rattle.graph.specs.Bytes.{byte, u16};
-ghost use Rattle.graph.specs.Outcome.{ok, fault};
+ghost use Rattle.lowering.specs.Listing.{decimal, newline, refusedText, atText, functionLines, listing};
+ghost use Rattle.base.specs.Bytes.{byte, u16};
+ghost use Rattle.base.specs.Outcome.{ok, fault};
 ghost use Rattle.graph.specs.Judge.{verdict};
 ghost use Rattle.reader.specs.Layout.{earlier};
 ghost use Rattle.listing.specs.Lines as Lines;
@@ -199,7 +199,7 @@ fn put_functions(text: &mut [u8; 2048], at: usize, table: &[u8], count: usize) -
     let mut here = at;
     let mut k = 0;
     while k < count {
-        let m = sizes::measure(table, count, k);
+        let m = sums::measure(table, count, k);
         here = put_function(text, here, table, m.place, m.operations, m.words, m.code);
         k += 1;
     }

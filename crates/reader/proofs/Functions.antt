@@ -9,12 +9,12 @@ use native.Mathlib.Numerals.{sub-one}
 use lib.Dec.{leb, eqb}
 use lib.ListN.{length}
 use borrow.Author.Tests.{le-leb, lt-leb, eq-eqb, ne-eqb}
-use Rattle.graph.specs.Outcome.{Outcome, ok, fault, _>>=_, _>>_, need}
+use Rattle.base.specs.Outcome.{Outcome, ok, fault, _>>=_, _>>_, need, Part}
 use Rattle.graph.specs.Graph as Graph
 use Rattle.graph.specs.Graph.{Output, Function}
-use Rattle.graph.specs.Bytes.{byte, u16}
-use Rattle.graph.specs.Read.{version1, reference, inputs, outputs, Part, node, nodes, inRange, function, functions, marked, parse}
-use Rattle.graph.proofs.Steps.{takes, stops, passes, fails}
+use Rattle.base.specs.Bytes.{byte, u16}
+use Rattle.graph.specs.Read.{version1, reference, inputs, outputs, node, nodes, inRange, function, functions, marked, parse}
+use Rattle.base.proofs.Outcomes.{takes, stops, passes, fails}
 use Rattle.reader.specs.Layout.{outputsPlace, nodesPlace}
 use Rattle.reader.specs.Records.{seen, next, behind, nodeOf, nodeRead}
 use Rattle.reader.specs.declared.Next.{Next}

@@ -16,13 +16,13 @@ use Rattle.ports.specs.declared.Ports.{Ports}
 use Rattle.ports.specs.Kinds.{Kind, kindOf}
 use Rattle.ports.specs.Ports.{absent, portsOf, rows, arity, constantIn, constantWords, formOf, exists, typeFits, legal}
 use Rattle.ports.proofs.Laws.{no-kind, row-of}
-use Rattle.graph.specs.Outcome.{Outcome, ok, fault}
-use Rattle.graph.specs.Bytes.{byte, u16}
+use Rattle.base.specs.Outcome.{Outcome, ok, fault, Part}
+use Rattle.base.specs.Bytes.{byte, u16}
 use Rattle.graph.specs.Graph.{Payload, Node, Output, Function}
 use Rattle.graph.specs.Look.{findNode, findFunction}
-use Rattle.graph.specs.Read.{version1, inRange, inputs, outputs, Part, payload, node, nodes, function, functions, parse}
-use Rattle.graph.proofs.Loops.{and-inv}
-use Rattle.graph.proofs.Steps.{took, passed}
+use Rattle.graph.specs.Read.{version1, inRange, inputs, outputs, payload, node, nodes, function, functions, parse}
+use Rattle.base.proofs.Bools.{and-inv}
+use Rattle.base.proofs.Outcomes.{took, passed}
 use Rattle.reader.specs.Layout.{kindAt, payloadEnd, nodeAt, nodeEnd, nodesAt, nodePlace, inputCount, outputCount, nodeCount, outputsPlace, nodesPlace, functionAt, functionEnd, functionPlace, earlier}
 use Rattle.reader.specs.Sizes.{sizeBy, nodeSize, nodeSizes, operandCounts}
 use Rattle.reader.specs.Find.{ReadsNode, ReadsNodes, ReadsFunction, nodeFound, functionFound}

@@ -12,13 +12,14 @@ use Rattle.ports.specs.declared.Form as Forms
 use Rattle.ports.specs.Kinds.{Kind, kindOf}
 use Rattle.ports.specs.declared.Ports.{Ports}
 use Rattle.ports.specs.Ports.{width, portsOf, arity, constantWords, formOf, exists, typeFits, legal}
-use Rattle.value.specs.Values.{valueOf, constantWord, every}
-use Rattle.graph.specs.Outcome.{Outcome, ok, fault, _>>=_, _>>_, need}
+use Rattle.value.specs.Values.{valueOf, constantWord}
+use Rattle.base.specs.Lists.{every}
+use Rattle.base.specs.Outcome.{Outcome, ok, fault, _>>=_, _>>_, need, Part}
 use Rattle.graph.specs.Graph as Graph
 use Rattle.graph.specs.Graph.{consts, refs, calls}
-use Rattle.graph.specs.Bytes.{byte, u16, u64}
-use Rattle.graph.specs.Read.{constants, references, Part, payload, node}
-use Rattle.graph.proofs.Steps.{takes, stops, passes, fails}
+use Rattle.base.specs.Bytes.{byte, u16, u64, constants}
+use Rattle.graph.specs.Read.{references, payload, node}
+use Rattle.base.proofs.Outcomes.{takes, stops, passes, fails}
 use Rattle.graph.proofs.Formed.{refs-length}
 use Rattle.reader.specs.Layout.{kindAt}
 use Rattle.reader.specs.Records.{payloadOf, payloadRead, nodeRead}

@@ -12,7 +12,7 @@ use Rattle.ports.specs.declared.Ports.{Ports}
 use Rattle.ports.specs.Kinds.{kindOf}
 use Rattle.ports.specs.Ports.{width, absent, portsOf, rows, constantWords, formOf}
 use Rattle.ports.proofs.Laws.{row-of}
-use Rattle.graph.proofs.Loops.{and-inv}
+use Rattle.base.proofs.Bools.{and-inv}
 
 abbrev all : (Ports → Bool) → List Ports → Bool
 all p [] = true

@@ -7,12 +7,12 @@ use Rattle.ports.specs.declared.Form.{Form}
 use Rattle.ports.specs.declared.Form.the-variants.{Absent, Constant, References, Call}
 use Rattle.ports.specs.Kinds.{Kind, kindOf}
 use Rattle.ports.specs.Ports.{arity, constantWords, formOf}
-use Rattle.graph.specs.Outcome.{Outcome, ok, fault}
-use Rattle.graph.specs.Bytes.{byte, u16}
+use Rattle.base.specs.Outcome.{Outcome, ok, fault, Part}
+use Rattle.base.specs.Bytes.{byte, u16}
 use Rattle.graph.specs.Graph.{Payload, consts, refs, calls, Node, Output, Function}
-use Rattle.graph.specs.Read.{Format, version1, inputs, outputs, Part, payload, node, nodes, function, functions, parse}
+use Rattle.graph.specs.Read.{Format, version1, inputs, outputs, payload, node, nodes, function, functions, parse}
 use Rattle.graph.specs.Judge.{table, judgeAll}
-use Rattle.graph.proofs.Steps.{took, after, passed, ok-is}
+use Rattle.base.proofs.Outcomes.{took, after, passed, ok-is}
 use Rattle.reader.specs.Layout.{kindAt, payloadAt, payloadEnd, nodeAt, nodeEnd, nodesAt, nodePlace, inputsAt, outputsAt, functionAt, functionEnd, functionsAt, functionPlace, functionOf, earlier, nodesPlace, outputsPlace}
 
 abbrev part : {A : Type 0} → A → ℕ → Part A

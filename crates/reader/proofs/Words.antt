@@ -13,10 +13,10 @@ use Rattle.value.specs.declared.Row.{Row}
 use Rattle.value.specs.declared.Value.the-variants.{Vector, Matrix}
 use Rattle.ports.specs.Ports.{width}
 use Rattle.value.specs.Values as Values
-use Rattle.value.specs.Values.{vec, row, mat, valueOf, constantWord, every}
+use Rattle.value.specs.Values.{vec, row, mat, valueOf, constantWord}
+use Rattle.base.specs.Lists.{every}
 use Rattle.reader.specs.Records.{floatAt, rowAt, matrixAt, vectorAt}
-use Rattle.graph.specs.Bytes.{u64}
-use Rattle.graph.specs.Read.{constants}
+use Rattle.base.specs.Bytes.{u64, constants}
 
 -- the first of some words, and those behind it
 pub infinite-first : (n : ℕ) (s : List ℕ) (at : ℕ) → 0 < n → 2047 * 2 ^ 52 ≤ u64 s at % 2 ^ 63 → every constantWord (constants n s at) ≡ false

@@ -5,9 +5,9 @@ use mathlib.Core.Bool.{Bool, true, false, cond}
 use mathlib.Core.List.{List, [], _∷_}
 use lib.Dec.{eqb}
 use lib.ListN.{length, getD}
-use Rattle.graph.specs.Outcome.{Outcome, ok}
+use Rattle.base.specs.Outcome.{Outcome, ok, Part}
 use Rattle.graph.specs.Graph.{Node, Function}
-use Rattle.graph.specs.Read.{version1, Part, node, nodes, function}
+use Rattle.graph.specs.Read.{version1, node, nodes, function}
 use Rattle.reader.specs.Layout.{functionPlace}
 use Rattle.reader.specs.declared.Found.{Found}
 use Rattle.reader.specs.declared.Found.the-variants.{At, Nothing}

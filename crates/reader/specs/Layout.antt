@@ -5,9 +5,9 @@ use Rattle.ports.specs.declared.Form.{Form}
 use Rattle.ports.specs.declared.Form.the-variants.{Absent, Constant, References, Call}
 use Rattle.ports.specs.Kinds.{Kind, kindOf}
 use Rattle.ports.specs.Ports.{arity, constantWords, formOf}
-use Rattle.graph.specs.Bytes.{byte, u16}
+use Rattle.base.specs.Bytes.{byte, u16, constants}
 use Rattle.graph.specs.Graph.{Payload, consts, refs, calls, Node, Output, Function}
-use Rattle.graph.specs.Read.{reference, references, constants}
+use Rattle.graph.specs.Read.{reference, references}
 
 -- ---- nodes
 

@@ -12,11 +12,10 @@ use Rattle.value.specs.declared.Vec3.{Vec3}
 use Rattle.value.specs.declared.Row.{Row}
 use Rattle.value.specs.declared.Mat4.{Mat4}
 use Rattle.value.specs.Values.{vec, row, mat, valueOf}
-use Rattle.graph.specs.Outcome.{Outcome, ok, fault}
+use Rattle.base.specs.Outcome.{Outcome, ok, fault, Part}
 use Rattle.graph.specs.Graph as Graph
 use Rattle.graph.specs.Graph.{consts, refs, calls}
-use Rattle.graph.specs.Bytes.{u64}
-use Rattle.graph.specs.Read.{Part}
+use Rattle.base.specs.Bytes.{u64}
 use Rattle.reader.specs.declared.Next.{Next}
 use Rattle.reader.specs.declared.Seen.{Seen}
 use Rattle.reader.specs.declared.Record.{Record}

@@ -5,7 +5,7 @@ use mathlib.Core.List.{List, [], _∷_, _++_, map, append-nil, append-assoc}
 use native.Mathlib.Omega.{arith}
 use lib.ListN.{length, length-append, length-map}
 use lib.Seq.{sets}
-use Rattle.graph.specs.Bytes.{u16}
+use Rattle.base.specs.Bytes.{u16}
 use Rattle.graph.specs.Graph.{Ref}
 use Rattle.graph.specs.Look.{reads}
 use Rattle.graph.specs.Read.{references}
@@ -15,7 +15,7 @@ use Rattle.reader.proofs.Passed.{place-next}
 use Rattle.resolver.specs.declared.Reads.{Reads}
 use Rattle.resolver.specs.Operands.{ReadsOf}
 use Rattle.resolver.specs.Groups.{idsOf, named, Gathered}
-use Rattle.resolver.proofs.Storing.{sets-append}
+use Rattle.base.proofs.Stores.{sets-append}
 
 -- ---- one node's: n references, of which j are passed
 

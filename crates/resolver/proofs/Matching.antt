@@ -8,17 +8,16 @@ use lib.Dec.{eqb}
 use lib.ListN.{length, getD, set, replicate, length-set, getD-replicate}
 use lib.Seq.{getD-set-same, getD-set-other}
 use borrow.Author.Tests.{eqb-true, eqb-false, eq-eqb, ne-eqb}
-use Rattle.graph.specs.Bytes.{u16}
+use Rattle.base.specs.Bytes.{u16}
 use Rattle.graph.specs.Graph.{Node}
-use Rattle.graph.specs.Look.{member}
-use Rattle.graph.specs.Outcome.{ok}
+use Rattle.base.specs.Lists.{member, Distinct}
+use Rattle.base.specs.Outcome.{ok}
 use Rattle.graph.specs.Judge.{fresh}
-use Rattle.graph.specs.Orders.{Distinct}
 use Rattle.graph.proofs.Fresh.{fresh-distinct}
 use Rattle.reader.specs.Layout.{nodeAt, nodeEnd, nodesAt}
 use Rattle.reader.specs.Find.{ReadsNodes}
 use Rattle.reader.proofs.Passed.{first-reads, rest-reads, node-legal}
-use Rattle.topology.specs.Resolve.{indexOf}
+use Rattle.order.specs.Resolve.{indexOf}
 use Rattle.resolver.specs.Groups.{sought, Marked, FoundAll}
 use Rattle.resolver.proofs.Rows.{length-nodes}
 use Rattle.resolver.proofs.Walking.{Passed, pass-start, pass-step, left-next, left-none, left-all}

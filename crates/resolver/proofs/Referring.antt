@@ -7,10 +7,10 @@ use native.Mathlib.Omega.{arith}
 use Rattle.ports.specs.declared.Form.{Form}
 use Rattle.ports.specs.declared.Form.the-variants.{Absent, Constant, References, Call}
 use Rattle.ports.specs.Ports.{portsOf, arity, formOf, exists, typeFits, legal}
-use Rattle.graph.specs.Bytes.{byte}
+use Rattle.base.specs.Bytes.{byte}
 use Rattle.graph.specs.Look.{readsOf, reads}
 use Rattle.graph.specs.Read.{references}
-use Rattle.graph.proofs.Loops.{and-inv}
+use Rattle.base.proofs.Bools.{and-inv}
 use Rattle.reader.specs.Layout.{kindAt, payloadAt, nodeAt}
 use Rattle.reader.specs.Sizes.{sizeBy, nodeSize}
 use Rattle.reader.specs.Find.{ReadsNode}

@@ -9,12 +9,12 @@ use lib.Seq.{sets, length-sets, set-set, getD-append-add}
 use Rattle.graph.specs.Graph.{Ref, Node}
 use Rattle.graph.specs.Look.{reads}
 use Rattle.reader.specs.Layout.{nodeAt, nodeEnd, nodesAt, nodePlace}
-use Rattle.topology.specs.Indices.{slot}
-use Rattle.topology.specs.Resolve.{target}
-use Rattle.topology.proofs.Nodes.{at-below}
+use Rattle.order.specs.Indices.{slot}
+use Rattle.order.specs.Resolve.{target}
+use Rattle.order.proofs.Nodes.{at-below}
 use Rattle.resolver.specs.Slots.{padded, rowOf, rowsOf, placesOf}
 use Rattle.resolver.specs.Groups.{entries}
-use Rattle.resolver.proofs.Storing.{sets-in, set-before}
+use Rattle.base.proofs.Stores.{sets-in, set-before}
 
 -- ---- a row
 

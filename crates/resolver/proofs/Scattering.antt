@@ -13,14 +13,15 @@ use Rattle.graph.specs.Read.{references}
 use Rattle.graph.proofs.Formed.{refs-length}
 use Rattle.reader.specs.Layout.{nodeAt, nodeEnd, nodesAt, nodePlace}
 use Rattle.reader.proofs.Passed.{place-next}
-use Rattle.topology.specs.Resolve.{target}
+use Rattle.order.specs.Resolve.{target}
 use Rattle.resolver.specs.declared.Reads.{Reads}
 use Rattle.resolver.specs.declared.Group.{Group}
 use Rattle.resolver.specs.declared.Reached.{Reached}
 use Rattle.resolver.specs.Operands.{ReadsOf}
 use Rattle.resolver.specs.Slots.{padded, rowOf, rowsOf}
 use Rattle.resolver.specs.Groups.{idsOf, named, sought, entries, Gathered, FoundAll, Found, GroupDone}
-use Rattle.resolver.proofs.Storing.{sets-in, Run, run-start, run-part, run-done}
+use Rattle.base.proofs.Stores.{sets-in}
+use Rattle.resolver.proofs.Storing.{Run, run-start, run-part, run-done}
 use Rattle.resolver.proofs.Rows.{length-row, length-rows, length-nodes}
 use Rattle.resolver.proofs.Walking.{Passed, pass-step, left-next, left-none, left-all, rows-next, rows-none}
 

@@ -6,37 +6,7 @@ use native.Mathlib.Omega.{arith}
 use native.Mathlib.Nat.{add-zero}
 use lib.ListN.{length, getD, set, length-set}
 use lib.Seq.{sets, length-sets, set-comm, getD-set-same, getD-set-other}
-
--- one after another
-pub sets-append : (xs ys l : List ℕ) (i : ℕ) → sets l i (xs ++ ys) ≡ sets (sets l i xs) (i + length xs) ys
-sets-append [] ys l i = rw add-zero
-sets-append (a ∷ xs) ys l i =
-    let e : suc i + length xs ≡ i + suc (length xs) = omega arith in
-    sets-append xs ys (set l i a) (suc i) ∙ ap (λ (k : ℕ). sets (sets (set l i a) (suc i) xs) k ys) e
-
--- what stands outside a run stays
-pub sets-below : (xs l : List ℕ) (i q : ℕ) → q < i → getD (sets l i xs) q 0 ≡ getD l q 0
-sets-below [] l i q h = refl
-sets-below (a ∷ xs) l i q h = sets-below xs (set l i a) (suc i) q (omega arith) ∙ getD-set-other l i q a 0 (λ e. omega arith)
-
-pub sets-above : (xs l : List ℕ) (i q : ℕ) → i + length xs ≤ q → getD (sets l i xs) q 0 ≡ getD l q 0
-sets-above [] l i q h = refl
-sets-above (a ∷ xs) l i q h = sets-above xs (set l i a) (suc i) q (omega arith) ∙ getD-set-other l i q a 0 (λ e. omega arith)
-
--- and in it stands the run
-pub sets-in : (xs l : List ℕ) (i j : ℕ) → j < length xs → i + length xs ≤ length l → getD (sets l i xs) (i + j) 0 ≡ getD xs j 0
-sets-in [] l i j h k = absurd (omega arith)
-sets-in (a ∷ xs) l i zero h k = rw add-zero (sets-below xs (set l i a) (suc i) i (omega arith) ∙ getD-set-same l i a 0 (omega arith))
-sets-in (a ∷ xs) l i (suc j) h k =
-    let e : i + suc j ≡ suc i + j = omega arith in
-    let m : length (set l i a) ≡ length l = length-set l i a in
-    rw e (sets-in xs (set l i a) (suc i) j (omega arith) (omega arith))
-
--- a store before a run
-pub set-before : (ys l : List ℕ) (i j x : ℕ) → i < j → set (sets l j ys) i x ≡ sets (set l i x) j ys
-set-before [] l i j x h = refl
-set-before (y ∷ ys) l i j x h =
-    set-before ys (set l j y) i (suc j) x (omega arith) ∙ ap (λ (k : List ℕ). sets k (suc j) ys) (set-comm l j i y x (λ e. omega arith))
+use Rattle.base.proofs.Stores.{sets-append}
 
 -- ---- a run that is stored in parts: `tail` is left, and goes to p
 

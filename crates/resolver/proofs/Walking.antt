@@ -5,7 +5,7 @@ use mathlib.Core.List.{List, [], _∷_, _++_}
 use native.Mathlib.Omega.{arith}
 use lib.ListN.{getD}
 use Rattle.ports.specs.Ports.{portsOf, arity}
-use Rattle.graph.specs.Bytes.{byte}
+use Rattle.base.specs.Bytes.{byte}
 use Rattle.graph.specs.Graph.{Node}
 use Rattle.reader.specs.Layout.{kindAt, nodeAt, nodeEnd, nodesAt}
 use Rattle.reader.specs.Sizes.{nodeSize, nodeSizes, operandCounts}

@@ -9,7 +9,7 @@ use lib.Seq.{sets}
 use Rattle.graph.specs.Graph.{Ref, Node}
 use Rattle.graph.specs.Look.{reads}
 use Rattle.reader.specs.Layout.{nodesAt, nodePlace}
-use Rattle.topology.specs.Resolve.{indexOf}
+use Rattle.order.specs.Resolve.{indexOf}
 use Rattle.resolver.specs.declared.Group.{Group}
 use Rattle.resolver.specs.declared.Reached.{Reached}
 use Rattle.resolver.specs.Slots.{rowsOf}

@@ -4,7 +4,7 @@ use mathlib.Core.List.{List, [], _∷_, _++_, map}
 use mathlib.Core.Option.{some}
 use Rattle.graph.specs.Graph.{Node}
 use Rattle.graph.specs.Look.{reads}
-use Rattle.topology.specs.Resolve.{target}
+use Rattle.order.specs.Resolve.{target}
 
 -- the first n of some numbers, and 256 behind the last
 unfoldable pub padded : ℕ → List ℕ → List ℕ

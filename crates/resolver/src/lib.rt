@@ -7,7 +7,7 @@ ghost use lib.Dec.{eqb};
 ghost use lib.ListN.{length, replicate};
 ghost use lib.Seq.{sets};
 ghost use Rattle.ports.specs.Ports.{portsOf, arity};
-ghost use Rattle.graph.specs.Outcome.{ok};
+ghost use Rattle.base.specs.Outcome.{ok};
 ghost use Rattle.graph.specs.Judge.{fresh};
 ghost use Rattle.graph.specs.Read.{references};
 ghost use Rattle.reader.specs.Layout.{kindAt, nodesAt, nodePlace};

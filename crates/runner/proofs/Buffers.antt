@@ -8,12 +8,11 @@ use native.Mathlib.Numerals.{add-one}
 use native.Mathlib.Omega.{arith}
 use lib.ListN.{length, getD, set, take, drop, length-append}
 use lib.Seq.{sets, take-suc, take-length, drop-cons, drop-length, length-take-le}
-use Rattle.value.specs.Values.{wordAt, every}
-use Rattle.value.specs.Typed.{Each}
-use Rattle.value.proofs.Stores.{then}
-use Rattle.graph.specs.Bytes.{u16}
-use Rattle.list.specs.Code.{addresses}
-use Rattle.list.proofs.Decoded.{addresses-length}
+use Rattle.base.specs.Lists.{wordAt, every, Each}
+use Rattle.base.proofs.Stores.{then}
+use Rattle.base.specs.Bytes.{u16}
+use Rattle.bytecode.specs.Code.{addresses}
+use Rattle.bytecode.proofs.Decoded.{addresses-length}
 
 -- ---- one more word
 

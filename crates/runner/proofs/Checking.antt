@@ -13,11 +13,12 @@ use Rattle.ports.specs.declared.Ports.{Ports}
 use Rattle.ports.specs.Kinds.{kindOf}
 use Rattle.ports.specs.Ports.{width, portsOf, own, types, takes, arity, constantIn, constantWords, resultWords, executable, typeFits, legalInstruction}
 use Rattle.ports.proofs.Laws.{words-given}
-use Rattle.value.specs.Values.{constantWord, every}
-use Rattle.graph.specs.Bytes.{byte, u16, u64}
-use Rattle.graph.specs.Read.{constants, Part}
-use Rattle.list.specs.Board.{Instruction}
-use Rattle.list.specs.Code.{guard, addresses, allBelow, allLess, readOperands, readKind, readInstruction, nextWord}
+use Rattle.value.specs.Values.{constantWord}
+use Rattle.base.specs.Lists.{every}
+use Rattle.base.specs.Bytes.{byte, u16, u64, constants}
+use Rattle.base.specs.Outcome.{Part}
+use Rattle.bytecode.specs.Run.{Instruction}
+use Rattle.bytecode.specs.Code.{guard, addresses, allBelow, allLess, readOperands, readKind, readInstruction, nextWord}
 use Rattle.executor.specs.declared.Next.{Next}
 use Rattle.executor.specs.Execution.{endOf, wordsGiven}
 use Rattle.runner.specs.declared.Passed.{Passed}

@@ -9,16 +9,17 @@ use borrow.Author.Tests.{le-leb, lt-leb, eq-eqb, ne-eqb, eqb-true, leb-true}
 use lib.Dec.{leb, eqb}
 use lib.ListN.{length}
 use lib.Seq.{sets, length-sets}
-use Rattle.value.specs.Values.{wordAt, argumentWord, every}
-use Rattle.value.specs.Typed.{Word, Each}
+use Rattle.base.specs.Lists.{wordAt, every, Word, Each}
+use Rattle.value.specs.Values.{argumentWord}
 use Rattle.value.proofs.Laws.{same-word}
-use Rattle.graph.specs.Outcome.{Outcome, ok, fault, _>>=_, _>>_, need, orElse}
-use Rattle.graph.specs.Bytes.{byte, u16}
-use Rattle.graph.proofs.Loops.{and-inv, and-both}
-use Rattle.list.specs.Board.{Instruction, BoardList, execute, executeAll, run}
-use Rattle.list.specs.Code.{guard, then, addresses, allLess, Listed, readInstructions, readOutputs, withinLimits, readCounts, marked, decode}
-use Rattle.list.specs.Answers.{Buffers, ran}
-use Rattle.list.proofs.Decoded.{guard-inv, some-is, then-inv, addresses-length, all-less}
+use Rattle.base.specs.Outcome.{Outcome, ok, fault, _>>=_, _>>_, need, orElse}
+use Rattle.base.specs.Bytes.{byte, u16}
+use Rattle.base.proofs.Bools.{and-inv, and-both}
+use Rattle.bytecode.specs.Run.{Instruction, BoardList, execute, executeAll, run}
+use Rattle.bytecode.specs.Code.{guard, then, addresses, allLess, Listed, readInstructions, readOutputs, withinLimits, readCounts, marked, decode}
+use Rattle.bytecode.specs.Answers.{Buffers, ran}
+use Rattle.bytecode.proofs.Decoded.{guard-inv, then-inv, addresses-length, all-less}
+use Rattle.base.proofs.Lists.{some-is}
 use Rattle.runner.specs.declared.Counts.{Counts}
 use Rattle.runner.specs.declared.Checked.{Checked}
 use Rattle.runner.specs.declared.Checked.the-variants.{Formed, Malformed}

@@ -13,11 +13,12 @@ use Rattle.ports.specs.declared.Ports.{Ports}
 use Rattle.ports.specs.Kinds.{Kind, unknown, addition, subtraction, multiplication, division, constant, constvec, constmat, composevector, vectorfromscalar, decomposevector, composematrix, matrixfromcolumns, matrixfromrows, dot, cross, matvecmultiplication, transpose, min, max, abs, fmod, select, clamp, call, kindOf}
 use Rattle.ports.specs.Ports.{width, widths, gives, executable, typeFits, legalInstruction}
 use Rattle.ports.proofs.Laws.{no-kind}
-use Rattle.graph.specs.Bytes.{byte, u16}
-use Rattle.graph.specs.Read.{Part}
-use Rattle.list.specs.Board.{Instruction, BoardList}
-use Rattle.list.specs.Code.{guard, then, addresses, allLess, readInstruction, nextWord, Listed, readInstructions, readOutputs, withinLimits, readCounts, marked, decode}
-use Rattle.list.proofs.Decoded.{some-is, then-inv, addresses-length}
+use Rattle.base.specs.Bytes.{byte, u16}
+use Rattle.base.specs.Outcome.{Part}
+use Rattle.bytecode.specs.Run.{Instruction, BoardList}
+use Rattle.bytecode.specs.Code.{guard, then, addresses, allLess, readInstruction, nextWord, Listed, readInstructions, readOutputs, withinLimits, readCounts, marked, decode}
+use Rattle.base.proofs.Lists.{some-is}
+use Rattle.bytecode.proofs.Decoded.{then-inv, addresses-length}
 use Rattle.executor.specs.declared.Next.{Next}
 use Rattle.executor.specs.Execution.{endOf, wordsGiven}
 use Rattle.executor.proofs.Loop.{Read, read-inv}

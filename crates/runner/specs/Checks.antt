@@ -7,10 +7,10 @@ use lib.ListN.{length}
 use Rattle.ports.specs.declared.Ports.{Ports}
 use Rattle.ports.specs.Kinds.{kindOf}
 use Rattle.ports.specs.Ports.{portsOf}
-use Rattle.graph.specs.Bytes.{byte, u16}
-use Rattle.graph.specs.Read.{Part}
-use Rattle.list.specs.Board.{Instruction, BoardList}
-use Rattle.list.specs.Code.{nextWord, Listed}
+use Rattle.base.specs.Bytes.{byte, u16}
+use Rattle.base.specs.Outcome.{Part}
+use Rattle.bytecode.specs.Run.{Instruction, BoardList}
+use Rattle.bytecode.specs.Code.{nextWord, Listed}
 use Rattle.runner.specs.declared.Counts.{Counts}
 use Rattle.runner.specs.declared.Checked.{Checked}
 use Rattle.runner.specs.declared.Checked.the-variants.{Formed, Malformed}

@@ -6,12 +6,12 @@ use mathlib.Core.Bool.{true}
 use mathlib.Core.Option.{Option, none, some}
 use lib.ListN.{length}
 use lib.Seq.{sets}
-use Rattle.value.specs.Values.{argumentWord, every}
-use Rattle.value.specs.Typed.{Each}
-use Rattle.graph.specs.Outcome.{Outcome, ok, fault}
-use Rattle.list.specs.Board.{BoardList, run}
-use Rattle.list.specs.Code.{addresses, decode}
-use Rattle.list.specs.Answers.{Buffers}
+use Rattle.value.specs.Values.{argumentWord}
+use Rattle.base.specs.Lists.{every, Each}
+use Rattle.base.specs.Outcome.{Outcome, ok, fault}
+use Rattle.bytecode.specs.Run.{BoardList, run}
+use Rattle.bytecode.specs.Code.{addresses, decode}
+use Rattle.bytecode.specs.Answers.{Buffers}
 use Rattle.runner.specs.declared.Counts.{Counts}
 use Rattle.runner.specs.declared.Checked.the-variants.{Formed}
 use Rattle.runner.specs.declared.Ran.{Ran}

@@ -20,11 +20,14 @@ use Rattle.value.specs.declared.Mat4.{Mat4}
 use Rattle.value.specs.declared.Value.{Value}
 use Rattle.value.specs.declared.Value.the-variants.{Scalar, Vector, Matrix}
 use Rattle.value.specs.declared.Operator.the-variants.{Add, Subtract, Multiply, Divide, Minimum, Maximum, Absolute, Remainder, Select, Clamp}
-use Rattle.value.specs.Values.{vec, row, mat, typeOf, word, wordsOf, allWords, wordAt, floatAt, matAt, valueAt, valueOf, valuesOf, wordsAt, finite}
+use Rattle.value.specs.Values.{vec, row, mat, typeOf, word, wordsOf, allWords, floatAt, matAt, valueAt, valueOf, valuesOf, finite}
+use Rattle.base.proofs.Bools.{and-inv, and-both}
+use Rattle.base.specs.Lists.{wordAt, wordsAt, Each, every, Word}
 use Rattle.value.specs.Steps.{scalar, matrix}
 use Rattle.value.specs.Results.{operand, vectorOf, results}
 use Rattle.value.proofs.Held.{zero-held, one-held, scalar-held, vector-held, matrix-held, operand-held, each-typed}
-use Rattle.value.specs.Typed.{TypeCode, Each, Finite, Held, RowHeld, VecHeld, MatHeld, ValueHeld, Of, Typed}
+use Rattle.value.specs.Typed.{TypeCode, Finite, Held, RowHeld, VecHeld, MatHeld, ValueHeld, Of, Typed}
+use Rattle.base.proofs.Lists.{whole}
 
 -- ---- words
 
@@ -184,14 +187,6 @@ same-words (w ∷ ws) (f, h) =
     let b : map again ws ≡ ws = same-words ws h in
     cc
 
-below : (w : ℕ) (ws : List ℕ) (at n : ℕ) → wordsAt (w ∷ ws) (suc at) n ≡ wordsAt ws at n
-below w ws at zero = refl
-below w ws at (suc n) = ap {B = List ℕ} (λ r. wordAt ws at ∷ r) (below w ws (suc at) n)
-
-pub whole : (ws : List ℕ) → wordsAt ws 0 (length ws) ≡ ws
-whole [] = refl
-whole (w ∷ ws) = ap {B = List ℕ} (λ r. w ∷ r) (below w ws 0 (length ws) ∙ whole ws)
-
 pub type-cases : (t : ℕ) → TypeCode t → (t ≡ 1) ⊎ ((t ≡ 2) ⊎ (t ≡ 3))
 type-cases t (a, b) = pickOne (eqb t 1) (eqb t 2) refl refl
   where
@@ -284,3 +279,13 @@ width-else t p q = simp (ne-eqb t 1 p, ne-eqb t 2 q)
 -- the words of a value
 abbrev pub size : Value → ℕ
 size v = length (wordsOf v)
+
+-- ---- finite words, as a test and as a statement
+
+pub each-finite : (ws : List ℕ) → every finite ws ≡ true → Each Word ws → Each Finite ws
+each-finite [] e h = tt
+each-finite (w ∷ ws) e (p, h) = let (a, b) = and-inv (finite w) (every finite ws) e in ((p, a), each-finite ws b h)
+
+pub all-finite : (xs : List ℕ) → Each Finite xs → every finite xs ≡ true
+all-finite [] h = refl
+all-finite (x ∷ xs) (p, h) = and-both (finite x) (every finite xs) (p .1) (all-finite xs h)

@@ -12,16 +12,10 @@ use Rattle.value.specs.declared.Mat4.{Mat4}
 use Rattle.value.specs.declared.Value.{Value}
 use Rattle.value.specs.declared.Value.the-variants.{Scalar, Vector, Matrix}
 use Rattle.value.specs.Values.{typeOf, finite}
+use Rattle.base.specs.Lists.{Word}
 
 abbrev pub TypeCode : ℕ → Type 0
 TypeCode t = (1 ≤ t) × (t ≤ 3)
-
-abbrev pub Word : ℕ → Type 0
-Word w = w < 2 ^ 64
-
-abbrev pub Each : {A : Type 0} → (A → Type 0) → List A → Type 0
-Each P [] = Unit {0}
-Each P (x ∷ xs) = P x × Each P xs
 
 -- a word that stands for a finite value
 abbrev pub Finite : ℕ → Type 0

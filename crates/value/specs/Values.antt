@@ -12,6 +12,7 @@ use Rattle.value.specs.declared.Row.{Row}
 use Rattle.value.specs.declared.Mat4.{Mat4}
 use Rattle.value.specs.declared.Value.{Value}
 use Rattle.value.specs.declared.Value.the-variants.{Scalar, Vector, Matrix}
+use Rattle.base.specs.Lists.{wordAt}
 
 abbrev pub vec : Float → Float → Float → Vec3
 vec a b c = record { x = a; y = b; z = c }
@@ -53,9 +54,6 @@ allWords (v ∷ vs) = wordsOf v ++ allWords vs
 
 -- ---- the value of a type that stands at an address of a memory of words
 
-abbrev pub wordAt : List ℕ → ℕ → ℕ
-wordAt m a = getD m a 0
-
 abbrev pub floatAt : List ℕ → ℕ → Float
 floatAt m a = Ieee.ofBits binary64 (wordAt m a)
 
@@ -80,14 +78,6 @@ abbrev pub valuesOf : List ℕ → List ℕ → List Value
 valuesOf [] ws = []
 valuesOf (t ∷ ts) ws = valueOf t (take (width t) ws) ∷ valuesOf ts (drop (width t) ws)
 
--- n addresses from `at` on, and the words there
-abbrev pub span : ℕ → ℕ → List ℕ
-span at zero = []
-span at (suc n) = at ∷ span (suc at) n
-
-abbrev pub wordsAt : List ℕ → ℕ → ℕ → List ℕ
-wordsAt m at n = map (wordAt m) (span at n)
-
 -- ---- which words may be constants and arguments
 
 -- binary64's bits of a finite value: the exponent's field is not all ones
@@ -99,7 +89,3 @@ constantWord = finite
 
 abbrev pub argumentWord : ℕ → Bool
 argumentWord = finite
-
-abbrev pub every : (ℕ → Bool) → List ℕ → Bool
-every ok [] = true
-every ok (w ∷ ws) = ok w && every ok ws

@@ -7,7 +7,7 @@ use native.Mathlib.Omega.{arith}
 use lib.ListN.{length}
 use Rattle.ports.specs.declared.Form.{Form}
 use Rattle.ports.specs.Ports.{formOf}
-use Rattle.graph.specs.Bytes.{byte, u16}
+use Rattle.base.specs.Bytes.{byte, u16}
 use Rattle.graph.specs.Look.{findFunction}
 use Rattle.graph.specs.Read.{version1}
 use Rattle.reader.specs.Layout.{kindAt, functionAt, functionPlace, earlier}

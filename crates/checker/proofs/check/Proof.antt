@@ -3,7 +3,7 @@ use Prim.Native.Nat.{ℕ}
 use mathlib.Core.Path.{_≡_, refl, ap, sym, _∙_, subst}
 use mathlib.Core.List.{List, []}
 use native.Mathlib.Omega.{arith}
-use Rattle.graph.specs.Bytes.{byte, Bytes}
+use Rattle.base.specs.Bytes.{byte, Bytes}
 use Rattle.graph.specs.Read.{version1, parse}
 use Rattle.reader.specs.declared.Seen.{Seen}
 use Rattle.graph.specs.Judge.{judgeAll, verdict}

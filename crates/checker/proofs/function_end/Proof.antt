@@ -2,7 +2,7 @@ use borrow.Author.Needs.{needs}
 use Prim.Native.Nat.{ℕ, _+_, _-_, _*_, _<_}
 use mathlib.Core.Path.{_≡_, ap, sym, _∙_, subst}
 use native.Mathlib.Omega.{arith}
-use Rattle.graph.specs.Bytes.{byte}
+use Rattle.base.specs.Bytes.{byte}
 use Rattle.reader.specs.Layout.{nodeEnd, nodePlace, nodesPlace, nodeCount}
 use Rattle.reader.specs.Find.{ReadsNode}
 use Rattle.reader.proofs.Passed.{Holds, function-holds, place-reads}

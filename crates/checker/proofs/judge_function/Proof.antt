@@ -4,8 +4,8 @@ use mathlib.Core.Path.{_≡_, ap, sym, _∙_, subst}
 use mathlib.Core.Option.{none}
 use mathlib.Core.List.{List, []}
 use native.Mathlib.Omega.{arith}
-use Rattle.graph.specs.Outcome.{ok, each}
-use Rattle.graph.specs.Bytes.{byte, u16, Bytes}
+use Rattle.base.specs.Outcome.{ok, each}
+use Rattle.base.specs.Bytes.{byte, u16, Bytes}
 use Rattle.graph.specs.Graph.{Node, Output}
 use Rattle.graph.specs.Look.{findFunction}
 use Rattle.graph.specs.Read.{version1}

@@ -7,9 +7,9 @@ use native.Mathlib.Omega.{arith}
 use lib.ListN.{length, getElem?}
 use borrow.Author.Tests.{eqb-true}
 use Rattle.graph.specs.Graph.{Node}
-use Rattle.topology.specs.Indices.{indexOrder}
-use Rattle.topology.specs.Paths.{firstOnLoop}
-use Rattle.topology.proofs.LoopFree.{found-at, complete-iff, nowhere-free, loop-fault}
+use Rattle.order.specs.Indices.{indexOrder}
+use Rattle.order.specs.Paths.{firstOnLoop}
+use Rattle.order.proofs.LoopFree.{found-at, complete-iff, nowhere-free, loop-fault}
 use Rattle.reader.specs.Layout.{nodeAt, nodesAt, nodePlace, nodeCount, nodesPlace, functionAt}
 use Rattle.reader.specs.Find.{ReadsNodes}
 use Rattle.reader.specs.Records.{seen}

@@ -7,8 +7,8 @@ use lib.ListN.{length}
 use Rattle.ports.specs.declared.Form.{Form}
 use Rattle.ports.specs.declared.Ports.{Ports}
 use Rattle.ports.specs.Ports.{formOf, own, types}
-use Rattle.graph.specs.Outcome.{ok}
-use Rattle.graph.specs.Bytes.{byte, u16}
+use Rattle.base.specs.Outcome.{ok}
+use Rattle.base.specs.Bytes.{byte, u16}
 use Rattle.graph.specs.Look.{findFunction, reads}
 use Rattle.graph.specs.Read.{version1, references}
 use Rattle.graph.specs.Judge.{callOk}

@@ -6,7 +6,7 @@ use native.Mathlib.Omega.{arith}
 use lib.ListN.{length, getElem?}
 use Rattle.ports.specs.declared.Form.{Form}
 use Rattle.ports.specs.Ports.{formOf}
-use Rattle.graph.specs.Bytes.{u16}
+use Rattle.base.specs.Bytes.{u16}
 use Rattle.graph.specs.Look.{findFunction}
 use Rattle.graph.specs.Read.{version1}
 use Rattle.graph.specs.Judge.{outputsOf}

@@ -3,7 +3,7 @@ use Prim.Native.Nat.{ℕ, _+_, _-_, _≤_, _<_}
 use mathlib.Core.Path.{_≡_, ap, sym, _∙_, subst}
 use mathlib.Core.List.{List}
 use native.Mathlib.Omega.{arith}
-use Rattle.graph.specs.Outcome.{Outcome, ok, each}
+use Rattle.base.specs.Outcome.{Outcome, ok, each}
 use Rattle.graph.specs.Graph.{Node}
 use Rattle.graph.specs.Judge.{callOk}
 use Rattle.graph.specs.Read.{version1}

@@ -2,7 +2,7 @@ use borrow.Author.Needs.{needs}
 use Prim.Native.Nat.{ℕ, _+_, _*_}
 use mathlib.Core.Path.{ap, sym, _∙_}
 use native.Mathlib.Omega.{arith}
-use Rattle.graph.specs.Bytes.{byte}
+use Rattle.base.specs.Bytes.{byte}
 use Rattle.reader.proofs.Passed.{Holds, function-holds}
 use Rattle.checker.specs.declared.PortType.{PortType}
 use Rattle.checker.specs.Answers.{portOf}

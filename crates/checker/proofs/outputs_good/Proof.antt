@@ -3,7 +3,7 @@ use Prim.Native.Nat.{ℕ, _+_, _-_, _*_, _≤_, _<_}
 use mathlib.Core.Path.{_≡_, refl, ap, sym, _∙_, subst}
 use native.Mathlib.Omega.{arith}
 use lib.ListN.{length}
-use Rattle.graph.specs.Bytes.{byte}
+use Rattle.base.specs.Bytes.{byte}
 use Rattle.reader.specs.Layout.{outputsAt}
 use Rattle.reader.specs.Records.{seen}
 use Rattle.checker.specs.Answers.{outputsChecked}

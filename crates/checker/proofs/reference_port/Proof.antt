@@ -1,7 +1,7 @@
 use borrow.Author.Needs.{needs}
 use Prim.Native.Nat.{ℕ}
 use mathlib.Core.Path.{_≡_, ap, sym, _∙_}
-use Rattle.graph.specs.Bytes.{u16}
+use Rattle.base.specs.Bytes.{u16}
 use Rattle.graph.specs.Look.{findNode}
 use Rattle.reader.specs.Layout.{nodesAt, functionAt}
 use Rattle.reader.specs.Find.{nodeFound}

@@ -5,7 +5,7 @@ use mathlib.Core.Option.{some}
 use native.Mathlib.Omega.{arith}
 use lib.ListN.{length, drop}
 use Rattle.graph.specs.Read.{reference, references}
-use Rattle.topology.specs.Resolve.{target}
+use Rattle.order.specs.Resolve.{target}
 use Rattle.reader.specs.Layout.{functionAt}
 use Rattle.reader.specs.Records.{seen}
 use Rattle.checker.specs.Answers.{wantsList, referencesChecked}

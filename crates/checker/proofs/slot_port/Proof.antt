@@ -3,7 +3,7 @@ use Prim.Native.Nat.{ℕ}
 use mathlib.Core.Path.{_≡_, ap, sym, _∙_, subst}
 use mathlib.Core.Option.{some}
 use native.Mathlib.Omega.{arith}
-use Rattle.graph.specs.Bytes.{u16}
+use Rattle.base.specs.Bytes.{u16}
 use Rattle.reader.specs.Layout.{nodeAt, nodePlace}
 use Rattle.reader.specs.Find.{ReadsNode}
 use Rattle.reader.proofs.Passed.{place-reads}

@@ -3,14 +3,14 @@ use mathlib.Core.Path.{_≡_, refl, sym, ap, _∙_, subst}
 use borrow.Author.Needs.{needs}
 use native.Mathlib.Omega.{arith}
 use lib.ListN.{length}
-use Rattle.graph.specs.Bytes.{u16}
+use Rattle.base.specs.Bytes.{u16}
 use Rattle.graph.specs.Look.{reads}
 use Rattle.reader.specs.Layout.{nodeAt}
 use Rattle.reader.proofs.Passed.{end-fits}
-use Rattle.list.specs.Compile.{Opened}
-use Rattle.sizes.specs.Position.{calling}
+use Rattle.lowering.specs.Compile.{Opened}
+use Rattle.sums.specs.Position.{calling}
 use Rattle.compiler.specs.Emit.{Room, Emits, nodeOpened, functionOpened, Laid}
-use Rattle.sizes.proofs.Nodes.{called, form-is}
+use Rattle.sums.proofs.Nodes.{called, form-is}
 use Rattle.compiler.proofs.Opening.{count-is, callee-is, callee-none, nothing}
 use Rattle.compiler.proofs.Emission.{State, whole-words, start, node-ready, advance, same-size, few-nodes, finished}
 use borrow.Fn.Kinds.{In}
@@ -25,7 +25,7 @@ use Rattle.compiler.proofs.arguments.Reads as arguments-reads
 use Rattle.compiler.proofs.byte_at.Reads as byte-at-reads
 use Rattle.compiler.proofs.emit_single.Reads as emit-single-reads
 use Rattle.compiler.proofs.is_call.Reads as is-call-reads
-use Rattle.sizes.proofs.position_of.Reads as position-of-reads
+use Rattle.sums.proofs.position_of.Reads as position-of-reads
 use Rattle.compiler.proofs.u16_at.Reads as u16-at-reads
 use Rattle.compiler.proofs.wide.Reads as wide-reads
 use Rattle.compiler.proofs.wide16.Reads as wide16-reads

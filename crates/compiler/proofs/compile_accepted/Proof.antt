@@ -4,13 +4,13 @@ use mathlib.Core.Path.{_≡_, sym, ap, _∙_}
 use native.Mathlib.Omega.{arith}
 use lib.ListN.{length, length-replicate}
 use Rattle.ports.specs.Ports.{widths}
-use Rattle.graph.specs.Bytes.{byte}
+use Rattle.base.specs.Bytes.{byte}
 use Rattle.graph.specs.Judge.{outputTypes}
 use Rattle.reader.specs.Layout.{inputCount, outputCount}
 use Rattle.compiler.specs.declared.Compiled.{Compiled}
-use Rattle.sizes.specs.Position.{placeOf, functionIn, positionOf, Starts}
-use Rattle.sizes.specs.Capped.{operationsAt, wordsAt, instructionsAt, Summed, AllSummed}
-use Rattle.sizes.proofs.Tabulate.{starts-in, summed-in}
+use Rattle.sums.specs.Position.{placeOf, functionIn, positionOf, Starts}
+use Rattle.sums.specs.Capped.{operationsAt, wordsAt, instructionsAt, Summed, AllSummed}
+use Rattle.sums.proofs.Tabulate.{starts-in, summed-in}
 use Rattle.compiler.specs.Whole.{codeAt, Measured, answerOf, codeAfter}
 use Rattle.compiler.proofs.Accepting.{few, fit-at}
 use Rattle.compiler.proofs.Tables.{fewer}

@@ -6,9 +6,9 @@ use native.Mathlib.Omega.{arith}
 use lib.ListN.{length, length-set}
 use lib.Seq.{sets}
 use Rattle.compiler.specs.Emit.{copied, addressesIn}
-use Rattle.list.specs.Code.{allBytes}
-use Rattle.sizes.specs.Position.{calling}
-use Rattle.sizes.proofs.Nodes.{form-is, plain-end}
+use Rattle.base.specs.Bytes.{allBytes}
+use Rattle.sums.specs.Position.{calling}
+use Rattle.sums.proofs.Nodes.{form-is, plain-end}
 use Rattle.compiler.proofs.Single.{Taken, taken, head-length, head-then, operands-length}
 use Rattle.compiler.proofs.emit_single.Statement.{statement}
 use Rattle.compiler.proofs.emit_single.Tie as tie

@@ -4,9 +4,9 @@ use mathlib.Core.Path.{_≡_, refl, sym, ap, _∙_}
 use mathlib.Core.List.{List, _∷_}
 use native.Mathlib.Omega.{arith}
 use Rattle.ports.specs.Ports.{width}
-use Rattle.graph.specs.Bytes.{byte}
-use Rattle.list.specs.Compile.{places}
-use Rattle.sizes.specs.Answers.{typesBy}
+use Rattle.base.specs.Bytes.{byte}
+use Rattle.bytecode.specs.Run.{places}
+use Rattle.sums.specs.Answers.{typesBy}
 use Rattle.compiler.proofs.Filling.{Run, run-start, run-step, run-done}
 use Rattle.compiler.proofs.Ending.{types-next, types-none}
 use Rattle.compiler.proofs.input_places.Statement.{statement}

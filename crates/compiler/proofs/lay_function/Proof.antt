@@ -5,12 +5,12 @@ use mathlib.Core.List.{[]}
 use native.Mathlib.Omega.{arith}
 use lib.ListN.{length-replicate}
 use lib.Seq.{sets}
-use Rattle.graph.specs.Outcome.{ok}
-use Rattle.graph.specs.Bytes.{u16}
+use Rattle.base.specs.Outcome.{ok}
+use Rattle.base.specs.Bytes.{u16}
 use Rattle.graph.specs.Judge.{fresh}
 use Rattle.reader.specs.Layout.{nodesAt, nodesPlace, nodeCount, outputCount, outputsPlace}
 use Rattle.reader.specs.Find.{ReadsNodes}
-use Rattle.sizes.specs.Position.{placeOf, Fit}
+use Rattle.sums.specs.Position.{placeOf, Fit}
 use Rattle.compiler.specs.Spotting.{Slots, Places, outputCodes}
 use Rattle.compiler.proofs.Filling.{places-are, slots-are}
 use Rattle.compiler.proofs.Accepting.{few, fit-at, reads-nodes, fresh-at}

@@ -2,7 +2,7 @@ use borrow.Author.Needs.{needs}
 use Prim.Native.Nat.{_+_, _≤_, _<_, min}
 use mathlib.Core.Path.{_≡_, refl, _∙_}
 use native.Mathlib.Omega.{arith}
-use Rattle.sizes.specs.Capped.{wordCap, wordsAt}
+use Rattle.sums.specs.Capped.{wordCap, wordsAt}
 use Rattle.compiler.specs.Spotting.{readCount}
 use Rattle.compiler.specs.Emit.{spotRoom}
 use Rattle.compiler.proofs.Tables.{room-here, passed-over, one-more}

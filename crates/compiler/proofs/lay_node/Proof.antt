@@ -4,15 +4,15 @@ use mathlib.Core.Path.{_≡_, refl, sym, ap, _∙_}
 use mathlib.Core.List.{List}
 use native.Mathlib.Omega.{arith}
 use lib.Seq.{sets}
-use Rattle.graph.specs.Bytes.{byte}
+use Rattle.base.specs.Bytes.{byte}
 use Rattle.ports.specs.Ports as PortList
 use Rattle.reader.specs.Layout.{nodeAt, outputCount}
-use Rattle.sizes.specs.Position.{placeOf}
-use Rattle.sizes.specs.Capped.{addsWords}
-use Rattle.sizes.proofs.Nodes.{row-narrow}
+use Rattle.sums.specs.Position.{placeOf}
+use Rattle.sums.specs.Capped.{addsWords}
+use Rattle.sums.proofs.Nodes.{row-narrow}
 use Rattle.compiler.proofs.Opening.{count-is}
-use Rattle.sizes.proofs.Positions.{words-at, words-none}
-use Rattle.sizes.proofs.Summing.{added-words, plain-words}
+use Rattle.sums.proofs.Positions.{words-at, words-none}
+use Rattle.sums.proofs.Summing.{added-words, plain-words}
 use Rattle.compiler.proofs.Laying.{call-codes, no-codes, plain-codes}
 use Rattle.compiler.proofs.lay_node.Statement.{statement}
 use Rattle.compiler.proofs.lay_node.Tie as tie

@@ -7,9 +7,9 @@ use lib.Seq.{sets}
 use Rattle.graph.specs.Look.{reads}
 use Rattle.graph.proofs.Formed.{refs-length}
 use Rattle.reader.specs.Layout.{nodeAt, nodesPlace, nodeCount}
-use Rattle.topology.specs.Indices.{indexOrder}
-use Rattle.sizes.specs.Position.{placeOf, NodeFit}
-use Rattle.sizes.specs.Capped.{addsWords}
+use Rattle.order.specs.Indices.{indexOrder}
+use Rattle.sums.specs.Position.{placeOf, NodeFit}
+use Rattle.sums.specs.Capped.{addsWords}
 use Rattle.compiler.specs.Emit.{spotRoom}
 use Rattle.compiler.specs.Spotting.{Accepted, Slots, Places}
 use Rattle.compiler.proofs.Accepting.{few, fit-at}

@@ -8,7 +8,7 @@ use lib.ListN.{getD}
 use lib.Seq.{sets}
 use Rattle.graph.specs.Read.{reference}
 use Rattle.reader.specs.Layout.{nodesAt, outputCount, outputsPlace}
-use Rattle.topology.specs.Resolve as Resolve
+use Rattle.order.specs.Resolve as Resolve
 use Rattle.compiler.specs.Spotting.{portCode, outputCodes}
 use Rattle.compiler.proofs.Filling.{Run, run-start, run-step, run-done, outputs-next, outputs-none}
 use Rattle.compiler.proofs.lay_outputs.Statement.{statement}

@@ -4,9 +4,9 @@ use mathlib.Core.Path.{_≡_, sym, ap, _∙_}
 use native.Mathlib.Omega.{arith}
 use lib.ListN.{length, getD}
 use Rattle.ports.specs.Ports.{width, widths}
-use Rattle.graph.specs.Bytes.{byte}
+use Rattle.base.specs.Bytes.{byte}
 use Rattle.compiler.specs.Emit.{addressOf}
-use Rattle.sizes.specs.Answers.{typesBy}
+use Rattle.sums.specs.Answers.{typesBy}
 use Rattle.compiler.proofs.Ending.{Outgoing, out-start, out-room, out-step, out-done}
 use Rattle.compiler.proofs.put_outputs.Statement.{statement}
 use Rattle.compiler.proofs.put_outputs.Tie as tie

@@ -4,9 +4,9 @@ use mathlib.Core.Path.{_≡_, sym, ap, _∙_}
 use native.Mathlib.Omega.{arith}
 use borrow.Author.Tests.{eq-eqb, ne-eqb}
 use lib.ListN.{length}
-use Rattle.graph.specs.Bytes.{u16}
+use Rattle.base.specs.Bytes.{u16}
 use Rattle.reader.specs.Layout.{nodesAt}
-use Rattle.topology.specs.Resolve.{indexOf}
+use Rattle.order.specs.Resolve.{indexOf}
 use Rattle.resolver.proofs.Rows.{length-nodes}
 use Rattle.compiler.proofs.Filling.{found-index, none-index}
 use Rattle.compiler.proofs.target.Statement.{statement}

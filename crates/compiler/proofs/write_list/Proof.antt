@@ -5,16 +5,15 @@ use mathlib.Core.List.{List}
 use native.Mathlib.Omega.{arith}
 use lib.ListN.{length, replicate, length-replicate}
 use lib.Seq.{sets}
-use Rattle.graph.specs.Bytes.{byte}
+use Rattle.base.specs.Bytes.{byte, allBytes}
 use Rattle.reader.specs.Layout.{inputCount, outputCount, outputsPlace, functionAt}
-use Rattle.list.specs.Compile.{places, spans}
-use Rattle.list.specs.Code.{allBytes}
-use Rattle.sizes.specs.Position.{placeOf, functionIn}
-use Rattle.sizes.specs.Capped.{wordsAt}
+use Rattle.bytecode.specs.Run.{places, spans}
+use Rattle.sums.specs.Position.{placeOf, functionIn}
+use Rattle.sums.specs.Capped.{wordsAt}
 use Rattle.compiler.specs.Emit.{addressesIn, closedAt}
 use Rattle.compiler.specs.Spotting.{PortsCoded}
-use Rattle.sizes.specs.Answers.{typesBy}
-use Rattle.sizes.proofs.Widths.{inputs-are}
+use Rattle.sums.specs.Answers.{typesBy}
+use Rattle.sums.proofs.Widths.{inputs-are}
 use Rattle.compiler.proofs.Accepting.{few, fit-at}
 use Rattle.compiler.proofs.Tables.{fewer}
 use Rattle.compiler.proofs.Assembly.{emit-room, outs-low, out-room, assembled}

@@ -2,7 +2,7 @@
 use borrow.Author.Needs.{needs}
 use native.Mathlib.Nat.{add-zero}
 use Rattle.value.specs.Results.{results}
-use Rattle.list.specs.Board.{execute}
+use Rattle.bytecode.specs.Run.{execute}
 use Rattle.executor.proofs.constvec.Statement.{statement}
 use Rattle.executor.proofs.constvec.Tie as tie
 

@@ -3,7 +3,7 @@ use borrow.Author.Needs.{needs}
 use native.Mathlib.Omega.{arith}
 use Rattle.executor.proofs.Canonical.{of-ready}
 use Rattle.value.specs.Results.{results}
-use Rattle.list.specs.Board.{execute}
+use Rattle.bytecode.specs.Run.{execute}
 use Rattle.executor.proofs.dot.Statement.{statement}
 use Rattle.executor.proofs.dot.Tie as tie
 

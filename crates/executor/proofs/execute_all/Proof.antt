@@ -2,7 +2,7 @@
 use mathlib.Core.Path.{_≡_, refl, _∙_}
 use native.Mathlib.Omega.{arith}
 use lib.ListN.{length}
-use Rattle.list.specs.Code.{readInstructions}
+use Rattle.bytecode.specs.Code.{readInstructions}
 use Rattle.executor.specs.Listing.{afterAll}
 use Rattle.executor.proofs.Loop.{Running, start, ready, next, done, same-size}
 use Rattle.executor.proofs.execute_all.Statement.{statement}

@@ -1,7 +1,7 @@
 -- `listing::list_accepted`: the first line, then the functions' lines.
 use native.Mathlib.Omega.{arith}
 use borrow.Author.Needs.{needs}
-use Rattle.list.specs.Listing.{newline}
+use Rattle.lowering.specs.Listing.{newline}
 use Rattle.listing.proofs.Lines.{accepted-rooms}
 use Rattle.listing.proofs.Table.{listing-accepted}
 use Rattle.listing.proofs.Text.{then, same, room-rest}

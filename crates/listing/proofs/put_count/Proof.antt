@@ -5,7 +5,7 @@ use mathlib.Core.Bool.{Bool, cond}
 use mathlib.Core.List.{_++_}
 use lib.ListN.{length}
 use denote.Ref.{now}
-use Rattle.list.specs.Listing.{decimal}
+use Rattle.lowering.specs.Listing.{decimal}
 use Rattle.listing.proofs.Text.{then, same, room-first, room-rest}
 use Rattle.listing.proofs.put_count.Statement.{statement}
 use Rattle.listing.proofs.put_count.Tie as tie

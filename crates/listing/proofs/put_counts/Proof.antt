@@ -5,8 +5,8 @@ use mathlib.Core.Bool.{Bool, cond}
 use mathlib.Core.List.{_++_}
 use borrow.Author.Needs.{needs}
 use lib.ListN.{length}
-use Rattle.list.specs.Code.{operationLimit, wordLimit}
-use Rattle.list.specs.Listing.{decimal, limited, newline, wordsText, codeText, noneText}
+use Rattle.base.specs.Limits.{operationLimit, wordLimit}
+use Rattle.lowering.specs.Listing.{decimal, limited, newline, wordsText, codeText, noneText}
 use Rattle.listing.specs.Lines.{countsText}
 use Rattle.listing.proofs.Lines.{counts-rooms}
 use Rattle.listing.proofs.Text.{then, same, room-rest}

@@ -3,7 +3,7 @@ use mathlib.Core.Path.{_≡_, refl, sym, ap, _∙_}
 use native.Mathlib.Omega.{arith}
 use borrow.Author.Needs.{needs}
 use lib.ListN.{length, take, drop}
-use Rattle.list.specs.Listing.{decimal}
+use Rattle.lowering.specs.Listing.{decimal}
 use Rattle.listing.proofs.Digits.{all-digits}
 use Rattle.listing.proofs.Text.{same}
 use Rattle.listing.proofs.put_decimal.Statement.{statement}

@@ -1,7 +1,7 @@
 -- `listing::put_field`: the word, then the number.
 use borrow.Author.Needs.{needs}
 use denote.Ref.{now}
-use Rattle.list.specs.Listing.{decimal}
+use Rattle.lowering.specs.Listing.{decimal}
 use Rattle.listing.proofs.Text.{then, room-first, room-rest}
 use Rattle.listing.proofs.put_field.Statement.{statement}
 use Rattle.listing.proofs.put_field.Tie as tie

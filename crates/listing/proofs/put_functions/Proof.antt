@@ -2,7 +2,7 @@
 use Prim.Native.Nat.{_-_}
 use native.Mathlib.Omega.{arith}
 use borrow.Author.Needs.{needs}
-use Rattle.sizes.proofs.Measuring.{sized}
+use Rattle.sums.proofs.Measuring.{sized}
 use Rattle.listing.proofs.Table.{line-at}
 use Rattle.listing.proofs.Functions.{Listed, start, step, done}
 use Rattle.listing.proofs.put_functions.Statement.{statement}

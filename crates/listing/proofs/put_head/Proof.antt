@@ -1,7 +1,7 @@
 -- `listing::put_head`: four fields.
 use mathlib.Core.List.{_++_}
 use borrow.Author.Needs.{needs}
-use Rattle.list.specs.Listing.{decimal, inputsText, outputsText, nodesText}
+use Rattle.lowering.specs.Listing.{decimal, inputsText, outputsText, nodesText}
 use Rattle.listing.specs.Lines.{headText}
 use Rattle.listing.proofs.Lines.{head-rooms}
 use Rattle.listing.proofs.Text.{then, room-rest}

@@ -3,8 +3,9 @@ use mathlib.Core.Path.{_≡_, refl, sym, _∙_}
 use native.Mathlib.Omega.{arith}
 use borrow.Author.Needs.{needs}
 use lib.ListN.{length}
-use Rattle.graph.specs.Read.{constants}
-use Rattle.value.specs.Values.{constantWord, every}
+use Rattle.base.specs.Bytes.{constants}
+use Rattle.value.specs.Values.{constantWord}
+use Rattle.base.specs.Lists.{every}
 use Rattle.reader.proofs.Words.{infinite-first, finite-first}
 use Rattle.reader.proofs.all_finite.Statement.{statement}
 use Rattle.reader.proofs.all_finite.Tie as tie

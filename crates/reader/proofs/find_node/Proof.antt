@@ -5,7 +5,7 @@ use mathlib.Core.List.{List}
 use native.Mathlib.Omega.{arith}
 use lib.ListN.{length, getD}
 use Rattle.reader.specs.Sizes.{nodeSize, nodeSizes}
-use Rattle.graph.specs.Bytes.{byte, u16}
+use Rattle.base.specs.Bytes.{byte, u16}
 use Rattle.reader.specs.Layout.{nodesAt, nodeEnd, kindAt}
 use Rattle.reader.specs.Find.{ReadsNode, ReadsNodes, nodeFound}
 use Rattle.reader.proofs.Passed.{head-fits, kind-below, size-of, first-reads, rest-reads, node-hit, node-miss}

@@ -1,7 +1,7 @@
 use borrow.Author.Needs.{needs}
 use mathlib.Core.Path.{_∙_}
 use native.Mathlib.Omega.{arith}
-use Rattle.graph.specs.Bytes.{byte}
+use Rattle.base.specs.Bytes.{byte}
 use Prim.Native.Nat.{_+_}
 use Rattle.reader.proofs.Passed.{head-fits, kind-below, size-of}
 use Rattle.reader.proofs.node_end.Statement.{statement}

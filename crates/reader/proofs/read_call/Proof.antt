@@ -4,7 +4,7 @@ use mathlib.Core.Path.{_≡_, ap, sym, _∙_, subst}
 use native.Mathlib.Omega.{arith}
 use lib.ListN.{length}
 use Rattle.ports.specs.Kinds.{kindOf}
-use Rattle.graph.specs.Bytes.{byte, u16}
+use Rattle.base.specs.Bytes.{byte, u16}
 use Rattle.reader.specs.declared.Payload.the-variants.{Call}
 use Rattle.reader.specs.declared.PayloadRead.{PayloadRead}
 use Rattle.reader.specs.Records.{payloadRead}

@@ -10,7 +10,7 @@ use Rattle.ports.specs.declared.Form.the-variants.{Constant}
 use Rattle.ports.specs.declared.Ports.{Ports}
 use Rattle.value.specs.Values.{valueOf}
 use Rattle.value.specs.declared.Value.{Value}
-use Rattle.graph.specs.Read.{constants}
+use Rattle.base.specs.Bytes.{constants}
 use Rattle.reader.specs.declared.Payload as Payloads
 use Rattle.reader.specs.declared.PayloadRead.{PayloadRead}
 use Rattle.reader.specs.Records.{payloadRead}

@@ -5,7 +5,7 @@ use mathlib.Core.Bool.{true}
 use native.Mathlib.Omega.{arith}
 use lib.ListN.{length}
 use borrow.Author.Tests.{not-true, not-false}
-use Rattle.graph.specs.Bytes.{byte, u16}
+use Rattle.base.specs.Bytes.{byte, u16}
 use Rattle.graph.specs.Read.{version1, inRange, inputs, outputs, nodes}
 use Rattle.reader.specs.Records.{next, behind}
 use Rattle.reader.specs.declared.Next.{Next}

@@ -6,7 +6,7 @@ use native.Mathlib.Omega.{arith}
 use lib.ListN.{length}
 use borrow.Author.Tests.{not-true, not-false}
 use Rattle.ports.specs.Ports.{legal}
-use Rattle.graph.specs.Bytes.{byte, u16}
+use Rattle.base.specs.Bytes.{byte, u16}
 use Rattle.reader.specs.Layout.{kindAt}
 use Rattle.reader.specs.Records.{nodeRead}
 use Rattle.reader.proofs.Extents.{ends, short}

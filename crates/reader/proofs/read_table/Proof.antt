@@ -4,7 +4,7 @@ use mathlib.Core.Path.{_≡_, ap, sym, _∙_}
 use mathlib.Core.Bool.{true}
 use native.Mathlib.Omega.{arith}
 use lib.ListN.{length}
-use Rattle.graph.specs.Bytes.{u16}
+use Rattle.base.specs.Bytes.{u16}
 use Rattle.graph.specs.Read.{marked}
 use Rattle.reader.specs.Records.{seen}
 use Rattle.reader.proofs.Functions.{parse-1, parse-2, mark-0, mark-1, mark-2, mark, parse-3, parse-4, parse-none, parse-many, parse-fault, parse-good, parse-8}

@@ -6,7 +6,7 @@ use native.Mathlib.Omega.{arith}
 use denote.Ref.{now}
 use borrow.Author.Tests.{le-leb, lt-leb}
 use Rattle.ports.specs.Ports.{width}
-use Rattle.graph.specs.Bytes.{u16}
+use Rattle.base.specs.Bytes.{u16}
 use Rattle.runner.proofs.Checking.{no-operand, first-on, first-off}
 use Rattle.runner.proofs.all_below.Statement.{statement}
 use Rattle.runner.proofs.all_below.Tie as tie

@@ -6,7 +6,8 @@ use native.Mathlib.Omega.{arith}
 use denote.Ref.{now}
 use borrow.Author.Tests.{not-true, not-false}
 use lib.ListN.{length, drop}
-use Rattle.value.specs.Values.{argumentWord, every}
+use Rattle.value.specs.Values.{argumentWord}
+use Rattle.base.specs.Lists.{every}
 use Rattle.runner.proofs.Buffers.{every-on, every-off, every-end}
 use Rattle.runner.proofs.arguments_allowed.Statement.{statement}
 use Rattle.runner.proofs.arguments_allowed.Tie as tie

@@ -4,8 +4,8 @@ use mathlib.Core.Path.{_≡_, sym, ap, _∙_}
 use native.Mathlib.Omega.{arith}
 use denote.Ref.{now}
 use borrow.Author.Tests.{not-true, not-false}
-use Rattle.graph.specs.Bytes.{byte, u16}
-use Rattle.list.specs.Code.{addresses, allLess, readInstructions, withinLimits}
+use Rattle.base.specs.Bytes.{byte, u16}
+use Rattle.bytecode.specs.Code.{addresses, allLess, readInstructions, withinLimits}
 use Rattle.runner.specs.declared.Counts.{Counts}
 use Rattle.runner.specs.declared.Checked.the-variants.{Formed}
 use Rattle.runner.specs.Checks.{endedOf}

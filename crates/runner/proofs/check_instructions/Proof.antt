@@ -8,7 +8,7 @@ use lib.ListN.{length}
 use Rattle.ports.specs.Kinds.{kindOf}
 use Rattle.ports.specs.Ports.{portsOf}
 use Rattle.ports.proofs.Laws.{row-of}
-use Rattle.list.specs.Code.{readInstructions}
+use Rattle.bytecode.specs.Code.{readInstructions}
 use Rattle.runner.specs.Checks.{endedOf}
 use Rattle.runner.proofs.Passing.{stop-short, stop-high, stop-wrong, go-on, ended}
 use Rattle.runner.proofs.check_instructions.Statement.{statement}

@@ -5,8 +5,9 @@ use mathlib.Core.Path.{_≡_, refl, ap, sym, _∙_}
 use native.Mathlib.Omega.{arith}
 use denote.Ref.{now}
 use borrow.Author.Tests.{not-true, not-false}
-use Rattle.value.specs.Values.{constantWord, every}
-use Rattle.graph.specs.Read.{constants}
+use Rattle.value.specs.Values.{constantWord}
+use Rattle.base.specs.Lists.{every}
+use Rattle.base.specs.Bytes.{constants}
 use lib.ListN.{length, replicate}
 use Rattle.runner.proofs.Walks.{on, off, over}
 use Rattle.runner.proofs.Checking.{constants-walk}

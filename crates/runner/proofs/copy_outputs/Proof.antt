@@ -7,8 +7,8 @@ use native.Mathlib.Omega.{arith}
 use denote.Ref.{now}
 use lib.ListN.{length, set, length-set}
 use lib.Seq.{sets}
-use Rattle.value.specs.Values.{wordAt}
-use Rattle.list.specs.Code.{addresses}
+use Rattle.base.specs.Lists.{wordAt}
+use Rattle.bytecode.specs.Code.{addresses}
 use Rattle.runner.proofs.Buffers.{output-more, address-below}
 use Rattle.runner.proofs.copy_outputs.Statement.{statement}
 use Rattle.runner.proofs.copy_outputs.Tie as tie

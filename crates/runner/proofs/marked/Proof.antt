@@ -3,7 +3,7 @@ use borrow.Author.Needs.{needs}
 use mathlib.Core.Path.{sym, _∙_}
 use denote.Ref.{now}
 use borrow.Author.Tests.{eq-eqb, ne-eqb}
-use Rattle.graph.specs.Bytes.{u16}
+use Rattle.base.specs.Bytes.{u16}
 use Rattle.runner.proofs.marked.Statement.{statement}
 use Rattle.runner.proofs.marked.Tie as tie
 

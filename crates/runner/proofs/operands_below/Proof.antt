@@ -5,9 +5,9 @@ use mathlib.Core.Path.{_≡_, refl, ap, sym, _∙_}
 use native.Mathlib.Omega.{arith}
 use denote.Ref.{now}
 use borrow.Author.Tests.{le-leb, lt-leb}
-use Rattle.graph.specs.Bytes.{u16}
+use Rattle.base.specs.Bytes.{u16}
 use Rattle.ports.specs.Ports.{width}
-use Rattle.list.specs.Code.{addresses, allBelow}
+use Rattle.bytecode.specs.Code.{addresses, allBelow}
 use lib.ListN.{length, replicate}
 use Rattle.runner.proofs.Walks.{on, off, over}
 use Rattle.runner.proofs.Checking.{operands-walk}

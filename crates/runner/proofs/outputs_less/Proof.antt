@@ -4,9 +4,9 @@ use Prim.Native.Nat.{_+_, _*_, _≤_}
 use mathlib.Core.Path.{_≡_, refl, ap, sym, _∙_}
 use native.Mathlib.Omega.{arith}
 use denote.Ref.{now}
-use Rattle.graph.specs.Bytes.{u16}
+use Rattle.base.specs.Bytes.{u16}
 use borrow.Author.Tests.{lt-ltb, le-ltb}
-use Rattle.list.specs.Code.{addresses, allLess}
+use Rattle.bytecode.specs.Code.{addresses, allLess}
 use lib.ListN.{length, replicate}
 use Rattle.runner.proofs.Walks.{on, off, over}
 use Rattle.runner.proofs.Checking.{outputs-walk}

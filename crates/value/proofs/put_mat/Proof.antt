@@ -3,7 +3,7 @@ use borrow.Author.Needs.{needs}
 use denote.Ref.{now}
 use mathlib.Core.List.{_++_}
 use Rattle.value.specs.Values.{rowWords}
-use Rattle.value.proofs.Stores.{then}
+use Rattle.base.proofs.Stores.{then}
 use Rattle.value.proofs.put_mat.Statement.{statement}
 use Rattle.value.proofs.put_mat.Tie as tie
 

@@ -3,7 +3,7 @@ use borrow.Author.Needs.{needs}
 use mathlib.Core.List.{[], _∷_, _++_}
 use denote.Ref.{now}
 use Rattle.value.specs.Values.{word}
-use Rattle.value.proofs.Stores.{then}
+use Rattle.base.proofs.Stores.{then}
 use Rattle.value.proofs.put_vec.Statement.{statement}
 use Rattle.value.proofs.put_vec.Tie as tie
 

@@ -1,0 +1,5 @@
+pub mod Bools
+pub mod Lists
+pub mod Outcomes
+pub mod Stands
+pub mod Stores

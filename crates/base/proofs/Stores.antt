@@ -1,0 +1,54 @@
+-- Runs of stores.
+use Prim.Native.Nat.{ℕ, zero, suc, _+_, _≤_, _<_}
+use mathlib.Core.Path.{_≡_, refl, sym, ap, _∙_}
+use mathlib.Core.List.{List, [], _∷_, _++_}
+use native.Mathlib.Omega.{arith}
+use native.Mathlib.Nat.{add-zero}
+use lib.ListN.{length, getD, set, length-set}
+use lib.Seq.{sets, set-comm, getD-set-same, getD-set-other}
+use Rattle.base.specs.Lists.{wordsAt}
+use Rattle.base.proofs.Stands.{cons}
+
+-- one after another
+pub sets-append : (xs ys l : List ℕ) (i : ℕ) → sets l i (xs ++ ys) ≡ sets (sets l i xs) (i + length xs) ys
+sets-append [] ys l i = rw add-zero
+sets-append (a ∷ xs) ys l i =
+    let e : suc i + length xs ≡ i + suc (length xs) = omega arith in
+    sets-append xs ys (set l i a) (suc i) ∙ ap (λ (k : ℕ). sets (sets (set l i a) (suc i) xs) k ys) e
+
+-- two runs are one
+pub then : (l : List ℕ) {m n : List ℕ} (at : ℕ) (xs ys : List ℕ) → m ≡ sets l at xs → n ≡ sets m (at + length xs) ys → n ≡ sets l at (xs ++ ys)
+then l {m} at xs ys p q =
+    q ∙ ap (λ (k : List ℕ). sets k (at + length xs) ys) p ∙ sym (sets-append xs ys l at)
+
+-- what stands outside a run stays
+pub sets-below : (xs l : List ℕ) (i q : ℕ) → q < i → getD (sets l i xs) q 0 ≡ getD l q 0
+sets-below [] l i q h = refl
+sets-below (a ∷ xs) l i q h = sets-below xs (set l i a) (suc i) q (omega arith) ∙ getD-set-other l i q a 0 (λ e. omega arith)
+
+pub sets-above : (xs l : List ℕ) (i q : ℕ) → i + length xs ≤ q → getD (sets l i xs) q 0 ≡ getD l q 0
+sets-above [] l i q h = refl
+sets-above (a ∷ xs) l i q h = sets-above xs (set l i a) (suc i) q (omega arith) ∙ getD-set-other l i q a 0 (λ e. omega arith)
+
+-- and in it stands the run
+pub sets-in : (xs l : List ℕ) (i j : ℕ) → j < length xs → i + length xs ≤ length l → getD (sets l i xs) (i + j) 0 ≡ getD xs j 0
+sets-in [] l i j h k = absurd (omega arith)
+sets-in (a ∷ xs) l i zero h k = rw add-zero (sets-below xs (set l i a) (suc i) i (omega arith) ∙ getD-set-same l i a 0 (omega arith))
+sets-in (a ∷ xs) l i (suc j) h k =
+    let e : i + suc j ≡ suc i + j = omega arith in
+    let m : length (set l i a) ≡ length l = length-set l i a in
+    rw e (sets-in xs (set l i a) (suc i) j (omega arith) (omega arith))
+
+-- the words of a run that was stored are the run
+pub sets-words : (ws m : List ℕ) (at : ℕ) → at + length ws ≤ length m → wordsAt (sets m at ws) at (length ws) ≡ ws
+sets-words [] m at h = refl
+sets-words (w ∷ ws) m at h =
+    let l : length (set m at w) ≡ length m = length-set m at w in
+    cons (sets-below ws (set m at w) (suc at) at (omega arith) ∙ getD-set-same m at w 0 (omega arith))
+    (sets-words ws (set m at w) (suc at) (omega arith))
+
+-- a store before a run
+pub set-before : (ys l : List ℕ) (i j x : ℕ) → i < j → set (sets l j ys) i x ≡ sets (set l i x) j ys
+set-before [] l i j x h = refl
+set-before (y ∷ ys) l i j x h =
+    set-before ys (set l j y) i (suc j) x (omega arith) ∙ ap (λ (k : List ℕ). sets k (suc j) ys) (set-comm l j i y x (λ e. omega arith))

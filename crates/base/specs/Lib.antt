@@ -1,0 +1,4 @@
+pub mod Limits
+pub mod Outcome
+pub mod Lists
+pub mod Bytes

@@ -1,0 +1,4 @@
+pub mod Memory
+pub mod Back
+pub mod Decoded
+pub mod Origins

@@ -1,0 +1,5 @@
+pub mod Run
+pub mod Code
+pub mod WellFormed
+pub mod Answers
+pub mod Origin

@@ -1,9 +1,0 @@
-pub mod Memory
-pub mod Simulate
-pub mod Promise
-pub mod Back
-pub mod Decoded
-pub mod Limits
-pub mod Whole
-pub mod Origins
-pub mod Routed

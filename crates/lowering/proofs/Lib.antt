@@ -1,0 +1,5 @@
+pub mod Simulate
+pub mod Promise
+pub mod Limits
+pub mod Whole
+pub mod Routed

@@ -1,0 +1,205 @@
+-- The sums of a function are those of its board list, and within the limits the board list has a code.
+use Prim.Native.Nat.{ℕ, zero, suc, _+_, _*_, _≤_, _<_}
+use mathlib.Core.Path.{_≡_, refl, ap, sym, _∙_, subst}
+use mathlib.Core.Bool.{Bool, true, false, cond}
+use mathlib.Core.List.{List, [], _∷_, _++_, map}
+use mathlib.Core.Option.{Option, none, some}
+use mathlib.Core.Logic.{_⊎_, inl, inr, ⊎-elim}
+use native.Mathlib.Omega.{arith}
+use lib.Dec.{eqb}
+use lib.ListN.{length, length-append, replicate, length-replicate, length-map}
+use borrow.Author.Tests.{eqb-true}
+use Rattle.value.specs.declared.Value.{Value}
+use Rattle.ports.specs.Kinds.{kindOf}
+use Rattle.ports.specs.Ports.{width, widths, gives}
+use Rattle.value.specs.Values.{valuesOf}
+use Rattle.base.specs.Lists.{span, Each}
+use Rattle.value.specs.Typed.{TypeCode, Typed}
+use Rattle.value.proofs.Laws.{values-typed, type-cases}
+use Rattle.graph.specs.Graph.{Ref, Payload, consts, refs, calls, Node, Output, Function}
+use Rattle.graph.specs.Judge.{outputTypes}
+use Rattle.graph.specs.Sums.{sum, nodeOperations, functionOperations, operationsOf, nodeWords, resultWords, resultWordsOf, functionWords}
+use Rattle.graph.specs.Sound.{Formed, Sound, AllSound}
+use Rattle.bytecode.specs.Run.{Instruction, BoardList, places, spans}
+use Rattle.graph.specs.Schedule.{schedule}
+use Rattle.lowering.specs.Compile.{Written, address, Opened, Open, openNode, Body, also, openNodes, openFunction, opened, boardListOf}
+use Rattle.bytecode.specs.Code.{encode, decode}
+use Rattle.bytecode.specs.WellFormed.{Below, AllFit, FitList}
+use Rattle.graph.proofs.Order.{Right, scheduled}
+use Rattle.lowering.proofs.Simulate.{Served, stand-below}
+use Rattle.lowering.proofs.Promise.{whole-served}
+use Rattle.bytecode.proofs.Back.{decode-encode}
+
+-- ---- operations
+
+abbrev Counts : Open → (ℕ → ℕ) → Type 0
+Counts go ops = (c : ℕ) (ins : List ℕ) (next : ℕ) → length (go c ins next .code) ≤ ops c
+
+module _ (go : Open) (ops : ℕ → ℕ) (h : Counts go ops) (ins : List ℕ) where
+  node-count : (ws : List Written) (next : ℕ) (n : Node) (p : Payload) → length (openNode go (address ins ws) next n p .code) ≤ nodeOperations ops p
+  node-count ws next n (consts cs) = omega arith
+  node-count ws next n (refs rs) = omega arith
+  node-count ws next n (calls c rs) = let a = h c (map (address ins ws) rs) next in omega arith
+
+  nodes-count : (ns : List Node) (ws : List Written) (next : ℕ) → length (openNodes go ins ns ws next .code) ≤ sum (λ n. nodeOperations ops (n .payload)) ns
+  nodes-count [] ws next = omega arith
+  nodes-count (n ∷ ns) ws next =
+      let o = openNode go (address ins ws) next n (n .payload) in
+      let b = openNodes go ins ns (also n o ws) (o .next) in
+      let a : length (o .code) ≤ nodeOperations ops (n .payload) = node-count ws next n (n .payload) in
+      let c : length (b .code) ≤ sum (λ n. nodeOperations ops (n .payload)) ns = nodes-count ns (also n o ws) (o .next) in
+      let d : length (o .code ++ b .code) ≡ length (o .code) + length (b .code) = length-append (o .code) (b .code) in
+      omega arith
+
+function-count : (early : List Function) (f : Function) → Sound early f → Counts (opened early) (operationsOf early) → (ins : List ℕ) (next : ℕ)
+    → length (openFunction (opened early) f ins next .code) ≤ functionOperations (operationsOf early) f
+function-count early f sound h ins next =
+    let a = nodes-count (opened early) (operationsOf early) h ins (schedule (f .nodes)) [] next in
+    let e = scheduled early f sound .total (λ n. nodeOperations (operationsOf early) (n .payload)) in
+    subst (λ (x : ℕ). length (openFunction (opened early) f ins next .code) ≤ x) e a
+
+pub opened-count : (early : List Function) → AllSound early → Counts (opened early) (operationsOf early)
+unfolding opened operationsOf
+opened-count [] s c ins next = omega arith
+opened-count (f ∷ early) (s, ss) c ins next = pickOne (eqb (f .id) c) (opened-count early ss)
+  where
+    pickOne : (b : Bool) → Counts (opened early) (operationsOf early)
+        → length (cond b (openFunction (opened early) f ins next) (opened early c ins next) .code)
+        ≤ cond b (functionOperations (operationsOf early) f) (operationsOf early c)
+    pickOne true h = function-count early f s h ins next
+    pickOne false h = h c ins next
+
+-- ---- words
+
+abbrev Sizes : Open → (ℕ → ℕ) → Type 0
+Sizes go size = (c : ℕ) (ins : List ℕ) (next : ℕ) → go c ins next .next ≡ next + size c
+
+module _ (go : Open) (size : ℕ → ℕ) (h : Sizes go size) (ins : List ℕ) where
+  node-size : (ws : List Written) (next : ℕ) (n : Node) (p : Payload) → openNode go (address ins ws) next n p .next ≡ next + nodeWords size n p
+  node-size ws next n (consts cs) = refl
+  node-size ws next n (refs rs) = refl
+  node-size ws next n (calls c rs) = h c (map (address ins ws) rs) next
+
+  nodes-size : (ns : List Node) (ws : List Written) (next : ℕ) → openNodes go ins ns ws next .next ≡ next + sum (λ n. nodeWords size n (n .payload)) ns
+  nodes-size [] ws next = omega arith
+  nodes-size (n ∷ ns) ws next =
+      let o = openNode go (address ins ws) next n (n .payload) in
+      let b = openNodes go ins ns (also n o ws) (o .next) in
+      let a : o .next ≡ next + nodeWords size n (n .payload) = node-size ws next n (n .payload) in
+      let c : b .next ≡ o .next + sum (λ n. nodeWords size n (n .payload)) ns = nodes-size ns (also n o ws) (o .next) in
+      omega arith
+
+function-size : (early : List Function) (f : Function) → Sound early f → Sizes (opened early) (resultWordsOf early) → (ins : List ℕ) (next : ℕ)
+    → openFunction (opened early) f ins next .next ≡ next + resultWords (resultWordsOf early) f
+function-size early f sound h ins next =
+    nodes-size (opened early) (resultWordsOf early) h ins (schedule (f .nodes)) [] next
+    ∙ ap (λ (x : ℕ). next + x) (scheduled early f sound .total (λ n. nodeWords (resultWordsOf early) n (n .payload)))
+
+pub opened-size : (early : List Function) → AllSound early → Sizes (opened early) (resultWordsOf early)
+unfolding opened resultWordsOf
+opened-size [] s c ins next = omega arith
+opened-size (f ∷ early) (s, ss) c ins next = pickOne (eqb (f .id) c) (opened-size early ss)
+  where
+    pickOne : (b : Bool) → Sizes (opened early) (resultWordsOf early)
+        → cond b (openFunction (opened early) f ins next) (opened early c ins next) .next
+        ≡ next + cond b (resultWords (resultWordsOf early) f) (resultWordsOf early c)
+    pickOne true h = function-size early f s h ins next
+    pickOne false h = h c ins next
+
+-- the instructions are at most the operations, and the words are those of the sum
+pub count-of : (early : List Function) (f : Function) → AllSound (f ∷ early) → length (boardListOf early f .instructions) ≤ functionOperations (operationsOf early) f
+count-of early f (s, ss) = function-count early f s (opened-count early ss) (places 0 (f .inputs)) (widths (f .inputs))
+
+pub words-of : (early : List Function) (f : Function) → AllSound (f ∷ early) → boardListOf early f .words ≡ functionWords early f
+words-of early f (s, ss) = function-size early f s (opened-size early ss) (places 0 (f .inputs)) (widths (f .inputs))
+
+-- ---- the outputs
+
+wide-bounds : (t : ℕ) → TypeCode t → (1 ≤ width t) × (width t ≤ 16)
+wide-bounds t h = pickOne (type-cases t h)
+  where
+    pickOne : (t ≡ 1) ⊎ ((t ≡ 2) ⊎ (t ≡ 3)) → (1 ≤ width t) × (width t ≤ 16)
+    pickOne (inl e) = rw e (omega arith)
+    pickOne (inr (inl e)) = rw e (omega arith)
+    pickOne (inr (inr e)) = rw e (omega arith)
+
+wides-bounds : (ts : List ℕ) → Each TypeCode ts → (length ts ≤ widths ts) × (widths ts ≤ 16 * length ts)
+wides-bounds [] h = (omega arith, omega arith)
+wides-bounds (t ∷ ts) (c, h) =
+    let (a, b) = wide-bounds t c in
+    let (d, e) = wides-bounds ts h in
+    (omega arith, omega arith)
+
+span-length : (a n : ℕ) → length (span a n) ≡ n
+span-length a zero = refl
+span-length a (suc n) = ap suc (span-length (suc a) n)
+
+span-below : (n a hi : ℕ) → a + n ≤ hi → Each (λ x. x < hi) (span a n)
+span-below zero a hi h = tt
+span-below (suc n) a hi h = (omega arith, span-below n (suc a) hi (omega arith))
+
+pub each-append : (P : ℕ → Type 0) (xs ys : List ℕ) → Each P xs → Each P ys → Each P (xs ++ ys)
+each-append P [] ys h k = k
+each-append P (x ∷ xs) ys (p, h) k = (p, each-append P xs ys h k)
+
+spans-below : (hi : ℕ) (ts at : List ℕ) → Below hi ts at → Each (λ x. x < hi) (spans ts at) × (length (spans ts at) ≡ widths ts)
+spans-below hi [] [] h = (tt, refl)
+spans-below hi [] (a ∷ at) h = absurd h
+spans-below hi (t ∷ ts) [] h = absurd h
+spans-below hi (t ∷ ts) (a ∷ at) (p, h) =
+    let (b, c) = spans-below hi ts at h in
+    let d : length (span a (width t)) ≡ width t = span-length a (width t) in (
+      each-append (λ x. x < hi) (span a (width t)) (spans ts at) (span-below (width t) a hi p) b,
+      length-append (span a (width t)) (spans ts at) ∙ omega arith,
+    )
+
+-- ---- the whole
+
+-- the run of any values of the types lays the same list
+pub laid : (early : List Function) (f : Function) → AllSound (f ∷ early)
+    → AllFit (widths (f .inputs)) (boardListOf early f .instructions) (boardListOf early f .words)
+    × Each (λ a. a < boardListOf early f .words) (boardListOf early f .outputs)
+    × (length (boardListOf early f .outputs) ≡ widths (outputTypes (f .outputs)))
+laid early f sound =
+    let b = boardListOf early f in
+    let outs = outputTypes (f .outputs) in
+    let args = valuesOf (f .inputs) [] in
+    let m : List ℕ = replicate (b .words) 0 in
+    let room : length m ≡ b .words = length-replicate (b .words) 0 in
+    let r = whole-served early f sound args (values-typed (f .inputs) [] (sound .0 .resolved .formed .inputTypes)) m (omega arith) in
+    let ports = openFunction (opened early) f (places 0 (f .inputs)) (widths (f .inputs)) .ports in
+    let both = spans-below (b .words) outs ports (stand-below _ (b .words) outs ports (r .values) (r .typed) (r .stand)) in
+    (r .fit, both .0, both .1)
+
+pub output-words : (early : List Function) (f : Function) → AllSound (f ∷ early) → length (boardListOf early f .outputs) ≡ widths (outputTypes (f .outputs))
+output-words early f sound = laid early f sound .2
+
+pub fit-list : (early : List Function) (f : Function) → AllSound (f ∷ early) → functionOperations (operationsOf early) f ≤ 4096 → functionWords early f ≤ 8192
+    → FitList (boardListOf early f)
+fit-list early f sound ops words =
+    let b = boardListOf early f in
+    let formed = sound .0 .resolved .formed in
+    let outs = outputTypes (f .outputs) in
+    let size : length (b .outputs) ≡ widths outs = output-words early f sound in
+    let (i1, i2) = wides-bounds (f .inputs) (formed .inputTypes) in
+    let (o1, o2) = wides-bounds outs (formed .outputTypes) in
+    let ol : length outs ≡ length (f .outputs) = length-map (f .outputs) (λ o. o .type) in
+    let li : length (f .inputs) ≤ 8 = formed .inputs in
+    let lo : length (f .outputs) ≤ 8 = formed .outputs in
+    let ls : 1 ≤ length (f .outputs) = formed .some-output in
+    let n : length (b .instructions) ≤ functionOperations (operationsOf early) f = count-of early f sound in
+    let w : b .words ≡ functionWords early f = words-of early f sound in
+    record {
+      arguments = omega arith;
+      some-output = omega arith;
+      outputs = omega arith;
+      count = omega arith;
+      words = omega arith;
+      instructions = laid early f sound .0;
+      below = laid early f sound .1;
+    }
+
+-- within the limits the code is well formed, and stands for the board list
+pub code-of : (early : List Function) (f : Function) → AllSound (f ∷ early) → functionOperations (operationsOf early) f ≤ 4096 → functionWords early f ≤ 8192
+    → decode (encode (boardListOf early f)) ≡ some (boardListOf early f)
+code-of early f sound ops words = decode-encode (boardListOf early f) (fit-list early f sound ops words)

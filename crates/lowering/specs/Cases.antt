@@ -1,0 +1,145 @@
+-- The settled examples that are proved, as one table.
+use Prim.Native.Nat.{ℕ}
+use mathlib.Core.Path.{_≡_, refl}
+use mathlib.Core.List.{List, [], _∷_}
+use mathlib.Core.Option.{Option, none, some}
+use lib.ListN.{set, length, replicate}
+use lib.Ieee as Ieee
+use Rattle.base.specs.Lists.{Each}
+use Rattle.value.specs.Results.{results}
+use Rattle.base.specs.Outcome.{Outcome, ok, fault, _>>=_, _>>_, need}
+use Rattle.graph.specs.Loops.{via}
+use Rattle.graph.specs.Judge.{table, verdict}
+use Rattle.graph.specs.Graph.{Function}
+use Rattle.graph.specs.Sums.{functionOperations, operationsOf, functionWords, resultWordsOf}
+use Rattle.graph.specs.Schedule.{schedule}
+use Rattle.graph.specs.Meaning.{nodeMeans, meaningOf, graphMeans}
+use Rattle.graph.specs.Table.{Chosen}
+use Rattle.bytecode.specs.Run.{execute}
+use Rattle.lowering.specs.Compile.{opened}
+use Rattle.bytecode.specs.Code.{encode, decode, guard, then}
+use Rattle.bytecode.specs.Answers.{Buffers, ran}
+use Rattle.lowering.specs.Answers.{compilable, codeOf, compiled}
+use Rattle.lowering.specs.Listing.{decimal, functionLine, listing}
+
+-- ---- tables and codes
+
+abbrev pub tableA : List ℕ
+tableA = 0x49 ∷ 0x46 ∷ 0x47 ∷ 0x01 ∷ 0x00 ∷ 0x01 ∷ 0x1E ∷ 0x00 ∷ 0x01 ∷ 0x00 ∷ 0x02 ∷ 0x01 ∷ 0x01 ∷ 0x00 ∷ 0x01 ∷ 0x01 ∷ 0x01 ∷ 0x01 ∷ 0x00 ∷ 0x00 ∷ 0x01 ∷ 0x00 ∷ 0x03 ∷ 0x01 ∷ 0x00 ∷ 0x00 ∷ 0x00 ∷ 0x00 ∷ 0x00 ∷ 0x01 ∷ []
+
+abbrev pub codeA : List ℕ
+codeA = 0x49 ∷ 0x46 ∷ 0x52 ∷ 0x01 ∷ 0x00 ∷ 0x02 ∷ 0x01 ∷ 0x00 ∷ 0x01 ∷ 0x00 ∷ 0x03 ∷ 0x00 ∷ 0x03 ∷ 0x01 ∷ 0x00 ∷ 0x00 ∷ 0x01 ∷ 0x00 ∷ 0x02 ∷ 0x00 ∷ []
+
+-- the lister's two lines for A
+abbrev pub textA : List ℕ
+textA = 0x61 ∷ 0x63 ∷ 0x63 ∷ 0x65 ∷ 0x70 ∷ 0x74 ∷ 0x65 ∷ 0x64 ∷ 0x20 ∷ 0x31 ∷ 0x0A ∷ 0x66 ∷ 0x75 ∷ 0x6E ∷ 0x63 ∷ 0x74 ∷ 0x69 ∷ 0x6F ∷ 0x6E ∷ 0x20 ∷ 0x31 ∷ 0x20 ∷ 0x69 ∷ 0x6E ∷ 0x70 ∷ 0x75 ∷ 0x74 ∷ 0x73 ∷ 0x20 ∷ 0x32 ∷ 0x20 ∷ 0x6F ∷ 0x75 ∷ 0x74 ∷ 0x70 ∷ 0x75 ∷ 0x74 ∷ 0x73 ∷ 0x20 ∷ 0x31 ∷ 0x20 ∷ 0x6E ∷ 0x6F ∷ 0x64 ∷ 0x65 ∷ 0x73 ∷ 0x20 ∷ 0x31 ∷ 0x20 ∷ 0x6F ∷ 0x70 ∷ 0x65 ∷ 0x72 ∷ 0x61 ∷ 0x74 ∷ 0x69 ∷ 0x6F ∷ 0x6E ∷ 0x73 ∷ 0x20 ∷ 0x31 ∷ 0x20 ∷ 0x77 ∷ 0x6F ∷ 0x72 ∷ 0x64 ∷ 0x73 ∷ 0x20 ∷ 0x33 ∷ 0x20 ∷ 0x63 ∷ 0x6F ∷ 0x64 ∷ 0x65 ∷ 0x20 ∷ 0x32 ∷ 0x30 ∷ 0x0A ∷ []
+
+-- one scalar input, which is the output, and no node
+abbrev pub tableK : List ℕ
+tableK = 0x49 ∷ 0x46 ∷ 0x47 ∷ 0x01 ∷ 0x00 ∷ 0x01 ∷ 0x13 ∷ 0x00 ∷ 0x01 ∷ 0x00 ∷ 0x01 ∷ 0x01 ∷ 0x00 ∷ 0x00 ∷ 0x01 ∷ 0x01 ∷ 0x00 ∷ 0x00 ∷ 0x00 ∷ []
+
+abbrev pub codeK : List ℕ
+codeK = 0x49 ∷ 0x46 ∷ 0x52 ∷ 0x01 ∷ 0x00 ∷ 0x01 ∷ 0x01 ∷ 0x00 ∷ 0x00 ∷ 0x00 ∷ 0x01 ∷ 0x00 ∷ 0x00 ∷ 0x00 ∷ []
+
+-- not of 01: function 1 doubles x; function 2 multiplies the double of x by the double of that, and its product stands first in the table
+abbrev pub tableCalls : List ℕ
+tableCalls = 0x49 ∷ 0x46 ∷ 0x47 ∷ 0x01 ∷ 0x00 ∷ 0x02 ∷ 0x46 ∷ 0x00 ∷ 0x01 ∷ 0x00 ∷ 0x01 ∷ 0x01 ∷ 0x01 ∷ 0x00 ∷ 0x01 ∷ 0x01 ∷ 0x01 ∷ 0x00 ∷ 0x00 ∷ 0x01 ∷ 0x00 ∷ 0x01 ∷ 0x01 ∷ 0x00 ∷ 0x00 ∷ 0x00 ∷ 0x00 ∷ 0x00 ∷ 0x00 ∷ 0x02 ∷ 0x00 ∷ 0x01 ∷ 0x01 ∷ 0x03 ∷ 0x00 ∷ 0x01 ∷ 0x01 ∷ 0x05 ∷ 0x00 ∷ 0x00 ∷ 0x05 ∷ 0x00 ∷ 0x03 ∷ 0x01 ∷ 0x07 ∷ 0x00 ∷ 0x00 ∷ 0x09 ∷ 0x00 ∷ 0x00 ∷ 0x07 ∷ 0x00 ∷ 0x18 ∷ 0x00 ∷ 0x01 ∷ 0x00 ∷ 0x01 ∷ 0x00 ∷ 0x00 ∷ 0x00 ∷ 0x09 ∷ 0x00 ∷ 0x18 ∷ 0x00 ∷ 0x01 ∷ 0x00 ∷ 0x01 ∷ 0x07 ∷ 0x00 ∷ 0x00 ∷ []
+
+abbrev pub codeCalls : List ℕ
+codeCalls = 0x49 ∷ 0x46 ∷ 0x52 ∷ 0x01 ∷ 0x00 ∷ 0x01 ∷ 0x01 ∷ 0x00 ∷ 0x03 ∷ 0x00 ∷ 0x04 ∷ 0x00 ∷ 0x01 ∷ 0x01 ∷ 0x00 ∷ 0x00 ∷ 0x00 ∷ 0x00 ∷ 0x01 ∷ 0x01 ∷ 0x01 ∷ 0x00 ∷ 0x01 ∷ 0x00 ∷ 0x03 ∷ 0x01 ∷ 0x01 ∷ 0x00 ∷ 0x02 ∷ 0x00 ∷ 0x03 ∷ 0x00 ∷ []
+
+-- 3, 0.5, 1.5, 72 and infinity
+abbrev three : ℕ
+three = 0x4008_0000_0000_0000
+
+abbrev half : ℕ
+half = 0x3FE0_0000_0000_0000
+
+abbrev threeHalves : ℕ
+threeHalves = 0x3FF8_0000_0000_0000
+
+abbrev seventyTwo : ℕ
+seventyTwo = 0x4052_0000_0000_0000
+
+abbrev infinite : ℕ
+infinite = 0x7FF0_0000_0000_0000
+
+-- ---- rows
+
+pub data Case : Type 0 where
+  -- a table, refused with a number at a place
+  refused : List ℕ → ℕ → ℕ → Case
+  -- a table with so many functions, accepted; of one function of it the operations, the words and the code
+  compiles : List ℕ → ℕ → ℕ → ℕ → ℕ → List ℕ → Case
+  -- a table and the lister's text
+  prints : List ℕ → List ℕ → Case
+  -- a table, a function and a code buffer, refused by the compiler
+  uncompiled : List ℕ → ℕ → List ℕ → ℕ → ℕ → Case
+  -- a code, arguments and the two buffers, refused by the runner
+  unrun : List ℕ → List ℕ → List ℕ → List ℕ → ℕ → ℕ → Case
+  -- a table, a function, its code, and arguments: what the code gives, and what the graph means
+  gives : List ℕ → ℕ → List ℕ → List ℕ → List ℕ → Case
+
+-- operations, words and code
+pub record Sizes : Type 0 where
+  pub operations : ℕ
+  pub words : ℕ
+  pub code : List ℕ
+
+abbrev sizesOf : Outcome Chosen → Outcome Sizes
+sizesOf (fault n p) = fault n p
+sizesOf (ok x) =
+    ok (record { operations = functionOperations (operationsOf (x .early)) (x .function); words = functionWords (x .early) (x .function); code = codeOf x })
+
+abbrev outputOf : Outcome Buffers → List ℕ
+outputOf (fault n p) = []
+outputOf (ok b) = b .out
+
+abbrev meaningIn : Outcome (List Function) → ℕ → List ℕ → Option (List ℕ)
+meaningIn (fault n p) c arguments = none
+meaningIn (ok fs) c arguments = graphMeans fs c arguments
+
+abbrev pub Holds : Case → Type 0
+Holds (refused s n p) = verdict s ≡ fault n p
+Holds (compiles s count c operations words code) =
+    (verdict s ≡ ok count) × (sizesOf (compilable s c) ≡ ok (record { operations = operations; words = words; code = code }))
+Holds (prints s text) = listing s ≡ text
+Holds (uncompiled s c buffer n p) = compiled s c buffer ≡ fault n p
+Holds (unrun code arguments work out n p) = ran code arguments work out ≡ fault n p
+Holds (gives s c code arguments out) =
+    (outputOf (ran code arguments (replicate 5 7) (replicate (length out) 7)) ≡ out) × (meaningIn (table s) c arguments ≡ some out)
+
+abbrev pub cases : List Case
+cases =
+    -- A
+    compiles tableA 1 1 1 3 codeA ∷ prints tableA textA
+    -- B to I
+    ∷ refused [] 1 0
+    ∷ refused (set tableA 6 0x1F) 4 6
+    ∷ refused (set tableA 3 0x02) 3 3
+    ∷ refused (set tableA 10 0x09) 6 8
+    ∷ refused (set tableA 22 0x3F) 6 20
+    ∷ refused (set tableA 16 0x02) 12 17
+    ∷ refused (set tableA 29 0x02) 11 27
+    ∷ refused (set tableA 24 0x01) 13 20
+    -- J
+    ∷ gives tableA 1 codeA (three ∷ half ∷ []) (threeHalves ∷ [])
+    -- K
+    ∷ compiles tableK 1 1 0 1 codeK
+    -- the calls
+    ∷ compiles tableCalls 2 2 5 4 codeCalls
+    ∷ gives tableCalls 2 codeCalls (three ∷ []) (seventyTwo ∷ [])
+    -- not of 01: A with each of the refusals 14 and 17 to 21
+    ∷ uncompiled tableA 2 (replicate 20 7) 14 0
+    ∷ uncompiled tableA 1 (replicate 19 7) 17 0
+    ∷ unrun (set codeA 10 0x04) (three ∷ half ∷ []) (replicate 3 7) (replicate 1 7) 18 0
+    ∷ unrun codeA (three ∷ []) (replicate 3 7) (replicate 1 7) 19 0
+    ∷ unrun codeA (three ∷ infinite ∷ []) (replicate 3 7) (replicate 1 7) 20 0
+    ∷ unrun codeA (three ∷ half ∷ []) (replicate 2 7) (replicate 1 7) 21 0
+    ∷ unrun codeA (three ∷ half ∷ []) (replicate 3 7) [] 21 0
+    ∷ []
+
+pub settled : Each Holds cases
+unfolding verdict table need _>>=_ _>>_ via nodeMeans meaningOf results operationsOf resultWordsOf schedule opened encode decode guard then execute compiled ran decimal functionLine listing Ieee.add Ieee.mul Ieee.ofBits Ieee.toBits
+settled =
+    ((refl, refl), (refl, (refl, (refl, (refl, (refl, (refl, (refl, (refl, (refl, ((refl, refl), ((refl, refl), ((refl, refl), ((refl, refl), (refl, (refl, (refl, (refl, (refl, (refl, (refl, tt)))))))))))))))))))))

@@ -1,0 +1,5 @@
+pub mod Compile
+pub mod Answers
+pub mod Demand3
+pub mod Listing
+pub mod Cases

@@ -1,0 +1,194 @@
+-- The function of an id in an accepted table, and what its capped sizes say of its counts.
+use Prim.Native.Nat.{ℕ, suc, _≤_, _<_, min}
+use mathlib.Core.Path.{_≡_, refl, sym, ap, _∙_, subst}
+use mathlib.Core.Bool.{Bool, true, false, cond}
+use mathlib.Core.List.{List}
+use mathlib.Core.Option.{Option, none, some}
+use native.Mathlib.Omega.{arith}
+use lib.Dec.{leb, eqb}
+use lib.ListN.{length}
+use borrow.Author.Tests.{leb-true, le-leb, lt-leb}
+use Rattle.base.specs.Outcome.{Outcome, ok, fault, _>>=_, _>>_, need, orElse}
+use Rattle.base.specs.Bytes.{u16}
+use Rattle.graph.specs.Graph.{Function}
+use Rattle.graph.specs.Judge.{table, verdict}
+use Rattle.graph.specs.Sums.{functionOperations, operationsOf, functionWords}
+use Rattle.graph.specs.Table.{Chosen, chosen}
+use Rattle.base.proofs.Outcomes.{takes, stops, passes, fails}
+use Rattle.lowering.specs.Answers.{within, compilable, codeOf}
+use Rattle.base.specs.Limits.{operationLimit, wordLimit}
+use Rattle.reader.specs.Layout.{functionAt, functionOf, earlier}
+use Rattle.checker.specs.declared.Verdict.{Verdict}
+use Rattle.checker.specs.Answers.{verdictOf}
+use Rattle.sums.specs.declared.Sizes.{Sizes}
+use Rattle.sums.specs.declared.Measured.{Measured}
+use Rattle.sums.specs.declared.Count.{Count}
+use Rattle.sums.specs.Position.{placeOf, before, positionOf}
+use Rattle.sums.specs.Answers.{cappedSizes, sizesOf, named, chosenAt, exactSizes, measuredOf, upTo, countOf, operationCount, wordCount, codeCount}
+use Rattle.sums.proofs.Positions.{at-position, no-position}
+use Rattle.sums.proofs.Accepted.{functions-are, few-functions}
+use Rattle.sums.proofs.Measuring.{leb-cap}
+
+-- ---- what an answer of the checker says of the verdict
+
+pub is-accepted : (o : Outcome ℕ) (n : ℕ) → Verdict.Accepted n ≡ verdictOf o → o ≡ ok n
+is-accepted (ok m) n e = (cc)
+is-accepted (fault a b) n e = let z : _≡_ {A = ℕ} 0 1 = cc in absurd (omega arith)
+
+pub is-refused : (o : Outcome ℕ) (a b : ℕ) → Verdict.Refused a b ≡ verdictOf o → o ≡ fault a b
+is-refused (ok m) a b e = let z : _≡_ {A = ℕ} 0 1 = cc in absurd (omega arith)
+is-refused (fault x y) a b e = (cc)
+
+-- ---- the function of an id
+
+chosen-one : (s : List ℕ) (m c : ℕ) → chosen c (before s (suc m)) ≡ cond (eqb (u16 s (placeOf s m)) c) (some (chosenAt s m)) (chosen c (before s m))
+unfolding earlier functionAt
+chosen-one s m c = refl
+
+faulted : (o : Outcome (List Function)) (a b : ℕ) → (o >>= λ fs. ok (length fs)) ≡ fault a b → o ≡ fault a b
+unfolding _>>=_
+faulted (ok fs) a b e = let z : _≡_ {A = ℕ} 0 1 = cc in absurd (omega arith)
+faulted (fault n p) a b e = (cc)
+
+module _ (s : List ℕ) (c : ℕ) where
+  module _ (n g : ℕ) (e : verdict s ≡ ok n) (eg : g ≡ positionOf s n c) where
+    here : named s c ≡ orElse (chosen c (earlier 8 s n)) 14 0
+    here = takes (table s) (λ fs. orElse (chosen c fs) 14 0) (earlier 8 s n) (functions-are s n e)
+
+    pub named-at : g < n → named s c ≡ ok (chosenAt s g)
+    named-at l =
+        let p : chosen c (earlier 8 s n) ≡ some (chosenAt s (positionOf s n c)) =
+        at-position s (λ fs d. chosen d fs) (λ m. some (chosenAt s m)) none (λ d. refl) (chosen-one s) n c (few-functions s n e) (subst (λ (q : ℕ). q < n) eg l) in
+        here ∙ ap (λ (o : Option Chosen). orElse o 14 0) p ∙ ap (λ (m : ℕ). ok (chosenAt s m)) (sym eg)
+
+    pub named-none : n ≤ g → named s c ≡ fault 14 0
+    named-none l =
+        let p : chosen c (earlier 8 s n) ≡ none =
+        no-position s (λ fs d. chosen d fs) (λ m. some (chosenAt s m)) none (λ d. refl) (chosen-one s) n c (subst (λ (q : ℕ). n ≤ q) eg l) in
+        here ∙ ap (λ (o : Option Chosen). orElse o 14 0) p
+
+  pub named-refused : (a b : ℕ) → verdict s ≡ fault a b → named s c ≡ fault a b
+  unfolding verdict
+  named-refused a b e = stops (table s) (λ fs. orElse (chosen c fs) 14 0) a b (faulted (table s) a b e)
+
+-- ---- 15 and 16
+
+-- what is asked of a function that was found
+abbrev limited : Chosen → Outcome Chosen
+limited x =
+    need (leb (functionOperations (operationsOf (x .early)) (x .function)) operationLimit) 15 0
+    >> (need (leb (functionWords (x .early) (x .function)) wordLimit) 16 0 >> ok x)
+
+within-found : (t : Outcome (List Function)) (c : ℕ) (x : Chosen) → (t >>= λ fs. orElse (chosen c fs) 14 0) ≡ ok x → (t >>= λ fs. within fs c) ≡ limited x
+unfolding _>>=_
+within-found (ok fs) c x e = takes (orElse (chosen c fs) 14 0) _ x e
+within-found (fault n p) c x e = let z : _≡_ {A = ℕ} 0 1 = cc in absurd (omega arith)
+
+within-refused : (t : Outcome (List Function)) (c a b : ℕ) → (t >>= λ fs. orElse (chosen c fs) 14 0) ≡ fault a b → (t >>= λ fs. within fs c) ≡ fault a b
+unfolding _>>=_
+within-refused (ok fs) c a b e = stops (orElse (chosen c fs) 14 0) _ a b e
+within-refused (fault n p) c a b e = e
+
+pub compilable-refused : (s : List ℕ) (c a b : ℕ) → named s c ≡ fault a b → Measured.Refused a b ≡ measuredOf (compilable s c)
+compilable-refused s c a b e = ap measuredOf (sym (within-refused (table s) c a b e))
+
+pub count-refused : (g : Chosen → Count) (s : List ℕ) (c a b : ℕ) → named s c ≡ fault a b → Count.Refused a b ≡ countOf g (named s c)
+count-refused g s c a b e = ap (countOf g) (sym e)
+
+-- a count may be capped above its limit
+up-to-cap : (limit n : ℕ) → upTo limit (min (suc limit) n) ≡ upTo limit n
+up-to-cap limit n = by-limit (leb n limit) refl
+  where
+    by-limit : (b : Bool) → leb n limit ≡ b → upTo limit (min (suc limit) n) ≡ upTo limit n
+    by-limit true e =
+        let h : n ≤ limit = leb-true n limit e in
+        let z : min (suc limit) n ≡ n = omega arith in
+        ap (upTo limit) z
+    by-limit false e = rw (leb-cap limit n, e)
+
+pub up-to-fits : (limit n : ℕ) → n ≤ limit → Count.Exactly n ≡ upTo limit n
+up-to-fits limit n l = rw (le-leb n limit l)
+
+pub up-to-over : (limit n : ℕ) → limit < n → Count.Over ≡ upTo limit n
+up-to-over limit n l = rw (lt-leb n limit l)
+
+module _ (s : List ℕ) (c k : ℕ) (e : named s c ≡ ok (chosenAt s k)) (m : Sizes) (em : m ≡ sizesOf s k) where
+  capped-operations : m .operations ≡ min 4097 (functionOperations (operationsOf (earlier 8 s k)) (functionOf 8 s k))
+  unfolding cappedSizes
+  capped-operations = ap (λ (x : Sizes). x .operations) em
+
+  capped-words : m .words ≡ min 8193 (functionWords (earlier 8 s k) (functionOf 8 s k))
+  unfolding cappedSizes
+  capped-words = ap (λ (x : Sizes). x .words) em
+
+  -- the tests of the capped counts are those of the counts
+  operations-test : leb (m .operations) 4096 ≡ leb (functionOperations (operationsOf (earlier 8 s k)) (functionOf 8 s k)) 4096
+  operations-test = ap (λ (n : ℕ). leb n 4096) capped-operations ∙ leb-cap 4096 (functionOperations (operationsOf (earlier 8 s k)) (functionOf 8 s k))
+
+  words-test : leb (m .words) 8192 ≡ leb (functionWords (earlier 8 s k) (functionOf 8 s k)) 8192
+  words-test = ap (λ (n : ℕ). leb n 8192) capped-words ∙ leb-cap 8192 (functionWords (earlier 8 s k) (functionOf 8 s k))
+
+  module _ (l : 4096 < m .operations) where
+    many : leb (functionOperations (operationsOf (earlier 8 s k)) (functionOf 8 s k)) 4096 ≡ false
+    many = sym operations-test ∙ lt-leb (m .operations) 4096 l
+
+    pub over-operations : Measured.Refused 15 0 ≡ measuredOf (compilable s c)
+    over-operations = ap measuredOf (sym (within-found (table s) c (chosenAt s k) e ∙ fails _ 15 0 _ many))
+
+    pub no-code : Count.Over ≡ countOf codeCount (named s c)
+    unfolding codeCount
+    no-code = sym (ap (countOf codeCount) e ∙ rw many)
+
+  module _ (l : m .operations ≤ 4096) where
+    few : leb (functionOperations (operationsOf (earlier 8 s k)) (functionOf 8 s k)) 4096 ≡ true
+    few = sym operations-test ∙ le-leb (m .operations) 4096 l
+
+    module _ (h : 8192 < m .words) where
+      long : leb (functionWords (earlier 8 s k) (functionOf 8 s k)) 8192 ≡ false
+      long = sym words-test ∙ lt-leb (m .words) 8192 h
+
+      pub over-words : Measured.Refused 16 0 ≡ measuredOf (compilable s c)
+      over-words = ap measuredOf (sym (within-found (table s) c (chosenAt s k) e ∙ passes _ 15 0 _ few ∙ fails _ 16 0 _ long))
+
+      pub no-code-either : Count.Over ≡ countOf codeCount (named s c)
+      unfolding codeCount
+      no-code-either = sym (ap (countOf codeCount) e ∙ rw (few, long))
+
+    module _ (h : m .words ≤ 8192) where
+      short : leb (functionWords (earlier 8 s k) (functionOf 8 s k)) 8192 ≡ true
+      short = sym words-test ∙ le-leb (m .words) 8192 h
+
+      -- within the limits the sizes are exact
+      exact : cappedSizes (earlier 8 s k) (functionOf 8 s k) ≡ exactSizes (chosenAt s k)
+      unfolding cappedSizes exactSizes
+      exact =
+          let eo = capped-operations in
+          let ew = capped-words in
+          let zo : min 4097 (functionOperations (operationsOf (earlier 8 s k)) (functionOf 8 s k)) ≡ functionOperations (operationsOf (earlier 8 s k)) (functionOf 8 s k) = omega arith in
+          let zw : min 8193 (functionWords (earlier 8 s k) (functionOf 8 s k)) ≡ functionWords (earlier 8 s k) (functionOf 8 s k) = omega arith in
+          rw (few, short, zo, zw)
+
+      pub within-limits : Measured.Is m ≡ measuredOf (compilable s c)
+      within-limits =
+          ap (λ (x : Sizes). Measured.Is x) (em ∙ exact)
+          ∙ ap measuredOf (sym (within-found (table s) c (chosenAt s k) e ∙ passes _ 15 0 _ few ∙ passes _ 16 0 _ short))
+
+      code-exact : exactSizes (chosenAt s k) .code ≡ length (codeOf (chosenAt s k))
+      unfolding exactSizes
+      code-exact = refl
+
+      pub its-code : Count.Exactly (m .code) ≡ countOf codeCount (named s c)
+      unfolding codeCount
+      its-code =
+          ap (λ (x : Sizes). Count.Exactly (x .code)) (em ∙ exact) ∙ ap (λ (n : ℕ). Count.Exactly n) code-exact ∙ sym (ap (countOf codeCount) e ∙ rw (few, short))
+
+  -- ---- each count by itself
+
+  pub its-operations : upTo 4096 (m .operations) ≡ countOf operationCount (named s c)
+  unfolding operationCount
+  its-operations =
+      ap (upTo 4096) capped-operations ∙ up-to-cap 4096 (functionOperations (operationsOf (earlier 8 s k)) (functionOf 8 s k)) ∙ sym (ap (countOf operationCount) e)
+
+  pub its-words : upTo 8192 (m .words) ≡ countOf wordCount (named s c)
+  unfolding wordCount
+  its-words = ap (upTo 8192) capped-words ∙ up-to-cap 8192 (functionWords (earlier 8 s k) (functionOf 8 s k)) ∙ sym (ap (countOf wordCount) e)

@@ -1,0 +1,113 @@
+-- The sizes of a function by its sums.
+use Prim.Native.Nat.{ℕ, suc, _+_, _*_, _≤_, _<_, min}
+use mathlib.Core.Path.{_≡_, refl, sym, ap, _∙_}
+use mathlib.Core.Bool.{Bool, true, false, _&&_, cond}
+use mathlib.Core.List.{List, _∷_}
+use native.Mathlib.Omega.{arith}
+use lib.Dec.{leb}
+use lib.ListN.{length, getD}
+use borrow.Author.Tests.{leb-true, leb-false, le-leb, lt-leb}
+use Rattle.ports.specs.Ports.{widths}
+use Rattle.graph.specs.Graph.{Function}
+use Rattle.graph.specs.Judge.{outputTypes}
+use Rattle.graph.specs.Sums.{functionOperations, operationsOf, functionWords, resultWords, resultWordsOf}
+use Rattle.graph.specs.Sound.{AllSound}
+use Rattle.lowering.specs.Compile.{boardListOf}
+use Rattle.bytecode.specs.Code.{encode}
+use Rattle.reader.specs.Layout.{functionAt, functionPlace, functionOf, earlier}
+use Rattle.sums.specs.declared.Sizes.{Sizes}
+use Rattle.sums.specs.CodeSums.{functionBytes, bytesOfFunction}
+use Rattle.sums.specs.Capped.{operationCap, wordCap, byteCap, operationsAt, wordsAt, bytesAt, Summed}
+use Rattle.sums.specs.Answers.{limitsHold, codeSize, cappedSizes, sizesOf, Sized}
+use Rattle.sums.proofs.CodeSizes.{encode-length}
+use Rattle.sums.proofs.CodeLimits.{bytes-below}
+
+-- ---- sums above a limit may be capped
+
+pub leb-cap : (limit n : ℕ) → leb (min (suc limit) n) limit ≡ leb n limit
+leb-cap limit n = by-limit (leb n limit) refl
+  where
+    by-limit : (b : Bool) → leb n limit ≡ b → leb (min (suc limit) n) limit ≡ leb n limit
+    by-limit true e = let h : n ≤ limit = leb-true n limit e in le-leb (min (suc limit) n) limit (omega arith) ∙ sym e
+    by-limit false e = let h : limit < n = leb-false n limit e in lt-leb (min (suc limit) n) limit (omega arith) ∙ sym e
+
+module _ (o w b u : ℕ) where
+  pub code-within : o ≤ 4096 → w ≤ 8192 → 12 + b + 2 * u ≡ codeSize o w b u
+  unfolding codeSize
+  code-within l m = rw (le-leb o 4096 l, le-leb w 8192 m)
+
+  pub words-over : o ≤ 4096 → 8192 < w → 0 ≡ codeSize o w b u
+  unfolding codeSize
+  words-over l m = rw (le-leb o 4096 l, lt-leb w 8192 m)
+
+  pub operations-over : 4096 < o → 0 ≡ codeSize o w b u
+  unfolding codeSize
+  operations-over l = rw (lt-leb o 4096 l)
+
+module _ (early : List Function) (f : Function) (sound : AllSound (f ∷ early)) where
+  code-is : (outputs : ℕ) → outputs ≡ widths (outputTypes (f .outputs)) → (a b : Bool) → leb (functionOperations (operationsOf early) f) 4096 ≡ a
+      → cond (a && b) (12 + min byteCap (functionBytes (bytesOfFunction early) f) + 2 * outputs) 0 ≡ cond (a && b) (length (encode (boardListOf early f))) 0
+  code-is outputs e true true q =
+      ap (λ (n : ℕ). 12 + n + 2 * outputs) (bytes-below early f (leb-true _ 4096 q))
+      ∙ ap (λ (n : ℕ). 12 + functionBytes (bytesOfFunction early) f + 2 * n) e
+      ∙ sym (encode-length early f sound)
+  code-is outputs e true false q = refl
+  code-is outputs e false b q = refl
+
+  -- the sizes by the capped sums
+  pub sizes-are : (p o r w b c a u : ℕ) → p ≡ f .place → o ≡ min operationCap (functionOperations (operationsOf early) f)
+      → r ≡ min wordCap (resultWords (resultWordsOf early) f) → b ≡ min byteCap (functionBytes (bytesOfFunction early) f)
+      → a ≡ widths (f .inputs) → u ≡ widths (outputTypes (f .outputs)) → w ≡ min wordCap (a + r) → c ≡ codeSize o w b u
+      → record { place = p; operations = o; words = w; code = c; arguments = a; outputs = u } ≡ cappedSizes early f
+  unfolding codeSize cappedSizes
+  sizes-are p o r w b c a u ep eo er eb ea eu ew ec =
+      let operations = functionOperations (operationsOf early) f in
+      let fw : w ≡ min wordCap (functionWords early f) = omega arith in
+      let lo : leb o 4096 ≡ leb operations 4096 = ap (λ (n : ℕ). leb n 4096) eo ∙ leb-cap 4096 operations in
+      let lw : leb w 8192 ≡ leb (functionWords early f) 8192 = ap (λ (n : ℕ). leb n 8192) fw ∙ leb-cap 8192 (functionWords early f) in
+      let fc : c ≡ cond (limitsHold operations (functionWords early f)) (length (encode (boardListOf early f))) 0 =
+      ec ∙ rw (lo, lw, eb) (code-is u eu (leb operations 4096) (leb (functionWords early f) 8192) refl) in
+      rw (ep, eo, fw, fc, ea, eu)
+
+-- ---- of the function at position k
+
+module _ (s : List ℕ) (k : ℕ) where
+  operations-are : operationsAt s k ≡ functionOperations (operationsOf (earlier 8 s k)) (functionOf 8 s k)
+  unfolding operationsAt
+  operations-are = refl
+
+  words-are : wordsAt s k ≡ resultWords (resultWordsOf (earlier 8 s k)) (functionOf 8 s k)
+  unfolding wordsAt
+  words-are = refl
+
+  bytes-are : bytesAt s k ≡ functionBytes (bytesOfFunction (earlier 8 s k)) (functionOf 8 s k)
+  unfolding bytesAt
+  bytes-are = refl
+
+  place-is : functionPlace 8 s k ≡ functionOf 8 s k .place
+  unfolding functionAt
+  place-is = refl
+
+  pub measured-at : AllSound (functionOf 8 s k ∷ earlier 8 s k) → (os ws cs bs : List ℕ) → Summed s os ws cs bs k → (p o r w b c a u : ℕ) → p ≡ functionPlace 8 s k
+      → o ≡ getD os k 0 → r ≡ getD ws k 0 → b ≡ getD bs k 0
+      → a ≡ widths (functionOf 8 s k .inputs) → u ≡ widths (outputTypes (functionOf 8 s k .outputs)) → w ≡ min wordCap (a + r) → c ≡ codeSize o w b u
+      → record { place = p; operations = o; words = w; code = c; arguments = a; outputs = u } ≡ sizesOf s k
+  measured-at sound os ws cs bs x p o r w b c a u ep eo er eb =
+      sizes-are (earlier 8 s k) (functionOf 8 s k) sound p o r w b c a u (ep ∙ place-is)
+      (eo ∙ x .operations ∙ ap (min operationCap) operations-are) (er ∙ x .words ∙ ap (min wordCap) words-are) (eb ∙ x .bytes ∙ ap (min byteCap) bytes-are)
+
+  -- fact by fact
+  pub sized : (r : Sizes) → r ≡ sizesOf s k → r .place < 65536 → Sized s k r
+  unfolding cappedSizes functionAt
+  sized r e near =
+      let operations = functionOperations (operationsOf (earlier 8 s k)) (functionOf 8 s k) in
+      let words = functionWords (earlier 8 s k) (functionOf 8 s k) in
+      record {
+        place = ap (λ (x : Sizes). x .place) e;
+        near = near;
+        operations = ap (λ (x : Sizes). x .operations) e;
+        words = ap (λ (x : Sizes). x .words) e;
+        code = λ q. ap (λ (x : Sizes). x .code) e ∙ ap (λ (b : Bool). cond b (length (encode (boardListOf (earlier 8 s k) (functionOf 8 s k)))) 0) q;
+        arguments = ap (λ (x : Sizes). x .arguments) e;
+        outputs = ap (λ (x : Sizes). x .outputs) e;
+      }

@@ -1,0 +1,137 @@
+-- A node as the code meets it: its references, the place behind it, the nodes in turn.
+use Prim.Native.Nat.{ℕ, suc, _+_, _-_, _*_, _≤_, _<_}
+use mathlib.Core.Path.{_≡_, refl, sym, ap, _∙_, subst}
+use mathlib.Core.Bool.{true, false}
+use mathlib.Core.List.{List}
+use native.Mathlib.Omega.{arith}
+use lib.ListN.{set}
+use lib.Seq.{sets}
+use borrow.Author.Tests.{eqb-true}
+use Rattle.ports.specs.declared.Form.{Form}
+use Rattle.ports.specs.declared.Form.the-variants.{Absent, Constant, References, Call}
+use Rattle.ports.specs.declared.Ports.{Ports}
+use Rattle.ports.specs.Kinds.{Kind, kindOf}
+use Rattle.ports.specs.Ports.{portsOf, arity, formOf, constantIn, constantWords}
+use Rattle.base.specs.Bytes.{byte, u16}
+use Rattle.graph.specs.Graph.{calls}
+use Rattle.graph.specs.Read.{references}
+use Rattle.reader.specs.Layout.{kindAt, payloadAt, payloadEnd, nodeAt, nodeEnd, nodePlace, nodesPlace, nodeCount, functionEnd, functionPlace}
+use Rattle.sums.specs.Position.{tabulate, placeOf, calling, NodeFit, NodesFit}
+use Rattle.sums.proofs.Rows.{operandsBy, Narrow, narrow}
+use Rattle.sums.proofs.Tabulate.{tabulate-none, tabulate-more}
+
+pub call-form : (f : Form) → calling f ≡ true → f ≡ Call
+call-form Absent e = let z : _≡_ {A = ℕ} 0 1 = cc in absurd (omega arith)
+call-form Constant e = let z : _≡_ {A = ℕ} 0 1 = cc in absurd (omega arith)
+call-form References e = let z : _≡_ {A = ℕ} 0 1 = cc in absurd (omega arith)
+call-form Call e = refl
+
+-- ---- a payload that is no call's
+
+module _ (s : List ℕ) (at : ℕ) (k : Kind) where
+  payload-end : (f : Form) → formOf k ≡ f → calling f ≡ false → operandsBy f (arity k) ≡ true
+      → payloadEnd f k s at ≡ at + 3 * arity k + 8 * constantIn f (portsOf k .words)
+  payload-end Absent q c e = let z : arity k ≡ 0 = eqb-true (arity k) 0 e in omega arith
+  payload-end Constant q c e =
+      let z : arity k ≡ 0 = eqb-true (arity k) 0 e in
+      let w : constantWords k ≡ portsOf k .words = ap (λ (g : Form). constantIn g (portsOf k .words)) q in
+      omega arith
+  payload-end References q c e = omega arith
+  payload-end Call q c e = let z : _≡_ {A = ℕ} 0 1 = cc in absurd (omega arith)
+
+-- ---- the node at p, whose kind has this row
+
+module _ (s : List ℕ) (p kind : ℕ) (row : Ports) (ek : kind ≡ byte s (p + 2)) (er : row ≡ portsOf (kindOf kind)) where
+  pub row-is : row ≡ portsOf (kindAt s p)
+  row-is = er ∙ ap (λ (k : ℕ). portsOf (kindOf k)) ek
+
+  pub row-narrow : Narrow row
+  row-narrow = subst Narrow (sym er) (narrow kind)
+
+  pub form-is : row .form ≡ formOf (kindAt s p)
+  form-is = ap (λ (r : Ports). r .form) row-is
+
+  pub operands-are : row .operands ≡ arity (kindAt s p)
+  operands-are = ap (λ (r : Ports). r .operands) row-is
+
+  module _ (c : calling (row .form) ≡ true) where
+    pub called : formOf (kindAt s p) ≡ Call
+    called = sym form-is ∙ call-form (row .form) c
+
+    pub call-payload : nodeAt s p .payload ≡ calls (u16 s (p + 4)) (references (byte s (p + 4 + 2)) s (p + 4 + 3))
+    unfolding nodeAt
+    call-payload = ap (λ (f : Form). payloadAt f (kindAt s p) s (p + 4)) called
+
+    pub call-end : (n : ℕ) → n ≡ byte s (p + 4 + 2) → p + 4 + 3 + 3 * n ≡ nodeEnd s p
+    unfolding nodeEnd
+    call-end n e = sym (ap (λ (f : Form). payloadEnd f (kindAt s p) s (p + 4)) called ∙ ap (λ (m : ℕ). p + 4 + 3 + 3 * m) (sym e))
+
+  module _ (c : calling (row .form) ≡ false) where
+    pub plain-form : calling (formOf (kindAt s p)) ≡ false
+    plain-form = ap calling (sym form-is) ∙ c
+
+    pub by-form : operandsBy (formOf (kindAt s p)) (arity (kindAt s p)) ≡ true
+    by-form = subst (λ (r : Ports). operandsBy (r .form) (r .operands) ≡ true) row-is (row-narrow .by-form)
+
+    pub plain-end : (n w : ℕ) → n ≡ row .operands → w ≡ constantIn (row .form) (row .words) → p + 4 + 3 * n + 8 * w ≡ nodeEnd s p
+    unfolding nodeEnd
+    plain-end n w en ew =
+        let a : n ≡ arity (kindAt s p) = en ∙ operands-are in
+        let b : w ≡ constantIn (formOf (kindAt s p)) (portsOf (kindAt s p) .words) = ew ∙ ap (λ (r : Ports). constantIn (r .form) (r .words)) row-is in
+        rw (a, b) (sym (payload-end s (p + 4) (kindAt s p) (formOf (kindAt s p)) refl plain-form by-form))
+
+-- ---- nodes in turn
+
+module _ (s : List ℕ) (at n : ℕ) where
+  -- i of n nodes are passed
+  pub record Passing (q i : ℕ) : Type 0 where
+    pub index : i ≤ n
+    pub near : q < 1048576
+    pub fit : NodesFit s (n - i) q
+    pub rest : nodePlace s at n ≡ nodePlace s q (n - i)
+
+  pub pass-start : at < 1048576 → NodesFit s n at → Passing at 0
+  pass-start l h = let z : n - 0 ≡ n = omega arith in record { index = omega arith; near = l; fit = rw z h; rest = rw z }
+
+  pub pass-here : (q i : ℕ) → Passing q i → i < n → NodeFit s q
+  pass-here q i h lt = let e : n - i ≡ suc (n - (i + 1)) = omega arith in let f = h .fit in (rw e at f) .0
+
+  pub pass-step : (q i r : ℕ) → Passing q i → i < n → r ≡ nodeEnd s q → r < 1048576 → Passing r (i + 1)
+  unfolding nodePlace
+  pass-step q i r h lt er l =
+      let e : n - i ≡ suc (n - (i + 1)) = omega arith in
+      let f = h .fit in
+      record { index = omega arith; near = l; fit = rw er ((rw e at f) .1); rest = h .rest ∙ rw (e, er) }
+
+  pub pass-done : (q i : ℕ) → Passing q i → n ≤ i → q ≡ nodePlace s at n
+  unfolding nodePlace
+  pass-done q i h le = let z : n - i ≡ 0 = omega arith in sym (h .rest ∙ rw z)
+
+-- ---- functions in turn
+
+module _ (s : List ℕ) (n : ℕ) (starts₀ : List ℕ) where
+  pub record Starting (starts : List ℕ) (p k : ℕ) : Type 0 where
+    pub index : k ≤ n
+    pub place : p ≡ placeOf s k
+    pub starts-are : starts ≡ sets starts₀ 0 (tabulate (placeOf s) k)
+
+  pub start-none : Starting starts₀ 8 0
+  unfolding functionPlace
+  start-none = record { index = omega arith; place = refl; starts-are = sym (tabulate-none (placeOf s) starts₀) }
+
+  pub start-step : (starts : List ℕ) (p k r : ℕ) → Starting starts p k → k < n → r ≡ nodePlace s (nodesPlace s p) (nodeCount s p)
+      → Starting (set starts k p) r (k + 1)
+  unfolding functionPlace functionEnd
+  start-step starts p k r h lt er =
+      let z : k + 1 ≡ suc k = omega arith in
+      record {
+        index = omega arith;
+        place = rw z (er ∙ ap (functionEnd s) (h .place));
+        starts-are =
+            ap (λ (xs : List ℕ). set xs k p) (h .starts-are)
+            ∙ ap (set (sets starts₀ 0 (tabulate (placeOf s) k)) k) (h .place)
+            ∙ sym (tabulate-more (placeOf s) starts₀ k);
+      }
+
+  pub start-done : (starts : List ℕ) (p k : ℕ) → Starting starts p k → n ≤ k → starts ≡ sets starts₀ 0 (tabulate (placeOf s) n)
+  start-done starts p k h le = let z : k ≡ n = let i = h .index in omega arith in h .starts-are ∙ ap (λ (m : ℕ). sets starts₀ 0 (tabulate (placeOf s) m)) z

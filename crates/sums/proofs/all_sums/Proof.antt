@@ -1,0 +1,46 @@
+use borrow.Author.Needs.{needs}
+use Prim.Native.Nat.{_-_, _≤_}
+use native.Mathlib.Omega.{arith}
+use mathlib.Core.Path.{_≡_}
+use Rattle.sums.proofs.Tabulate.{SumsIn, sums-none, sums-more, summed-in}
+use Rattle.sums.proofs.all_sums.Statement.{statement}
+use Rattle.sums.proofs.all_sums.Tie as tie
+
+abbrev Inv-loop : tie.InvT-loop
+Inv-loop t starts n ops₀ words₀ counts₀ sizes₀ k₀ ops words counts sizes k = (k ≤ n) × SumsIn t ops₀ words₀ counts₀ sizes₀ ops words counts sizes k
+
+abbrev μ-loop : tie.MeasureT-loop
+μ-loop t starts n ops₀ words₀ counts₀ sizes₀ k₀ ops words counts sizes k = n - k
+
+loop-holds : tie.Need-loop-holds Inv-loop μ-loop
+loop-holds c = let a = c .before .args in (omega arith, sums-none (a .t .now) (a .ops .now) (a .words .now) (a .counts .now) (a .sizes .now))
+
+function-sums-requires : tie.Need-function-sums-requires Inv-loop μ-loop
+function-sums-requires c κs =
+    let b = c .before .before .before .before .before .before .before in
+    let l = c .before .before .before .before .before .loop in
+    let t = c .before .before .before .before .loop-test .taken in
+    let n = b .pre .0 .0 in
+    ((omega arith, b .pre .0 .1 (l .k) t, λ j h. b .pre .0 .2 j (omega arith)), summed-in (b .args .t .now) (b .args .ops .now) (b .args .words .now) (b .args .counts .now) (b .args .sizes .now) (l .ops) (l .words) (l .counts) (l .sizes) (l .k) (l .inv .1) (b .pre .1) (omega arith))
+
+loop-again : tie.Need-loop-again Inv-loop μ-loop
+loop-again c =
+    let b = c .before .before .before .before .before .before .before .before in
+    let l = c .before .before .before .before .before .before .loop in
+    let t = c .before .before .before .before .before .loop-test .taken in
+    let n = b .pre .0 .0 in
+    let a = b .args in
+    (omega arith, sums-more (a .t .now) (a .ops .now) (a .words .now) (a .counts .now) (a .sizes .now) (l .ops) (l .words) (l .counts) (l .sizes) _ _ _ _ (l .k) (l .inv .1) (c .function-sums .ensures))
+
+returns : tie.Need-returns Inv-loop μ-loop
+returns c =
+    let b = c .before .before in
+    let i = c .before .loop .inv .0 in
+    let e = c .loop-test .left in
+    let z : c .before .loop .k ≡ b .before .args .n = omega arith in
+    rw z at (c .before .loop .inv .1)
+
+pub all-sums-spec : {M : Type 1} → statement M
+all-sums-spec =
+    tie.close
+    (tie.spec Inv-loop μ-loop loop-holds function-sums-requires (λ c. search needs) (λ c. search needs) loop-again returns)

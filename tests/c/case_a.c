@@ -1,0 +1,72 @@
+/* Case A of document 01 through the C header: checked, compiled, run, evaluated and refused. */
+#include <stdio.h>
+#include <string.h>
+
+#include "quetlapin.h"
+
+static const uint8_t table[30] = {
+    0x49, 0x46, 0x47, 0x01, 0x00, 0x01, 0x1E, 0x00, 0x01, 0x00, 0x02, 0x01, 0x01, 0x00, 0x01,
+    0x01, 0x01, 0x01, 0x00, 0x00, 0x01, 0x00, 0x03, 0x01, 0x00, 0x00, 0x00, 0x00, 0x00, 0x01};
+
+static const uint8_t expected_code[20] = {0x49, 0x46, 0x52, 0x01, 0x00, 0x02, 0x01,
+                                          0x00, 0x01, 0x00, 0x03, 0x00, 0x03, 0x01,
+                                          0x00, 0x00, 0x01, 0x00, 0x02, 0x00};
+
+static int failures = 0;
+
+static void expect(const char *what, int holds)
+{
+    if (!holds) {
+        printf("C program: %s\n", what);
+        failures++;
+    }
+}
+
+static uint64_t word(double value)
+{
+    uint64_t bits;
+    memcpy(&bits, &value, sizeof bits);
+    return bits;
+}
+
+int main(void)
+{
+    const uint64_t arguments[2] = {word(3.0), word(0.5)};
+    const uint64_t too_large[2] = {word(3.0), 0x7FF0000000000000u};
+    uint8_t code[24];
+    uint64_t work[4], out[2], answer;
+    size_t i;
+
+    expect("check accepts one function", ifg_check(table, sizeof table) == 1);
+    answer = ifg_check(table, 29);
+    expect("a cut table is refused with 4 at 6", IFG_NUMBER(answer) == 4 && IFG_PLACE(answer) == 6);
+
+    memset(code, 0xA5, sizeof code);
+    answer = ifg_compile(table, sizeof table, 1, code, 19);
+    expect("a short code buffer is refused with 17", IFG_NUMBER(answer) == 17);
+    for (i = 0; i < sizeof code; i++)
+        expect("a refusal leaves the code buffer", code[i] == 0xA5);
+    expect("compile answers 20", ifg_compile(table, sizeof table, 1, code, sizeof code) == 20);
+    expect("the code is case A's", memcmp(code, expected_code, sizeof expected_code) == 0);
+    for (i = sizeof expected_code; i < sizeof code; i++)
+        expect("bytes behind the code are unchanged", code[i] == 0xA5);
+
+    for (i = 0; i < 4; i++)
+        work[i] = 7;
+    out[0] = out[1] = 7;
+    answer = ifr_run(code, 20, too_large, 2, work, 4, out, 2);
+    expect("an infinite argument is refused with 20", IFG_NUMBER(answer) == 20);
+    expect("a refusal leaves the output buffer", out[0] == 7 && work[0] == 7);
+    expect("run answers 1", ifr_run(code, 20, arguments, 2, work, 4, out, 2) == 1);
+    expect("3 times 0.5 is 1.5", out[0] == word(1.5) && out[1] == 7);
+    expect("the work buffer holds the list's words", work[2] == word(1.5) && work[3] == 7);
+
+    memset(code, 0xA5, sizeof code);
+    out[0] = 7;
+    expect("evaluate answers 1",
+           ifg_evaluate(table, sizeof table, 1, arguments, 2, code, sizeof code, work, 4, out, 2) == 1);
+    expect("evaluate gives 1.5", out[0] == word(1.5));
+    if (failures == 0)
+        printf("C program: case A as document 01 has it\n");
+    return failures != 0;
+}
