@@ -19,6 +19,7 @@ pub const OPERAND_LIMIT: usize = 16;
 pub const SLOT_LIMIT: usize = NODE_LIMIT * OPERAND_LIMIT;
 // Operations and words of a function that can be compiled.
 pub const OPERATION_LIMIT: usize = 4096;
+
 pub const WORD_LIMIT: usize = 8192;
 // Words of all inputs, and of all outputs.
 pub const PORT_WORD_LIMIT: usize = 128;

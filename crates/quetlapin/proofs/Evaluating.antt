@@ -20,9 +20,9 @@ use Rattle.graph.specs.Sums.{functionOperations, operationsOf, functionWords}
 use Rattle.graph.specs.Table.{Chosen, chosen}
 use Rattle.base.proofs.Outcomes.{took, passed, takes, stops, passes, fails, ok-is}
 use Rattle.base.specs.Limits.{operationLimit, wordLimit}
+use Rattle.bytecode.specs.Answers.{Buffers, ran}
 use Rattle.lowering.specs.Answers as Answers
 use Rattle.lowering.specs.Answers.{within, compilable, codeOf, compiled, evaluated}
-use Rattle.bytecode.specs.Answers.{ran}
 use Rattle.lowering.specs.Demand3.{Within, Lent}
 use Rattle.value.proofs.Laws.{each-finite}
 use Rattle.lowering.proofs.Whole.{demand3, evaluates}
@@ -106,13 +106,13 @@ module _ (s : List ℕ) (c : ℕ) (arguments code work out : List ℕ) where
       let e = evaluates s c fs x w code arguments work out l in
       let same : claim .after ≡ e .after =
       ok-is (sym (claim .runs) ∙ ap (λ (y : Answers.Compiled). ran (take (y .size) (y .buffer)) arguments work out) (claim .list) ∙ e .runs) in
-      let work-is : work′ ≡ claim .after .work = a .work-after ∙ ap (λ (g : Outcome Answers.Evaluated). workAfter g work) (e .answer) ∙ ap (λ (b : Answers.Buffers). b .work) (sym same) in
+      let work-is : work′ ≡ claim .after .work = a .work-after ∙ ap (λ (g : Outcome Answers.Evaluated). workAfter g work) (e .answer) ∙ ap (λ (b : Buffers). b .work) (sym same) in
       record {
         answer = claim .answer;
         meant = claim .meant;
         size = claim .size;
-        count = a .answer ∙ ap answerOf (e .answer) ∙ ap (λ (b : Answers.Buffers). Done (b .count)) (sym same) ∙ ap Done (claim .count);
-        given = a .out-after ∙ ap (λ (g : Outcome Answers.Evaluated). outAfter g out) (e .answer) ∙ ap (λ (b : Answers.Buffers). b .out) (sym same) ∙ claim .given;
+        count = a .answer ∙ ap answerOf (e .answer) ∙ ap (λ (b : Buffers). Done (b .count)) (sym same) ∙ ap Done (claim .count);
+        given = a .out-after ∙ ap (λ (g : Outcome Answers.Evaluated). outAfter g out) (e .answer) ∙ ap (λ (b : Buffers). b .out) (sym same) ∙ claim .given;
         list = a .code-after ∙ ap (λ (g : Outcome Answers.Evaluated). codeAfter g code) (e .answer);
         same = ap length work-is ∙ claim .same;
         rest = λ i h. ap (λ (m : List ℕ). wordAt m i) work-is ∙ claim .rest i h;
@@ -245,10 +245,10 @@ module _ (s : List ℕ) (c : ℕ) (arguments code work out : List ℕ) where
                   answer = ea ∙ ap fromRun (er .answer ∙ ap runner.answerOf runs) ∙ sym (ap answerOf (e .answer));
                   code-after = list ∙ sym (ap (λ (g : Outcome Answers.Evaluated). codeAfter g code) (e .answer));
                   work-after =
-                      er .work-after ∙ ap (λ (g : Outcome Answers.Buffers). runner.workAfter g work) runs
+                      er .work-after ∙ ap (λ (g : Outcome Buffers). runner.workAfter g work) runs
                       ∙ sym (ap (λ (g : Outcome Answers.Evaluated). workAfter g work) (e .answer));
                   out-after =
-                      er .out-after ∙ ap (λ (g : Outcome Answers.Buffers). runner.outAfter g out) runs
+                      er .out-after ∙ ap (λ (g : Outcome Buffers). runner.outAfter g out) runs
                       ∙ sym (ap (λ (g : Outcome Answers.Evaluated). outAfter g out) (e .answer));
                 } in
                 (t, meant code′ work′ out′ r t)
