@@ -1,11 +1,11 @@
 -- 13 as the verdict on a whole table: where nothing before it fails, exactly when a function's nodes have no order.
 use Prim.Native.Nat.{ℕ, _≤_}
-use mathlib.Core.Path.{_≡_, refl, ap, sym, _∙_, subst}
+use mathlib.Core.Path.{_≡_, refl, ap, subst}
 use mathlib.Core.List.{List, [], _∷_, _++_, reverse, reverseAux}
-use mathlib.Core.Logic.{_⊎_, inl, inr, ⊎-elim, _↔_}
+use mathlib.Core.Logic.{inl, inr, ⊎-elim, _↔_}
 use native.Mathlib.Omega.{arith}
 use Rattle.base.specs.Lists.{Is}
-use Rattle.base.specs.Outcome.{Outcome, ok, fault}
+use Rattle.base.specs.Outcome.{fault}
 use Rattle.base.specs.Bytes.{Bytes}
 use Rattle.graph.specs.Graph.{Ref, Node, Function}
 use Rattle.graph.specs.Look.{reads, outputRefs}

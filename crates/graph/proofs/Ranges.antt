@@ -7,17 +7,17 @@ use native.Mathlib.Omega.{arith}
 use lib.ListN.{length, length-append}
 use Rattle.ports.specs.declared.Form.the-variants.{Absent, Constant, References, Call}
 use Rattle.base.specs.Lists.{Each}
-use Rattle.base.specs.Outcome.{Outcome, ok, fault}
+use Rattle.base.specs.Outcome.{ok, fault}
 use Rattle.base.specs.Bytes.{Bytes}
 use Rattle.graph.specs.Graph.{Ref, Payload, consts, refs, calls, Node, Output, Function}
 use Rattle.graph.specs.Look.{reads, readsOf, outputRefs}
 use Rattle.graph.specs.Read.{Format, version1}
 use Rattle.graph.specs.Judge.{wantsOf, refType, outputTypes, verdict}
-use Rattle.graph.specs.Written.{flat, refBytes, outputBytes, payloadBytes, nodeBytes, functionBytes, headerBytes, tableBytes, RefsAt, PayloadAt, OutputsAt, NodesAt, FunctionAt, FunctionsAt, Written}
-use Rattle.graph.specs.Checks.{Check, check, All, First, idChecks, callChecks, refChecks, nodeRefChecks, loopChecks, linkChecks, functionChecks, tableChecks}
+use Rattle.graph.specs.Written.{flat, refBytes, outputBytes, payloadBytes, nodeBytes, functionBytes, headerBytes, RefsAt, PayloadAt, OutputsAt, NodesAt, FunctionAt, FunctionsAt}
+use Rattle.graph.specs.Checks.{Check, check, First, idChecks, callChecks, refChecks, nodeRefChecks, loopChecks, linkChecks, functionChecks, tableChecks}
 use Rattle.graph.specs.Reading.{headerChecks, Shape, head, input, output, node, payload, arguments, size, recordChecks, Reading, end, stop, on}
 use Rattle.graph.specs.Rules.{Fault, of-header, of-reading, of-rules}
-use Rattle.base.proofs.Stands.{little, little-below}
+use Rattle.base.proofs.Stands.{little-below}
 use Rattle.graph.proofs.Formed.{refs-size, outputs-size, header-length, Plain, plain1}
 use Rattle.graph.proofs.Exactly.{verdict-iff}
 
