@@ -7,8 +7,7 @@ use native.Mathlib.Omega.{arith}
 use Rattle.base.specs.Lists.{Is}
 use Rattle.base.specs.Outcome.{fault}
 use Rattle.base.specs.Bytes.{Bytes}
-use Rattle.graph.specs.Graph.{Ref, Node, Function}
-use Rattle.graph.specs.Look.{reads, outputRefs}
+use Rattle.graph.specs.Graph.{Node, Function}
 use Rattle.graph.specs.Read.{Format, version1}
 use Rattle.graph.specs.Judge.{verdict}
 use Rattle.graph.specs.Sound.{Formed}
@@ -19,26 +18,14 @@ use Rattle.graph.specs.Reading.{headerChecks}
 use Rattle.graph.specs.Rules.{Fault, of-header, of-reading, of-rules, LoopFault}
 use Rattle.base.proofs.Outcomes.{is-each}
 use Rattle.graph.proofs.First.{all-append, all-split, first-left, first-right, first-split, first-loop, no-order-loop}
-use Rattle.graph.proofs.Ranges.{RefPlaces, NodePlaces, Places, Rule, first-ranged, header-range, reading-range, link-range}
+use Rattle.graph.proofs.Ranges.{Anywhere, anywhere, Rule, first-ranged, header-range, reading-range, link-range}
 use Rattle.graph.proofs.Exactly.{verdict-iff}
 
 -- ---- only 13 is 13
 
-abbrev Anywhere : ℕ → Type 0
-Anywhere p = Unit {0}
-
-refs-anywhere : (rs : List Ref) → RefPlaces Anywhere rs
-refs-anywhere [] = tt
-refs-anywhere (r ∷ rs) = (tt, refs-anywhere rs)
-
-nodes-anywhere : (ns : List Node) → NodePlaces Anywhere ns
-nodes-anywhere [] = tt
-nodes-anywhere (n ∷ ns) = ((tt, refs-anywhere (reads n)), nodes-anywhere ns)
-
 links-not-13 : (early : List Function) (f : Function) (p : ℕ) → First (linkChecks early f) 13 p → ⊥
 links-not-13 early f p h =
-    let any : Places Anywhere f = record { head = tt; outputs = refs-anywhere (outputRefs (f .outputs)); nodes = nodes-anywhere (f .nodes) } in
-    let (a, b, c) = first-ranged (Rule Anywhere 12) (linkChecks early f) 13 p (link-range Anywhere 12 (omega arith) early f any) h in
+    let (a, b, c) = first-ranged (Rule Anywhere 12) (linkChecks early f) 13 p (link-range Anywhere 12 (omega arith) early f (anywhere f)) h in
     omega arith
 
 -- ---- the function that has the loop
@@ -62,20 +49,20 @@ first-13 early (f ∷ fs) p h = ⊎-elim here (λ (a, g). later a (first-13 (f �
     later a (before, x, behind, e, b, l, y) =
         (f ∷ before, x, behind, ap (λ (gs : List Function). f ∷ gs) e, all-append (functionChecks early f) (tableChecks (f ∷ early) before) a b, l, y)
 
-first-back : (early before : List Function) (f : Function) (behind : List Function) (p : ℕ) → All (tableChecks early before)
+first-13-back : (early before : List Function) (f : Function) (behind : List Function) (p : ℕ) → All (tableChecks early before)
     → All (linkChecks (reverseAux before early) f) → First (loopChecks (f .nodes) (f .nodes)) 13 p → First (tableChecks early (before ++ f ∷ behind)) 13 p
-first-back early [] f behind p a l h =
+first-13-back early [] f behind p a l h =
     first-left (functionChecks early f) (tableChecks (f ∷ early) behind) 13 p (first-right (linkChecks early f) (loopChecks (f .nodes) (f .nodes)) 13 p l h)
-first-back early (g ∷ before) f behind p a l h =
+first-13-back early (g ∷ before) f behind p a l h =
     let (x, y) = all-split (functionChecks early g) (tableChecks (g ∷ early) before) a in
-    first-right (functionChecks early g) (tableChecks (g ∷ early) (before ++ f ∷ behind)) 13 p x (first-back (g ∷ early) before f behind p y l h)
+    first-right (functionChecks early g) (tableChecks (g ∷ early) (before ++ f ∷ behind)) 13 p x (first-13-back (g ∷ early) before f behind p y l h)
 
 -- ---- the verdict
 
 module _ (format : Format) (s : List ℕ) (p : ℕ) where
   fault-there : Fault format s 13 p → LoopFault format s p
   fault-there (of-header f) =
-      let (a, b, c) = first-ranged (λ n q. (1 ≤ n) × (n ≤ 8) × (q ≤ 6)) (headerChecks format s) 13 p (header-range format s) f in
+      let (a, b, c) = first-ranged (λ n q. (1 ≤ n) × (n ≤ 6) × (q ≤ 6)) (headerChecks format s) 13 p (header-range format s) f in
       absurd (omega arith)
   fault-there (of-reading a r) = let (x, y, z) = reading-range (format .nodeLimit) s r in absurd (omega arith)
   fault-there (of-rules fs w f) =
@@ -96,7 +83,7 @@ module _ (format : Format) (s : List ℕ) (p : ℕ) where
   fault-back : LoopFault format s p → Fault format s 13 p
   fault-back l =
       of-rules (l .before ++ l .function ∷ l .behind) (l .written)
-      (first-back [] (l .before) (l .function) (l .behind) p (l .earlier) (l .links)
+      (first-13-back [] (l .before) (l .function) (l .behind) p (l .earlier) (l .links)
       (first-loop (l .function .nodes) 13 p .1 (l .node, l .first, refl, l .place)))
 
   pub fault-13 : Fault format s 13 p ↔ LoopFault format s p

@@ -5,6 +5,7 @@ use mathlib.Core.List.{List, [], _∷_, _++_}
 use mathlib.Core.Logic.{_⊎_, inl, inr, ⊎-elim}
 use native.Mathlib.Omega.{arith}
 use lib.ListN.{length, length-append}
+use lib.Arith.{lt-of-le-ne}
 use Rattle.ports.specs.declared.Form.the-variants.{Absent, Constant, References, Call}
 use Rattle.base.specs.Lists.{Each}
 use Rattle.base.specs.Outcome.{ok, fault}
@@ -12,9 +13,9 @@ use Rattle.base.specs.Bytes.{Bytes}
 use Rattle.graph.specs.Graph.{Ref, Payload, consts, refs, calls, Node, Output, Function}
 use Rattle.graph.specs.Look.{reads, readsOf, outputRefs}
 use Rattle.graph.specs.Read.{Format, version1}
-use Rattle.graph.specs.Judge.{wantsOf, refType, outputTypes, verdict}
+use Rattle.graph.specs.Judge.{wantsOf, outputTypes, verdict}
 use Rattle.graph.specs.Written.{flat, refBytes, outputBytes, payloadBytes, nodeBytes, functionBytes, headerBytes, RefsAt, PayloadAt, OutputsAt, NodesAt, FunctionAt, FunctionsAt}
-use Rattle.graph.specs.Checks.{Check, check, First, idChecks, callChecks, refChecks, nodeRefChecks, loopChecks, linkChecks, functionChecks, tableChecks}
+use Rattle.graph.specs.Checks.{Check, First, idChecks, callChecks, refChecks, nodeRefChecks, loopChecks, linkChecks, functionChecks, tableChecks}
 use Rattle.graph.specs.Reading.{headerChecks, Shape, head, input, output, node, payload, arguments, size, recordChecks, Reading, end, stop, on}
 use Rattle.graph.specs.Rules.{Fault, of-header, of-reading, of-rules}
 use Rattle.base.proofs.Stands.{little-below}
@@ -39,13 +40,13 @@ module _ (P : ℕ → ℕ → Type 0) where
 
 -- ---- 1 to 8
 
-pub header-range : (format : Format) (s : List ℕ) → Ranged (λ n p. (1 ≤ n) × (n ≤ 8) × (p ≤ 6)) (headerChecks format s)
+pub header-range : (format : Format) (s : List ℕ) → Ranged (λ n p. (1 ≤ n) × (n ≤ 6) × (p ≤ 6)) (headerChecks format s)
 header-range format s =
     ((omega arith, omega arith, omega arith), ((omega arith, omega arith, omega arith), ((omega arith, omega arith, omega arith), ((omega arith, omega arith, omega arith), ((omega arith, omega arith, omega arith), tt)))))
 
 module _ (limit : ℕ) (s : List ℕ) where
   abbrev AtRecord : ℕ → ℕ → ℕ → Type 0
-  AtRecord at n p = (5 ≤ n) × (n ≤ 8) × (p ≡ at)
+  AtRecord at n p = (5 ≤ n) × (n ≤ 7) × (p ≡ at)
 
   record-range : (h : Shape) (at : ℕ) → Ranged (AtRecord at) (recordChecks limit s h at)
   record-range head at = ((omega arith, omega arith, refl), ((omega arith, omega arith, refl), tt))
@@ -60,13 +61,21 @@ module _ (limit : ℕ) (s : List ℕ) where
 
   -- a record begins where the reading is, and the reading goes on only within the bytes
   pub reading-range : {hs : List Shape} {at n p : ℕ} → Reading limit s hs at (fault n p) → (5 ≤ n) × (n ≤ 8) × ((p ≡ at) ⊎ (p ≤ length s))
-  reading-range (end {at = at} {o = fault n p} f) =
-      let (a, b, c) = first-ranged (AtRecord at) (check 8 at (at ≡ length s) ∷ []) n p ((omega arith, omega arith, refl), tt) f in
-      (a, b, inl c)
+  reading-range (end {at = at} {o = fault n p} (inl (x, e, q))) = (omega arith, omega arith, inl (sym q))
+  reading-range (end {at = at} {o = fault n p} (inr (x, f))) = absurd f
   reading-range (stop {h = h} {at = at} {n = n} {p = p} f) =
       let (a, b, c) = first-ranged (AtRecord at) (recordChecks limit s h at) n p (record-range h at) f in
-      (a, b, inl c)
+      (a, omega arith, inl c)
   reading-range (on (fit, x) r) = let (a, b, c) = reading-range r in (a, b, inr (⊎-elim (λ e. omega arith) (λ l. l) c))
+
+  -- 8 is given only before the end
+  pub reading-left : {hs : List Shape} {at n p : ℕ} → Reading limit s hs at (fault n p) → n ≡ 8 → at ≤ length s → p < length s
+  reading-left (end {at = at} {o = fault n p} (inl (x, e, q))) i l = subst (λ (k : ℕ). k < length s) q (lt-of-le-ne l x)
+  reading-left (end {at = at} {o = fault n p} (inr (x, f))) i l = absurd f
+  reading-left (stop {h = h} {at = at} {n = n} {p = p} f) i l =
+      let (a, b, c) = first-ranged (AtRecord at) (recordChecks limit s h at) n p (record-range h at) f in
+      absurd (omega arith)
+  reading-left (on (fit, x) r) i l = reading-left r i fit
 
 -- ---- 9 to 13
 
@@ -97,7 +106,7 @@ module _ (Q : ℕ → Type 0) where
     calls-range early (n ∷ ns) ((q, r), qs) = ((omega arith, omega arith, q), calls-range early ns qs)
 
     module _ (early : List Function) (f : Function) where
-      refs-range : (ws : List ℕ) (rs : List Ref) → RefPlaces rs → Ranged (Rule top) (refChecks (refType early f) ws rs)
+      refs-range : (ws : List ℕ) (rs : List Ref) → RefPlaces rs → Ranged (Rule top) (refChecks early f ws rs)
       refs-range [] rs q = tt
       refs-range (w ∷ ws) [] q = tt
       refs-range (w ∷ ws) (r ∷ rs) (q, qs) = ((omega arith, omega arith, q), ((omega arith, omega arith, q), refs-range ws rs qs))
@@ -105,7 +114,7 @@ module _ (Q : ℕ → Type 0) where
       node-refs-range : (ns : List Node) → NodePlaces ns → Ranged (Rule top) (nodeRefChecks early f ns)
       node-refs-range [] q = tt
       node-refs-range (n ∷ ns) ((q, r), qs) =
-          ranged-append (Rule top) (refChecks (refType early f) (wantsOf early n (n .payload)) (reads n)) (nodeRefChecks early f ns)
+          ranged-append (Rule top) (refChecks early f (wantsOf early n (n .payload)) (reads n)) (nodeRefChecks early f ns)
           (refs-range (wantsOf early n (n .payload)) (reads n) r) (node-refs-range ns qs)
 
       pub link-range : Places f → Ranged (Rule top) (linkChecks early f)
@@ -113,7 +122,7 @@ module _ (Q : ℕ → Type 0) where
         (omega arith, omega arith, q .head),
         ranged-append (Rule top) (idChecks [] (f .nodes)) _ (ids-range [] (f .nodes) (q .nodes))
             (ranged-append (Rule top) (callChecks early (f .nodes)) _ (calls-range early (f .nodes) (q .nodes))
-            (ranged-append (Rule top) (refChecks (refType early f) (outputTypes (f .outputs)) (outputRefs (f .outputs))) _
+            (ranged-append (Rule top) (refChecks early f (outputTypes (f .outputs)) (outputRefs (f .outputs))) _
             (refs-range (outputTypes (f .outputs)) (outputRefs (f .outputs)) (q .outputs)) (node-refs-range (f .nodes) (q .nodes)))),
       )
 
@@ -127,6 +136,25 @@ module _ (Q : ℕ → Type 0) where
       ranged-append (Rule 13) (functionChecks early f) (tableChecks (f ∷ early) fs)
       (ranged-append (Rule 13) (linkChecks early f) (loopChecks (f .nodes) (f .nodes)) (link-range 13 (omega arith) early f q)
       (loops-range (f .nodes) (f .nodes) (q .nodes))) (table-range (f ∷ early) fs qs)
+
+-- where only the numbers matter
+abbrev pub Anywhere : ℕ → Type 0
+Anywhere p = Unit {0}
+
+refs-anywhere : (rs : List Ref) → RefPlaces Anywhere rs
+refs-anywhere [] = tt
+refs-anywhere (r ∷ rs) = (tt, refs-anywhere rs)
+
+nodes-anywhere : (ns : List Node) → NodePlaces Anywhere ns
+nodes-anywhere [] = tt
+nodes-anywhere (n ∷ ns) = ((tt, refs-anywhere (reads n)), nodes-anywhere ns)
+
+pub anywhere : (f : Function) → Places Anywhere f
+anywhere f = record { head = tt; outputs = refs-anywhere (outputRefs (f .outputs)); nodes = nodes-anywhere (f .nodes) }
+
+all-anywhere : (fs : List Function) → Each (Places Anywhere) fs
+all-anywhere [] = tt
+all-anywhere (f ∷ fs) = (anywhere f, all-anywhere fs)
 
 -- ---- the places of a written table are below its end
 
@@ -184,7 +212,7 @@ header-small (suc (suc (suc w))) h = let e : suc (suc w) + 6 < 256 ^ suc (suc w)
 module _ (format : Format) (plain : Plain format) (s : List ℕ) (small : Bytes s) where
   pub fault-range : (n p : ℕ) → Fault format s n p → (1 ≤ n) × (n ≤ 13) × (p < 256 ^ (format .header - 6))
   fault-range n p (of-header f) =
-      let (a, b, c) = first-ranged (λ n p. (1 ≤ n) × (n ≤ 8) × (p ≤ 6)) (headerChecks format s) n p (header-range format s) f in
+      let (a, b, c) = first-ranged (λ n p. (1 ≤ n) × (n ≤ 6) × (p ≤ 6)) (headerChecks format s) n p (header-range format s) f in
       let l = plain .header in
       let e = header-small (format .header - 6) (omega arith) in
       (a, omega arith, omega arith)
@@ -216,3 +244,16 @@ module _ (s : List ℕ) (small : Bytes s) where
   count-bounds n e =
       let (fs, m, l) = verdict-iff s small (ok n) .0 e in
       (subst (λ (i : ℕ). 1 ≤ i) l (m .written .some-function), subst (λ (i : ℕ). i ≤ 16) l (m .written .count))
+
+  -- where 8 is given there are bytes after the last function
+  pub left-over : (p : ℕ) → verdict s ≡ fault 8 p → p < length s
+  left-over p e = go (verdict-iff s small (fault 8 p) .0 e)
+    where
+      go : Fault version1 s 8 p → p < length s
+      go (of-header f) =
+          let (a, b, c) = first-ranged (λ n q. (1 ≤ n) × (n ≤ 6) × (q ≤ 6)) (headerChecks version1 s) 8 p (header-range version1 s) f in
+          absurd (omega arith)
+      go (of-reading (x, y) r) = reading-left 256 s r refl x
+      go (of-rules fs w f) =
+          let (a, b, c) = first-ranged (Rule Anywhere 13) (tableChecks [] fs) 8 p (table-range Anywhere [] fs (all-anywhere fs)) f in
+          absurd (omega arith)
