@@ -1,20 +1,20 @@
 -- The verdict is what 01 gives: accepted exactly when the table meets the rules, and refused exactly with its first fault.
 use Prim.Native.Nat.{ℕ}
-use mathlib.Core.Path.{_≡_, refl, ap, sym, _∙_, subst}
+use mathlib.Core.Path.{_≡_, ap, sym, _∙_, subst}
 use mathlib.Core.List.{List, [], reverse}
-use mathlib.Core.Logic.{_⊎_, inl, inr, ⊎-elim, _↔_}
+use mathlib.Core.Logic.{inl, inr, ⊎-elim, _↔_}
 use lib.ListN.{length, length-reverse}
-use Rattle.base.specs.Outcome.{Outcome, ok, fault, _>>=_, _>>_}
+use Rattle.base.specs.Outcome.{Outcome, ok, fault}
 use Rattle.base.specs.Bytes.{Bytes}
 use Rattle.graph.specs.Graph.{Function}
 use Rattle.graph.specs.Read.{version1, parse}
 use Rattle.graph.specs.Judge.{judgeAll, table, verdict}
-use Rattle.graph.specs.Checks.{All, First, Says, tableChecks}
+use Rattle.graph.specs.Checks.{Says, tableChecks}
 use Rattle.graph.specs.Rules.{Meets, Fault, of-header, of-reading, of-rules, Gives}
 use Rattle.base.proofs.Outcomes.{took, after, takes, stops, goes, halts, took-fault, after-fault, no-fault, ok-is}
 use Rattle.graph.proofs.Formed.{plain1, parse-written}
 use Rattle.graph.proofs.Writes.{written-parse}
-use Rattle.graph.proofs.First.{says-one, judge-all-says}
+use Rattle.graph.proofs.First.{says-one, judge-all-says, table-apart}
 use Rattle.graph.proofs.FrontToBack.{parse-fault, fault-parse}
 
 module _ (s : List ℕ) where
@@ -23,7 +23,7 @@ module _ (s : List ℕ) where
   unfolding table
   table-back fs m =
       takes (parse version1 s) _ fs (written-parse version1 plain1 s fs (m .written))
-      ∙ goes (judgeAll [] fs) _ tt (says-one (tableChecks [] fs) (judgeAll [] fs) (ok tt) (judge-all-says [] fs) (m .rules))
+      ∙ goes (judgeAll [] fs) _ tt (says-one (tableChecks [] fs) (judgeAll [] fs) (ok tt) (table-apart [] fs) (judge-all-says [] fs) (m .rules))
 
   gives-back : (o : Outcome ℕ) → Gives version1 s o → verdict s ≡ o
   unfolding verdict table
@@ -33,7 +33,7 @@ module _ (s : List ℕ) where
   gives-back (fault n p) (of-rules fs w f) =
       stops (table s) _ n p
       (takes (parse version1 s) _ fs (written-parse version1 plain1 s fs w)
-      ∙ halts (judgeAll [] fs) _ n p (says-one (tableChecks [] fs) (judgeAll [] fs) (fault n p) (judge-all-says [] fs) f))
+      ∙ halts (judgeAll [] fs) _ n p (says-one (tableChecks [] fs) (judgeAll [] fs) (fault n p) (table-apart [] fs) (judge-all-says [] fs) f))
 
   module _ (small : Bytes s) where
     pub table-there : (gs : List Function) → table s ≡ ok gs → (fs : List Function) × Meets version1 s fs × (reverse fs ≡ gs)

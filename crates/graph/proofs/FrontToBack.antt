@@ -1,31 +1,30 @@
 -- The reading gives the first fault from front to back.
-use Prim.Native.Nat.{ℕ, zero, suc, _+_, _*_, _≤_}
+use Prim.Native.Nat.{ℕ, zero, suc, _+_, _*_, _≤_, _<_}
 use mathlib.Core.Path.{_≡_, refl, ap, sym, _∙_, subst}
 use mathlib.Core.Bool.{Bool, true, false, _&&_}
-use mathlib.Core.List.{List, [], _∷_, _++_, reverse}
-use mathlib.Core.Logic.{_⊎_, inl, inr, ⊎-elim, _↔_}
+use mathlib.Core.List.{List, [], _∷_}
+use mathlib.Core.Logic.{_≢_, _⊎_, inl, inr, ⊎-elim}
 use native.Mathlib.Omega.{arith}
 use native.Mathlib.Nat.{add-zero}
 use lib.Dec.{leb, eqb}
 use lib.ListN.{length}
-use borrow.Author.Tests.{leb-true, leb-false, le-leb, eqb-true, eq-eqb}
+use borrow.Author.Tests.{leb-true, leb-false, eqb-true, eqb-false}
 use Rattle.ports.specs.declared.Form.{Form}
 use Rattle.ports.specs.declared.Form.the-variants.{Absent, Constant, References, Call}
 use Rattle.ports.specs.Kinds.{Kind, kindOf}
-use Rattle.ports.specs.Ports.{isType, arity, constantWords, formOf, exists, typeFits, portsOf, legal}
+use Rattle.ports.specs.Ports.{isType, constantWords, formOf, exists, typeFits, portsOf, legal}
 use Rattle.value.specs.Values.{constantWord}
-use Rattle.base.specs.Lists.{every}
-use Rattle.value.specs.Typed.{TypeCode}
+use Rattle.base.specs.Lists.{every, Is}
 use Rattle.base.specs.Outcome.{Outcome, ok, fault, _>>=_, _>>_, need, Part}
-use Rattle.base.specs.Bytes.{byte, u16, Bytes, constants}
-use Rattle.graph.specs.Graph.{Ref, Payload, consts, refs, calls, Node, Output, Function}
+use Rattle.base.specs.Bytes.{byte, u16, constants}
+use Rattle.graph.specs.Graph.{Payload, Node, Output, Function}
 use Rattle.graph.specs.Read as Read
-use Rattle.graph.specs.Read.{Format, reference, references, inRange}
-use Rattle.graph.specs.Checks.{Check, check, All, First, Says}
-use Rattle.graph.specs.Reading.{headerChecks, Shape, head, input, output, node, payload, arguments, size, times, fields, recordChecks, next, Reading, end, stop, on, ReadingOf}
-use Rattle.base.proofs.Bools.{and-inv, and-both}
-use Rattle.base.proofs.Outcomes.{took, after, passed, takes, stops, halts, needs, took-fault, after-fault, passed-fault, no-fault, then-then}
-use Rattle.graph.proofs.First.{first-all, says-one, says-test, says-then}
+use Rattle.graph.specs.Read.{Format, reference, inRange}
+use Rattle.graph.specs.Checks.{check, All, First, Says}
+use Rattle.graph.specs.Reading.{headerChecks, Shape, head, input, output, node, payload, arguments, size, times, HeadRight, HeadWrong, fields, recordChecks, endChecks, next, Reading, end, stop, on, ReadingOf}
+use Rattle.base.proofs.Bools.{and-inv}
+use Rattle.base.proofs.Outcomes.{took, after, passed, takes, stops, needs, took-fault, after-fault, passed-fault, no-fault, then-then}
+use Rattle.graph.proofs.First.{Apart, first-all, says-one, says-test, says-then}
 
 module _ {A B C : Type 0} where
   bind-bind : (g : Outcome A) (k : A → Outcome B) (c : B → Outcome C) → (g >>= k >>= c) ≡ (g >>= λ x. k x >>= c)
@@ -45,25 +44,81 @@ need-false : (n p : ℕ) → need false n p ≡ fault n p
 unfolding need
 need-false n p = refl
 
-type-test : (t : ℕ) → isType t ≡ true → TypeCode t
-type-test t e = let (a, b) = and-inv (leb 1 t) (leb t 3) e in (leb-true 1 t a, leb-true t 3 b)
+-- ---- tests of ranges, passed or not
 
-test-type : (t : ℕ) → TypeCode t → isType t ≡ true
-test-type t (a, b) = and-both (leb 1 t) (leb t 3) (le-leb 1 t a) (le-leb t 3 b)
+and-false : (a b : Bool) → a && b ≡ false → (a ≡ false) ⊎ (b ≡ false)
+and-false true b e = inr e
+and-false false b e = inl refl
 
-unfit : (a b : ℕ) → leb a b ≡ false → a ≤ b → ⊥
-unfit a b e l = let h = leb-false a b e in omega arith
+-- a number is at least 1, or 0
+none-at-all : (x : ℕ) → leb 1 x ≡ false → x ≡ 0
+none-at-all x e = let h = leb-false 1 x e in omega arith
+
+between : (x top : ℕ) → leb 1 x && leb x top ≡ true → (1 ≤ x) × (x ≤ top)
+between x top e = let (a, b) = and-inv (leb 1 x) (leb x top) e in (leb-true 1 x a, leb-true x top b)
+
+not-between : (x top : ℕ) → leb 1 x && leb x top ≡ false → (x ≡ 0) ⊎ (top < x)
+not-between x top e = ⊎-elim (λ a. inl (none-at-all x a)) (λ b. inr (leb-false x top b)) (and-false (leb 1 x) (leb x top) e)
+
+between-apart : (x top : ℕ) → (1 ≤ x) × (x ≤ top) → (x ≡ 0) ⊎ (top < x) → ⊥
+between-apart x top (a, b) (inl c) = omega arith
+between-apart x top (a, b) (inr c) = omega arith
+
+-- one that does not pass the test, where not all do
+not-every : (pass : ℕ → Bool) (ws : List ℕ) → every pass ws ≡ false → (w : ℕ) × Is w ws × (pass w ≡ false)
+not-every pass [] e = let z : _≡_ {A = ℕ} 0 1 = cc in absurd (omega arith)
+not-every pass (w ∷ ws) e =
+    ⊎-elim (λ a. (w, inl refl, a)) (λ b. let (x, i, q) = not-every pass ws b in (x, inr i, q)) (and-false (pass w) (every pass ws) e)
+
+every-apart : (pass : ℕ → Bool) (ws : List ℕ) → every pass ws ≡ true → (w : ℕ) × Is w ws × (pass w ≡ false) → ⊥
+every-apart pass [] e (w, i, q) = i
+every-apart pass (x ∷ xs) e (w, inl i, q) =
+    let (a, b) = and-inv (pass x) (every pass xs) e in
+    let c : pass x ≡ false = subst (λ (y : ℕ). pass y ≡ false) i q in
+    let z : _≡_ {A = ℕ} 0 1 = cc in
+    omega arith
+every-apart pass (x ∷ xs) e (w, inr i, q) = every-apart pass xs (and-inv (pass x) (every pass xs) e .1) (w, i, q)
 
 module _ (limit : ℕ) (s : List ℕ) where
   abbrev R : List Shape → ℕ → Outcome (Unit {0}) → Type 0
   R = Reading limit s
 
+  -- ---- no record both passes and fails
+
+  head-apart : (id nin nout count : ℕ) → HeadRight limit id nin nout count → HeadWrong limit id nin nout count → ⊥
+  head-apart id nin nout count (a, b, c, d, e) (inl x) = omega arith
+  head-apart id nin nout count (a, b, c, d, e) (inr (inl x)) = omega arith
+  head-apart id nin nout count (a, b, c, d, e) (inr (inr (inl x))) = omega arith
+  head-apart id nin nout count (a, b, c, d, e) (inr (inr (inr (inl x)))) = omega arith
+  head-apart id nin nout count (a, b, c, d, e) (inr (inr (inr (inr x)))) = omega arith
+
+  node-apart : (x : ℕ) (b : Bool) → (1 ≤ x) × (b ≡ true) → (x ≡ 0) ⊎ (b ≡ false) → ⊥
+  node-apart x b (l, e) (inl z) = omega arith
+  node-apart x b (l, e) (inr f) = let z : _≡_ {A = ℕ} 0 1 = cc in omega arith
+
+  fields-apart : (h : Shape) (at : ℕ) → Apart (fields limit s h at)
+  fields-apart head at = (head-apart (u16 s at) (byte s (at + 2)) (byte s (at + 3)) (u16 s (at + 4)), tt)
+  fields-apart input at = (between-apart (byte s at) 3, tt)
+  fields-apart output at = (between-apart (byte s at) 3, tt)
+  fields-apart node at = (node-apart (u16 s at) (legal (kindOf (byte s (at + 2))) (byte s (at + 3))), tt)
+  fields-apart (payload Absent k) at = tt
+  fields-apart (payload Constant k) at = (every-apart constantWord (constants (constantWords k) s at), tt)
+  fields-apart (payload References k) at = tt
+  fields-apart (payload Call k) at = ((λ a b. omega arith), tt)
+  fields-apart (arguments n) at = tt
+
+  record-apart : (h : Shape) (at : ℕ) → Apart (recordChecks limit s h at)
+  record-apart h at = ((λ a b. omega arith), fields-apart h at)
+
+  end-apart : (at : ℕ) → Apart (endChecks limit s at)
+  end-apart at = ((λ a b. b a), tt)
+
   -- what the reading gives is one thing
   pub reading-one : {hs : List Shape} {at : ℕ} {o o′ : Outcome (Unit {0})} → R hs at o → R hs at o′ → o ≡ o′
-  reading-one (end {at = at} {o = o} a) (end {o = o′} b) = says-one (check 8 at (at ≡ length s) ∷ []) o o′ a b
-  reading-one (stop {h = h} {at = at} {n = n} {p = p} a) (stop {n = m} {p = q} b) = says-one (recordChecks limit s h at) (fault n p) (fault m q) a b
-  reading-one (stop {h = h} {at = at} {n = n} {p = p} a) (on b r) = absurd (first-all (recordChecks limit s h at) n p a b)
-  reading-one (on b r) (stop {h = h} {at = at} {n = n} {p = p} a) = absurd (first-all (recordChecks limit s h at) n p a b)
+  reading-one (end {at = at} {o = o} a) (end {o = o′} b) = says-one (endChecks limit s at) o o′ (end-apart at) a b
+  reading-one (stop {h = h} {at = at} {n = n} {p = p} a) (stop {n = m} {p = q} b) = says-one (recordChecks limit s h at) (fault n p) (fault m q) (record-apart h at) a b
+  reading-one (stop {h = h} {at = at} {n = n} {p = p} a) (on b r) = absurd (first-all (recordChecks limit s h at) n p (record-apart h at) a b)
+  reading-one (on b r) (stop {h = h} {at = at} {n = n} {p = p} a) = absurd (first-all (recordChecks limit s h at) n p (record-apart h at) a b)
   reading-one (on a r) (on b q) = reading-one r q
 
   -- a record that fits or not, and whose fields pass a test or not
@@ -76,7 +131,7 @@ module _ (limit : ℕ) (s : List ℕ) where
       where
         go : (b : Bool) → leb (at + size h) (length s) ≡ b → (t : Bool) → Says (fields limit s h at) (need t m at)
             → (t ≡ true → R (next limit s h at hs) (at + size h) (g >>= c)) → R (h ∷ hs) at (need b 5 at >> (need t m at >> g) >>= c)
-        go false e t f r = stop (inl (unfit (at + size h) (length s) e, refl, refl))
+        go false e t f r = stop (inl (leb-false (at + size h) (length s) e, refl, refl))
         go true e true f r = on (leb-true _ _ e, f) (r refl)
         go true e false f r = stop (inr (leb-true _ _ e, f))
 
@@ -87,7 +142,7 @@ module _ (limit : ℕ) (s : List ℕ) where
     plain-step h hs at g c f r = go (leb (at + size h) (length s)) refl
       where
         go : (b : Bool) → leb (at + size h) (length s) ≡ b → R (h ∷ hs) at (need b 5 at >> g >>= c)
-        go false e = stop (inl (unfit (at + size h) (length s) e, refl, refl))
+        go false e = stop (inl (leb-false (at + size h) (length s) e, refl, refl))
         go true e = on (leb-true _ _ e, f) r
 
   moved : {hs : List Shape} {a b : ℕ} {o : Outcome (Unit {0})} → a ≡ b → R hs a o → R hs b o
@@ -102,7 +157,7 @@ module _ (limit : ℕ) (s : List ℕ) where
   inputs-step zero at hs c r = moved (add-zero at) (r [])
   inputs-step (suc n) at hs c r =
       record-step input (times n input hs) at (isType (byte s at)) 6 (Read.inputs n s (at + 1) >>= λ rest. ok (byte s at ∷ rest)) c
-      (says-test (isType (byte s at)) 6 at (type-test (byte s at)) (test-type (byte s at)))
+      (says-test (isType (byte s at)) 6 at (between (byte s at) 3) (not-between (byte s at) 3))
       (λ e. same (bind-ok (Read.inputs n s (at + 1)) (λ rest. byte s at ∷ rest) c)
       (inputs-step n (at + 1) hs (λ rest. c (byte s at ∷ rest)) (λ ts. moved (omega arith) (r (byte s at ∷ ts)))))
 
@@ -113,7 +168,7 @@ module _ (limit : ℕ) (s : List ℕ) where
   outputs-step (suc n) at hs c r =
       let o : Output = record { type = byte s at; ref = reference s (at + 1) } in
       record-step output (times n output hs) at (isType (byte s at)) 6 (Read.outputs n s (at + 4) >>= λ rest. ok (o ∷ rest)) c
-      (says-test (isType (byte s at)) 6 at (type-test (byte s at)) (test-type (byte s at)))
+      (says-test (isType (byte s at)) 6 at (between (byte s at) 3) (not-between (byte s at) 3))
       (λ e. same (bind-ok (Read.outputs n s (at + 4)) (λ rest. o ∷ rest) c)
       (outputs-step n (at + 4) hs (λ rest. c (o ∷ rest)) (λ os. moved (omega arith) (r (o ∷ os)))))
 
@@ -122,10 +177,10 @@ module _ (limit : ℕ) (s : List ℕ) where
   unfolding _>>=_
   payload-step Absent k at hs c e r = let z : _≡_ {A = ℕ} 0 1 = cc in absurd (omega arith)
   payload-step Constant k at hs c e r =
-      record-step (payload Constant k) hs at (every constantWord (constants (constantWords k) s at)) 7 _ c (says-test _ 7 at (λ q. q) (λ q. q)) (λ q. r _)
+      record-step (payload Constant k) hs at (every constantWord (constants (constantWords k) s at)) 7 _ c (says-test _ 7 at (λ q. q) (not-every constantWord (constants (constantWords k) s at))) (λ q. r _)
   payload-step References k at hs c e r = plain-step (payload References k) hs at _ c tt (r _)
   payload-step Call k at hs c e r =
-      record-step (payload Call k) hs at (leb (byte s (at + 2)) 8) 6 _ c (says-test _ 6 at (leb-true (byte s (at + 2)) 8) (le-leb (byte s (at + 2)) 8))
+      record-step (payload Call k) hs at (leb (byte s (at + 2)) 8) 6 _ c (says-test _ 6 at (leb-true (byte s (at + 2)) 8) (leb-false (byte s (at + 2)) 8))
       (λ q. plain-step (arguments (byte s (at + 2))) hs (at + 3) _ c tt (r _))
 
   node-step : (at : ℕ) (hs : List Shape) (c : Part Node → Outcome (Unit {0})) → ((p : Part Node) → R hs (p .next) (c p))
@@ -137,7 +192,7 @@ module _ (limit : ℕ) (s : List ℕ) where
       λ p. record { it = record { id = u16 s at; place = at; kind = byte s (at + 2); type = t; payload = p .it }; next = p .next } in
       record-step node hs at (leb 1 (u16 s at) && legal k t) 6 (Read.payload (formOf k) k s (at + 4) >>= λ p. ok (made p)) c
       (says-test _ 6 at (λ e. let (a, b) = and-inv (leb 1 (u16 s at)) (legal k t) e in (leb-true 1 (u16 s at) a, b))
-      (λ (a, b). and-both (leb 1 (u16 s at)) (legal k t) (le-leb 1 (u16 s at) a) b))
+      (λ e. ⊎-elim (λ a. inl (none-at-all (u16 s at) a)) (λ b. inr b) (and-false (leb 1 (u16 s at)) (legal k t) e)))
       (λ e. same (bind-ok (Read.payload (formOf k) k s (at + 4)) made c)
       (payload-step (formOf k) k (at + 4) hs (λ p. c (made p)) (and-inv (exists (formOf k)) (typeFits (portsOf k) t) (and-inv (leb 1 (u16 s at)) (legal k t) e .1) .0)
       (λ p. r (made p))))
@@ -154,19 +209,26 @@ module _ (limit : ℕ) (s : List ℕ) where
 
   -- the fields of a function's head
   head-says : (at id nin nout count : ℕ)
-      → Says (check 6 at ((1 ≤ id) × (nin ≤ 8) × (1 ≤ nout) × (nout ≤ 8) × (count ≤ limit)) ∷ []) (need (inRange limit id nin nout count) 6 at)
+      → Says (check 6 at (HeadRight limit id nin nout count) (HeadWrong limit id nin nout count) ∷ []) (need (inRange limit id nin nout count) 6 at)
   head-says at id nin nout count = says-test (inRange limit id nin nout count) 6 at there back
     where
-      there : inRange limit id nin nout count ≡ true → (1 ≤ id) × (nin ≤ 8) × (1 ≤ nout) × (nout ≤ 8) × (count ≤ limit)
+      there : inRange limit id nin nout count ≡ true → HeadRight limit id nin nout count
       there u =
           let (u1, u2) = and-inv (leb 1 id && leb nin 8 && (leb 1 nout && leb nout 8)) (leb count limit) u in
           let (u3, u4) = and-inv (leb 1 id && leb nin 8) (leb 1 nout && leb nout 8) u1 in
           let (u5, u6) = and-inv (leb 1 id) (leb nin 8) u3 in
-          let (u7, u8) = and-inv (leb 1 nout) (leb nout 8) u4 in
-          (leb-true 1 id u5, leb-true nin 8 u6, leb-true 1 nout u7, leb-true nout 8 u8, leb-true count limit u2)
+          let (a, b) = between nout 8 u4 in
+          (leb-true 1 id u5, leb-true nin 8 u6, a, b, leb-true count limit u2)
 
-      back : (1 ≤ id) × (nin ≤ 8) × (1 ≤ nout) × (nout ≤ 8) × (count ≤ limit) → inRange limit id nin nout count ≡ true
-      back (a, b, d, e, f) = rw (le-leb 1 id a, le-leb nin 8 b, le-leb 1 nout d, le-leb nout 8 e, le-leb count limit f) refl
+      back : inRange limit id nin nout count ≡ false → HeadWrong limit id nin nout count
+      back u =
+          ⊎-elim
+          (λ x. ⊎-elim
+          (λ y. ⊎-elim (λ z. inl (none-at-all id z)) (λ z. inr (inl (leb-false nin 8 z))) (and-false (leb 1 id) (leb nin 8) y))
+          (λ y. ⊎-elim (λ z. inr (inr (inl z))) (λ z. inr (inr (inr (inl z)))) (not-between nout 8 y))
+          (and-false (leb 1 id && leb nin 8) (leb 1 nout && leb nout 8) x))
+          (λ x. inr (inr (inr (inr (leb-false count limit x)))))
+          (and-false (leb 1 id && leb nin 8 && (leb 1 nout && leb nout 8)) (leb count limit) u)
 
   function-step : (at : ℕ) (hs : List Shape) (c : Part Function → Outcome (Unit {0})) → ((p : Part Function) → R hs (p .next) (c p))
       → R (head ∷ hs) at (Read.function limit s at >>= c)
@@ -204,7 +266,7 @@ module _ (limit : ℕ) (s : List ℕ) where
   pub reading-says : (n at : ℕ) → R (times n head []) at (readAll n at)
   reading-says n at =
       functions-step n at [] _
-      (λ p. end (says-test (eqb (p .next) (length s)) 8 (p .next) (eqb-true (p .next) (length s)) (eq-eqb (p .next) (length s))))
+      (λ p. end (says-test (eqb (p .next) (length s)) 8 (p .next) (eqb-true (p .next) (length s)) (eqb-false (p .next) (length s))))
 
 -- ---- the table
 
@@ -220,23 +282,40 @@ module _ (format : Format) (s : List ℕ) where
       need (leb 8 (length s)) 1 0
       >> (need (Read.marked s) 2 0 >> (need (eqb (u16 s 3) (format .version)) 3 3 >> (need (eqb (format .size s) (length s)) 4 6 >> need count-right 6 5)))
 
+  abbrev Marked : Type 0
+  Marked = (byte s 0 ≡ 0x49) × (byte s 1 ≡ 0x46) × (byte s 2 ≡ 0x47)
+
+  abbrev Unmarked : Type 0
+  Unmarked = (byte s 0 ≢ 0x49) ⊎ ((byte s 1 ≢ 0x46) ⊎ (byte s 2 ≢ 0x47))
+
   header-says : Says (headerChecks format s) header
   header-says =
-      says-then (check 1 0 (8 ≤ length s) ∷ []) _ _ _ (says-test (leb 8 (length s)) 1 0 (leb-true 8 (length s)) (le-leb 8 (length s)))
-      (says-then (check 2 0 ((byte s 0 ≡ 0x49) × (byte s 1 ≡ 0x46) × (byte s 2 ≡ 0x47)) ∷ []) _ _ _ (says-test (Read.marked s) 2 0 marks back)
-      (says-then (check 3 3 (u16 s 3 ≡ format .version) ∷ []) _ _ _ (says-test (eqb (u16 s 3) (format .version)) 3 3 (eqb-true _ _) (eq-eqb _ _))
-      (says-then (check 4 6 (format .size s ≡ length s) ∷ []) _ _ _ (says-test (eqb (format .size s) (length s)) 4 6 (eqb-true _ _) (eq-eqb _ _))
-      (says-test count-right 6 5 (λ e. let (a, b) = and-inv (leb 1 (byte s 5)) (leb (byte s 5) 16) e in (leb-true _ _ a, leb-true _ _ b))
-      (λ (a, b). and-both (leb 1 (byte s 5)) (leb (byte s 5) 16) (le-leb _ _ a) (le-leb _ _ b))))))
+      says-then (check 1 0 (8 ≤ length s) (length s < 8) ∷ []) _ _ _ (says-test (leb 8 (length s)) 1 0 (leb-true 8 (length s)) (leb-false 8 (length s)))
+      (says-then (check 2 0 Marked Unmarked ∷ []) _ _ _ (says-test (Read.marked s) 2 0 marks others)
+      (says-then (check 3 3 (u16 s 3 ≡ format .version) (u16 s 3 ≢ format .version) ∷ []) _ _ _
+      (says-test (eqb (u16 s 3) (format .version)) 3 3 (eqb-true _ _) (eqb-false _ _))
+      (says-then (check 4 6 (format .size s ≡ length s) (format .size s ≢ length s) ∷ []) _ _ _
+      (says-test (eqb (format .size s) (length s)) 4 6 (eqb-true _ _) (eqb-false _ _))
+      (says-test count-right 6 5 (between (byte s 5) 16) (not-between (byte s 5) 16)))))
     where
-      marks : Read.marked s ≡ true → (byte s 0 ≡ 0x49) × (byte s 1 ≡ 0x46) × (byte s 2 ≡ 0x47)
+      marks : Read.marked s ≡ true → Marked
       marks e =
           let (m, c) = and-inv (eqb (byte s 0) 0x49 && eqb (byte s 1) 0x46) (eqb (byte s 2) 0x47) e in
           let (a, b) = and-inv (eqb (byte s 0) 0x49) (eqb (byte s 1) 0x46) m in
           (eqb-true _ _ a, eqb-true _ _ b, eqb-true _ _ c)
 
-      back : (byte s 0 ≡ 0x49) × (byte s 1 ≡ 0x46) × (byte s 2 ≡ 0x47) → Read.marked s ≡ true
-      back (a, b, c) = rw (a, b, c) refl
+      others : Read.marked s ≡ false → Unmarked
+      others e =
+          ⊎-elim (λ m. ⊎-elim (λ a. inl (eqb-false _ _ a)) (λ b. inr (inl (eqb-false _ _ b))) (and-false (eqb (byte s 0) 0x49) (eqb (byte s 1) 0x46) m))
+          (λ c. inr (inr (eqb-false _ _ c))) (and-false (eqb (byte s 0) 0x49 && eqb (byte s 1) 0x46) (eqb (byte s 2) 0x47) e)
+
+  header-apart : Apart (headerChecks format s)
+  header-apart = ((λ a b. omega arith), (marks, ((λ a b. b a), ((λ a b. b a), (between-apart (byte s 5) 16, tt)))))
+    where
+      marks : Marked → Unmarked → ⊥
+      marks (a, b, c) (inl x) = x a
+      marks (a, b, c) (inr (inl x)) = x b
+      marks (a, b, c) (inr (inr x)) = x c
 
   parse-split : Read.parse format s ≡ (header >> body)
   parse-split =
@@ -286,8 +365,8 @@ module _ (format : Format) (s : List ℕ) where
   fault-parse n p h = go (Read.parse format s) refl h
     where
       go : (o : Outcome (List Function)) → Read.parse format s ≡ o → First (headerChecks format s) n p ⊎ (All (headerChecks format s) × ReadingOf format s (fault n p)) → o ≡ fault n p
-      go (ok fs) e (inl f) = absurd (first-all (headerChecks format s) n p f (parse-ok fs e .0))
+      go (ok fs) e (inl f) = absurd (first-all (headerChecks format s) n p header-apart f (parse-ok fs e .0))
       go (ok fs) e (inr (a, r)) = absurd (no-fault tt n p (reading-one (format .nodeLimit) s (parse-ok fs e .1) r))
-      go (fault m q) e (inl f) = ⊎-elim (λ g. again (says-one (headerChecks format s) (fault m q) (fault n p) g f)) (λ g. absurd (first-all (headerChecks format s) n p f (g .0))) (parse-fault m q e)
+      go (fault m q) e (inl f) = ⊎-elim (λ g. again (says-one (headerChecks format s) (fault m q) (fault n p) header-apart g f)) (λ g. absurd (first-all (headerChecks format s) n p header-apart f (g .0))) (parse-fault m q e)
       go (fault m q) e (inr (a, r)) =
-          ⊎-elim (λ g. absurd (first-all (headerChecks format s) m q g a)) (λ g. again (reading-one (format .nodeLimit) s (g .1) r)) (parse-fault m q e)
+          ⊎-elim (λ g. absurd (first-all (headerChecks format s) m q header-apart g a)) (λ g. again (reading-one (format .nodeLimit) s (g .1) r)) (parse-fault m q e)

@@ -28,7 +28,7 @@ use Rattle.graph.specs.Judge.{refType, givesAt, wantsOf, loopFree}
 abbrev pub ids : List Node → List ℕ
 ids = map (λ n. n .id)
 
-is-in : (n : Node) (ns : List Node) → Is n ns → In (n .id) (ids ns)
+pub is-in : (n : Node) (ns : List Node) → Is n ns → In (n .id) (ids ns)
 is-in n [] h = absurd h
 is-in n (x ∷ xs) (inl e) = inl (ap (λ (m : Node). m .id) e)
 is-in n (x ∷ xs) (inr h) = inr (is-in n xs h)
@@ -44,7 +44,7 @@ in-is i (x ∷ xs) (inr h) = let (n, a, e) = in-is i xs h in (n, inr a, e)
 abbrev Waits : List ℕ → List Ref → Type 0
 Waits done rs = (j : ℕ) × (member j (map (λ r. r .node) rs) ≡ true) × (j ≡ 0 → ⊥) × (member j done ≡ false)
 
-cond-or : (b x : Bool) → x ≡ true → cond b true x ≡ true
+pub cond-or : (b x : Bool) → x ≡ true → cond b true x ≡ true
 cond-or true x e = refl
 cond-or false x e = e
 
@@ -139,7 +139,7 @@ pick-some done (x ∷ xs) p e = go (ready done (reads x)) refl (λ q f. pick-som
 
 -- ---- the order
 
-member-first : (i : ℕ) (xs : List ℕ) → member i (i ∷ xs) ≡ true
+pub member-first : (i : ℕ) (xs : List ℕ) → member i (i ∷ xs) ≡ true
 member-first i xs = rw (eq-eqb i i refl) refl
 
 -- from a state on: every node that is left, once, each after all that it reads

@@ -7,6 +7,7 @@ pub mod Sums
 pub mod Schedule
 pub mod Table
 pub mod Meaning
+pub mod Equations
 pub mod Sound
 pub mod Orders
 pub mod Written

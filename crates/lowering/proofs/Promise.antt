@@ -1,29 +1,28 @@
 -- A run of the board list of a function gives the words of what the function means, whatever the memory held.
-use Prim.Native.Nat.{ℕ, zero, suc, _+_, _≤_, _<_}
-use mathlib.Core.Path.{_≡_, refl, ap, sym, _∙_, subst}
+use Prim.Native.Nat.{ℕ, _+_, _≤_}
+use mathlib.Core.Path.{_≡_, refl, ap, sym, _∙_}
 use mathlib.Core.List.{List, [], _∷_, _++_, map}
-use mathlib.Core.Option.{Option, none, some}
-use mathlib.Core.Logic.{_⊎_, inl, inr}
+use mathlib.Core.Option.{some}
+use mathlib.Core.Logic.{inr}
 use native.Mathlib.Omega.{arith}
-use lib.ListN.{length, length-append, replicate, length-replicate}
+use lib.ListN.{length}
 use lib.Seq.{sets, length-sets}
 use Rattle.value.specs.declared.Value.{Value}
 use Rattle.ports.specs.Ports.{width, widths}
 use Rattle.value.specs.Values.{wordsOf, allWords}
-use Rattle.base.specs.Lists.{wordAt, span, wordsAt, Is}
-use Rattle.value.specs.Typed.{Of, Typed}
+use Rattle.base.specs.Lists.{wordAt, span, wordsAt}
+use Rattle.value.specs.Typed.{Typed}
 use Rattle.value.proofs.Laws.{of-width, typed-widths}
-use Rattle.graph.specs.Graph.{Node, Function}
+use Rattle.graph.specs.Graph.{Function}
 use Rattle.graph.specs.Judge.{outputTypes}
-use Rattle.graph.specs.Sound.{Sound, AllSound}
-use Rattle.graph.proofs.Means.{node-mono}
-use Rattle.graph.specs.Meaning.{nodeStep, nodeMeans, functionMeans, meaningOf}
-use Rattle.bytecode.specs.Run.{BoardList, executeAll, Ran, run, places, spans}
+use Rattle.graph.specs.Sound.{AllSound}
+use Rattle.graph.specs.Meaning.{functionMeans, meaningOf}
+use Rattle.bytecode.specs.Run.{run, places, spans}
 use Rattle.graph.specs.Schedule.{schedule}
-use Rattle.lowering.specs.Compile.{openNodes, openFunction, opened, boardListOf}
-use Rattle.bytecode.proofs.Memory.{Keeps, StandsAt, Stand, keeps-sets, stand-placed}
+use Rattle.lowering.specs.Compile.{openFunction, opened, boardListOf}
+use Rattle.bytecode.proofs.Memory.{Keeps, Stand, keeps-sets, stand-placed}
 use Rattle.base.proofs.Stores.{sets-words}
-use Rattle.lowering.proofs.Simulate.{opened-up, nodes-up, Served, serves, node-defined, function-served}
+use Rattle.lowering.proofs.Simulate.{opened-up, nodes-up, Served, serves, function-served}
 
 map-append : (g : ℕ → ℕ) (xs ys : List ℕ) → map g (xs ++ ys) ≡ map g xs ++ map g ys
 map-append g [] ys = refl
@@ -84,33 +83,3 @@ runs early f sound args typed m l =
       size = r .kept .size ∙ same;
       rest = λ i h. r .kept .same i (inr h) ∙ first .same i (inr (omega arith));
     }
-
--- an accepted function means something on all arguments of its types, and what it means is of its outputs' types
-pub means : (early : List Function) (f : Function) → AllSound (f ∷ early) → (args : List Value) → Typed (f .inputs) args
-    → (vs : List Value) × (functionMeans (meaningOf early) f args ≡ some vs) × Typed (outputTypes (f .outputs)) vs
-means early f sound args typed =
-    let n = boardListOf early f .words in
-    let m : List ℕ = replicate n 0 in
-    let room : length m ≡ n = length-replicate n 0 in
-    let r = runs early f sound args typed m (omega arith) in
-    (r .values, r .meant, r .typed)
-
--- each node means what its kind makes of the meanings of its references: the depth is enough
-pub node-equation : (early : List Function) (f : Function) → AllSound (f ∷ early) → (args : List Value) → Typed (f .inputs) args → (n : Node) → Is n (f .nodes)
-    → nodeMeans (meaningOf early) (f .nodes) args (length (f .nodes)) (n .id)
-    ≡ nodeStep (meaningOf early) (f .nodes) args (nodeMeans (meaningOf early) (f .nodes) args (length (f .nodes))) (n .id)
-unfolding nodeMeans
-node-equation early f (sound, sounds) args typed n is =
-    let count = boardListOf early f .words in
-    let ins = places 0 (f .inputs) in
-    let start = widths (f .inputs) in
-    let m : List ℕ = replicate count 0 in
-    let room : length m ≡ count = length-replicate count 0 in
-    let m′ = sets m 0 (allWords args) in
-    let size : length (allWords args) ≡ start = typed-widths (f .inputs) args typed in
-    let up : start ≤ count = nodes-up (opened early) (opened-up early) ins (schedule (f .nodes)) [] start in
-    let same : length m′ ≡ length m = length-sets m 0 (allWords args) in
-    let stood : Stand m′ start ins args =
-    stand-placed m′ start (f .inputs) args 0 typed (omega arith) (sets-words (allWords args) m 0 (omega arith)) in
-    let (vs, e, t) = node-defined early f args ins sound (serves early sounds) typed start m′ stood (omega arith) n is in
-    e ∙ sym (node-mono (meaningOf early) (f .nodes) args (length (f .nodes)) (n .id) vs e)

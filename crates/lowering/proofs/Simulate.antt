@@ -352,18 +352,6 @@ module _ (early : List Function) (f : Function) (args : List Value) (ins : List 
         (⊎-elim (λ e. or-left _ _ (eq-eqb (r .node) 0 e)) (λ i. or-right (eqb (r .node) 0) _ (has (r .node) i)) (reads-in early f r t x))
         (all-ready b has ts rs w)
 
-    -- every node means something
-    pub node-defined :
-        (next : ℕ) (m : List ℕ) → Stand m next ins args → openFunction (opened early) f ins next .next ≤ length m → (n : Node) → Is n (f .nodes)
-        → (vs : List Value) × (nodeMeans (meaningOf early) (f .nodes) args (length (f .nodes)) (n .id) ≡ some vs) × Typed (givesOf early n (n .payload)) vs
-    node-defined next m stood l n is =
-        let b = openNodes (opened early) ins (schedule (f .nodes)) [] next in
-        let right = scheduled early f sound in
-        let h = nodes-end (schedule (f .nodes)) [] next m (λ n i. schedule-within (f .nodes) n i) (right .ordered) stood tt l in
-        let depth : length (b .written) ≡ length (f .nodes) = h .count ∙ add-zero _ ∙ right .size in
-        let k = known-at (length (b .written)) (executeAll (b .code) m) (b .next) (b .written) (n .id) (h .known) (h .has n (right .has n is)) in
-        (k .values, subst (λ (j : ℕ). nodeMeans (meaningOf early) (f .nodes) args j (n .id) ≡ some (k .values)) depth (k .meant), rw (sound .resolved .own n is) at (k .typed))
-
     pub function-served :
         (next : ℕ) (m : List ℕ) → Stand m next ins args → openFunction (opened early) f ins next .next ≤ length m
         → Served m next (openFunction (opened early) f ins next) (outputTypes (f .outputs)) (functionMeans (meaningOf early) f args)
