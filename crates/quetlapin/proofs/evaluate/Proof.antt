@@ -75,7 +75,7 @@ returns-6 c =
     (λ i. omega (arith, k .before .before .before .before .before .before .before .before .shared-slice-known .given i))
     (λ i. omega (arith, k .before .before .before .before .before .before .before .shared-slice-known2 .given i))
     (g .before .before .if4 .left) (omega (arith, g .if5 .left))
-    (m .compile .ensures .1) (r .run .ensures) (c .from-run .ensures)
+    (m .compile .ensures .1) (r .run .ensures .0) (c .from-run .ensures)
 
 returns-7 : tie.Need-returns-7
 returns-7 c =

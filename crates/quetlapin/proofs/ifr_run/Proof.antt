@@ -7,7 +7,7 @@ use Rattle.quetlapin.proofs.ifr_run.Tie as tie
 
 returns : tie.Need-returns
 returns c =
-    let r = c .before .before .before .before .before .run .ensures in
+    let r = c .before .before .before .before .before .run .ensures .0 in
     record { answer = c .ran-number .ensures ∙ ap ranNumber (r .answer); work-after = r .work-after; out-after = r .out-after }
 
 pub ifr-run-spec : {M : Type 1} → statement M
