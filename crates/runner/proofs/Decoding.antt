@@ -97,13 +97,13 @@ of-counts s a o n w b c e d q =
       small = omega arith;
     }
 
-is-formed : (o : Option BoardList) (c : Counts) → checkedOf o ≡ Formed c
+pub is-formed : (o : Option BoardList) (c : Counts) → checkedOf o ≡ Formed c
     → (b : BoardList) × (o ≡ some b) × (countsOf b ≡ c)
 unfolding checkedOf
 is-formed none c e = let z : _≡_ {A = ℕ} 0 1 = cc in absurd (omega arith)
 is-formed (some b) c e = (b, refl, cc)
 
-is-malformed : (o : Option BoardList) → checkedOf o ≡ Malformed → o ≡ none
+pub is-malformed : (o : Option BoardList) → checkedOf o ≡ Malformed → o ≡ none
 unfolding checkedOf
 is-malformed none e = refl
 is-malformed (some b) e = let z : _≡_ {A = ℕ} 0 1 = cc in absurd (omega arith)

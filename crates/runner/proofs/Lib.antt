@@ -3,3 +3,4 @@ pub mod Checking
 pub mod Passing
 pub mod Buffers
 pub mod Decoding
+pub mod Exact

@@ -3,6 +3,7 @@ use Prim.Native.Nat.{ℕ, _+_, _≤_}
 use mathlib.Core.Path.{_≡_}
 use mathlib.Core.List.{List}
 use mathlib.Core.Option.{Option, none, some}
+use mathlib.Core.Logic.{_↔_}
 use lib.ListN.{length}
 use Rattle.ports.specs.declared.Ports.{Ports}
 use Rattle.ports.specs.Kinds.{kindOf}
@@ -11,6 +12,7 @@ use Rattle.base.specs.Bytes.{byte, u16}
 use Rattle.base.specs.Outcome.{Part}
 use Rattle.bytecode.specs.Run.{Instruction, BoardList}
 use Rattle.bytecode.specs.Code.{nextWord, Listed}
+use Rattle.bytecode.specs.WellFormed.{Codes}
 use Rattle.runner.specs.declared.Counts.{Counts}
 use Rattle.runner.specs.declared.Checked.{Checked}
 use Rattle.runner.specs.declared.Checked.the-variants.{Formed, Malformed}
@@ -24,6 +26,11 @@ countsOf b = record { arguments = b .arguments; outputs = length (b .outputs); i
 unfoldable pub checkedOf : Option BoardList → Checked
 checkedOf none = Malformed
 checkedOf (some b) = Formed (countsOf b)
+
+-- 01's well formed, by the lists that have a code and not by the reading: the code of none, or the code of a list with these counts
+pub record Exactly (s : List ℕ) (r : Checked) : Type 0 where
+  pub malformed : (r ≡ Malformed) ↔ ((b : BoardList) → Codes s b → ⊥)
+  pub formed : (c : Counts) → (r ≡ Formed c) ↔ ((b : BoardList) × Codes s b × (countsOf b ≡ c))
 
 -- the counts that a header says
 abbrev pub headerCounts : List ℕ → Counts

@@ -4,6 +4,7 @@ use mathlib.Core.Path.{_≡_}
 use mathlib.Core.List.{List}
 use mathlib.Core.Bool.{true}
 use mathlib.Core.Option.{Option, none, some}
+use mathlib.Core.Logic.{_↔_}
 use lib.ListN.{length}
 use lib.Seq.{sets}
 use Rattle.value.specs.Values.{argumentWord}
@@ -11,6 +12,7 @@ use Rattle.base.specs.Lists.{every, Each}
 use Rattle.base.specs.Outcome.{Outcome, ok, fault}
 use Rattle.bytecode.specs.Run.{BoardList, run}
 use Rattle.bytecode.specs.Code.{addresses, decode}
+use Rattle.bytecode.specs.WellFormed.{Codes}
 use Rattle.bytecode.specs.Answers.{Buffers}
 use Rattle.runner.specs.declared.Counts.{Counts}
 use Rattle.runner.specs.declared.Checked.the-variants.{Formed}
@@ -38,6 +40,10 @@ pub record Answered (g : Outcome Buffers) (work out work′ out′ : List ℕ) (
   pub answer : r ≡ answerOf g
   pub work-after : work′ ≡ workAfter g work
   pub out-after : out′ ≡ outAfter g out
+
+-- 18 exactly when the bytes are the code of no list
+abbrev pub Refused18 : List ℕ → Ran → Type 0
+Refused18 s r = (r ≡ Refused 18 0) ↔ ((b : BoardList) → Codes s b → ⊥)
 
 -- ---- a run of a code that was checked
 

@@ -11,8 +11,8 @@ ghost use Rattle.base.specs.Bytes.{constants};
 ghost use Rattle.bytecode.specs.Code as Code;
 ghost use Rattle.bytecode.specs.Code.{addresses, allBelow, allLess, readInstruction, readInstructions, withinLimits, decode};
 ghost use Rattle.bytecode.specs.Answers.{ran};
-ghost use Rattle.runner.specs.Checks.{passedOf, endedOf, checkedOf, Begun, headerCounts};
-ghost use Rattle.runner.specs.Runs.{Answered, Runnable, OutputsReady, memoryOf, outputsOf};
+ghost use Rattle.runner.specs.Checks.{passedOf, endedOf, checkedOf, Exactly, Begun, headerCounts};
+ghost use Rattle.runner.specs.Runs.{Answered, Refused18, Runnable, OutputsReady, memoryOf, outputsOf};
 use executor::Next;
 use ports::Form;
 use ports::Ports;
@@ -242,6 +242,7 @@ fn within_limits(c: Counts) -> bool
 // Whether a code is well formed, and its counts.
 pub fn check_code(s: &[u8]) -> Checked
     ensures { λ r. ⌜ r ≡ checkedOf (decode (now (s .entry))) ⌝ }
+    ensures { λ r. ⌜ Exactly (now (s .entry)) r ⌝ }
 {
     if s.len() < 12 {
         return Checked::Malformed;
@@ -328,6 +329,7 @@ pub fn run_checked(
 // Runs a code on arguments: 18, 19, 20 and 21 are judged before any word is written.
 pub fn run(code: &[u8], arguments: &[u64], work: &mut [u64], out: &mut [u64]) -> Ran
     ensures { λ r. ⌜ Answered (ran (now (code .entry)) (now (arguments .entry)) (now (work .entry)) (now (out .entry))) (now (work .entry)) (now (out .entry)) (now (work .exit)) (now (out .exit)) r ⌝ }
+    ensures { λ r. ⌜ Refused18 (now (code .entry)) r ⌝ }
 {
     let Checked::Formed(counts) = check_code(code) else {
         return Ran::Refused(18, 0);

@@ -113,7 +113,7 @@ returns-6 c =
     completed (now (a .table)) (a .id) (now (a .arguments)) (now (a .code)) (now (a .work)) (now (a .out)) (bytes b) _ (sizes k) (d .before .before .if1 .left)
     (d .if2 .left) (finite e) (λ i. omega (arith, lent b .before .shared-slice-known2 .given i))
     (roomy g .if4 .left) (omega (arith, g .if5 .left))
-    (m .compile .ensures .1) (r .run .ensures) (c .from-run .ensures)
+    (m .compile .ensures .1) (r .run .ensures .0) (c .from-run .ensures)
 
 returns-7 : tie.Need-returns-7
 returns-7 c =

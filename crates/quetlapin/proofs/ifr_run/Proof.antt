@@ -27,12 +27,12 @@ bounds m = ran-bounded _ (λ i. omega (arith, lent m .shared-slice-known .given 
 
 same : (m : tie.After-run) → ofRan (m .run .result)
     ≡ runCount (ran (now (start m .args .code)) (now (start m .args .arguments)) (now (start m .args .work)) (now (start m .args .out)))
-same m = ap ofRan (m .run .ensures .answer) ∙ of-ran _
+same m = ap ofRan (m .run .ensures .0 .answer) ∙ of-ran _
 
 returns : tie.Need-returns
 returns c =
     let m = at-run (c .before) in
-    let r = m .run .ensures in
+    let r = m .run .ensures .0 in
     record { answer = told (bounds m) (same m) (c .ran-number .ensures); work-after = r .work-after; out-after = r .out-after }
 
 pub ifr-run-spec : {M : Type 1} → statement M

@@ -1,77 +1,142 @@
 -- `runner::run`: the refusals in their order, then the run.
 use borrow.Author.Needs.{needs}
-use mathlib.Core.Path.{sym, _∙_}
+use Prim.Native.Nat.{ℕ}
+use mathlib.Core.Path.{_≡_, sym, _∙_}
+use mathlib.Core.Bool.{true}
+use mathlib.Core.List.{List}
+use native.Mathlib.Omega.{arith}
 use denote.Ref.{now}
 use borrow.Author.Tests.{not-true, not-false}
-use Rattle.runner.proofs.Decoding.{decoded, refused-18, refused-19, refused-20, refused-work, refused-out, completed}
+use Rattle.base.specs.Bytes.{Bytes}
+use Rattle.base.specs.Lists.{every}
+use Rattle.value.specs.Values.{argumentWord}
+use Rattle.runner.specs.declared.Ran.{Ran}
+use Rattle.runner.specs.declared.Counts.{Counts}
+use Rattle.bytecode.specs.Answers.{ran}
+use Rattle.runner.specs.Runs.{Answered, Refused18}
+use Rattle.runner.proofs.Decoding.{Decoded, decoded, refused-18, refused-19, refused-20, refused-work, refused-out, completed}
+use Rattle.runner.proofs.Exact.{run-exact}
 use Rattle.runner.proofs.run.Statement.{statement}
 use Rattle.runner.proofs.run.Tie as tie
 
+-- ---- places, each by what was passed before it
+
+abbrev known : tie.After-slice-known2 → tie.After-shared-slice-known
+known p = p .before .before .before
+
+abbrev start : tie.After-check-code → tie.Start
+start p = known (p .before) .before
+
+abbrev formed : tie.After-struct-known → tie.After-counts
+formed p = p .before .before
+
+abbrev counted : tie.Else2 → tie.Else1
+counted p = p .before .before
+
+abbrev allowed : tie.Else3 → tie.Else2
+allowed p = p .before .before
+
+abbrev held : tie.Else4 → tie.Else3
+held p = p .before .before
+
+abbrev ready : tie.After-run-checked → tie.Else4
+ready p = p .before .before .before
+
+abbrev done : tie.After-slice-known4 → tie.After-run-checked
+done p = p .before .before .before .before
+
+-- ---- what is known at each
+
+bytes : (p : tie.After-check-code) → Bytes (now (start p .args .code))
+bytes p i = omega (arith, known (p .before) .shared-slice-known .given i)
+
+abbrev entry : tie.After-counts → tie.After-check-code
+entry p = p .before .before
+
+list : (p : tie.After-counts) → Decoded (now (start (entry p) .args .code)) (p .counts .given .0 .0)
+list p = decoded _ _ (sym (entry p .check-code .ensures .0) ∙ p .counts .given .1)
+
+abbrev first : tie.Else1 → tie.After-counts
+first p = formed (p .before)
+
+finite : (p : tie.After-arguments-allowed) → every argumentWord (now (start (entry (first (p .before))) .args .arguments)) ≡ p .arguments-allowed .result
+finite p = sym (p .arguments-allowed .ensures)
+
+-- an answer, and 18 of it
+answered : (p : tie.After-check-code) {work′ out′ : List ℕ} {r : Ran} → let a = start p .args in
+    Answered (ran (now (a .code)) (now (a .arguments)) (now (a .work)) (now (a .out))) (now (a .work)) (now (a .out)) work′ out′ r
+    → Answered (ran (now (a .code)) (now (a .arguments)) (now (a .work)) (now (a .out))) (now (a .work)) (now (a .out)) work′ out′ r
+    × Refused18 (now (a .code)) r
+answered p h = let a = start p .args in run-exact (now (a .code)) (now (a .arguments)) (now (a .work)) (now (a .out)) (bytes p) h
+
+-- ---- needs
+
 returns : tie.Need-returns
 returns c =
-    let a = c .before .before .before .before .before .before .before .args in
-    refused-18 (now (a .code)) (now (a .arguments)) (now (a .work)) (now (a .out)) (sym (c .before .before .check-code .ensures) ∙ c .enum-told .given .1)
+    let p = c .before .before in
+    let a = start p .args in
+    answered p (refused-18 (now (a .code)) (now (a .arguments)) (now (a .work)) (now (a .out)) (sym (p .check-code .ensures .0) ∙ c .enum-told .given .1))
 
 returns-2 : tie.Need-returns-2
 returns-2 c =
-    let a = c .before .before .before .before .before .before .before .before .before .before .args in
-    let s = now (a .code) in
-    let xs = now (a .arguments) in
-    let m = now (a .work) in
-    let out = now (a .out) in
-    let e = sym (c .before .before .before .before .before .check-code .ensures) ∙ c .before .before .before .counts .given .1 in
-    refused-19 s xs m out (decoded s _ e) (c .if1 .taken)
+    let p = formed (c .before) in
+    let a = start (entry p) .args in
+    answered (entry p) (refused-19 (now (a .code)) (now (a .arguments)) (now (a .work)) (now (a .out)) (list p) (c .if1 .taken))
 
 returns-3 : tie.Need-returns-3
 returns-3 c =
-    let a = c .before .before .before .before .before .before .before .before .before .before .before .before .args in
-    let s = now (a .code) in
-    let xs = now (a .arguments) in
-    let m = now (a .work) in
-    let out = now (a .out) in
-    let e = sym (c .before .before .before .before .before .before .before .check-code .ensures) ∙ c .before .before .before .before .before .counts .given .1 in
-    refused-20 s xs m out (decoded s _ e) (c .before .before .if1 .left) (sym (c .before .arguments-allowed .ensures) ∙ not-true _ (c .if2 .taken))
+    let d = c .before .before in
+    let p = first d in
+    let a = start (entry p) .args in
+    answered (entry p)
+    (refused-20 (now (a .code)) (now (a .arguments)) (now (a .work)) (now (a .out)) (list p) (d .if1 .left)
+    (finite (c .before) ∙ not-true _ (c .if2 .taken)))
 
 returns-4 : tie.Need-returns-4
 returns-4 c =
-    let a = c .before .before .before .before .before .before .before .before .before .before .before .before .before .before .args in
-    let s = now (a .code) in
-    let xs = now (a .arguments) in
-    let m = now (a .work) in
-    let out = now (a .out) in
-    let e = sym (c .before .before .before .before .before .before .before .before .before .check-code .ensures) ∙ c .before .before .before .before .before .before .before .counts .given .1 in
-    refused-work s xs m out (decoded s _ e) (c .before .before .before .before .if1 .left) (sym (c .before .before .before .arguments-allowed .ensures) ∙ not-false _ (c .before .before .if2 .left)) (c .if3 .taken)
+    let e = c .before .before in
+    let d = counted e in
+    let p = first d in
+    let a = start (entry p) .args in
+    answered (entry p)
+    (refused-work (now (a .code)) (now (a .arguments)) (now (a .work)) (now (a .out)) (list p) (d .if1 .left)
+    (finite (e .before) ∙ not-false _ (e .if2 .left)) (c .if3 .taken))
 
 returns-5 : tie.Need-returns-5
 returns-5 c =
-    let a = c .before .before .before .before .before .before .before .before .before .before .before .before .before .before .before .before .args in
-    let s = now (a .code) in
-    let xs = now (a .arguments) in
-    let m = now (a .work) in
-    let out = now (a .out) in
-    let e = sym (c .before .before .before .before .before .before .before .before .before .before .before .check-code .ensures) ∙ c .before .before .before .before .before .before .before .before .before .counts .given .1 in
-    refused-out s xs m out (decoded s _ e) (c .before .before .before .before .before .before .if1 .left) (sym (c .before .before .before .before .before .arguments-allowed .ensures) ∙ not-false _ (c .before .before .before .before .if2 .left)) (c .if4 .taken)
+    let e = allowed (c .before .before) in
+    let d = counted e in
+    let p = first d in
+    let a = start (entry p) .args in
+    answered (entry p)
+    (refused-out (now (a .code)) (now (a .arguments)) (now (a .work)) (now (a .out)) (list p) (d .if1 .left)
+    (finite (e .before) ∙ not-false _ (e .if2 .left)) (c .if4 .taken))
 
 run-checked-requires : tie.Need-run-checked-requires
 run-checked-requires c κs =
+    let g = c .before .before in
+    let e = allowed (held g) in
+    let d = counted e in
+    let p = first d in
     record {
-      formed = sym (c .before .before .before .before .before .before .before .before .before .before .before .before .before .check-code .ensures) ∙ c .before .before .before .before .before .before .before .before .before .before .before .counts .given .1;
-      arguments-all = c .before .before .before .before .before .before .before .before .if1 .left;
-      allowed = sym (c .before .before .before .before .before .before .before .arguments-allowed .ensures) ∙ not-false _ (c .before .before .before .before .before .before .if2 .left);
-      work-room = c .before .before .before .before .if3 .left;
-      out-room = c .before .before .if4 .left;
+      formed = sym (entry p .check-code .ensures .0) ∙ p .counts .given .1;
+      arguments-all = d .if1 .left;
+      allowed = finite (e .before) ∙ not-false _ (e .if2 .left);
+      work-room = held g .if3 .left;
+      out-room = g .if4 .left;
     }
 
 returns-6 : tie.Need-returns-6
 returns-6 c =
-    let a = c .before .before .before .before .before .before .before .before .before .before .before .before .before .before .before .before .before .before .before .before .before .before .before .args in
-    let s = now (a .code) in
-    let xs = now (a .arguments) in
-    let m = now (a .work) in
-    let out = now (a .out) in
-    let e = sym (c .before .before .before .before .before .before .before .before .before .before .before .before .before .before .before .before .before .before .check-code .ensures) ∙ c .before .before .before .before .before .before .before .before .before .before .before .before .before .before .before .before .counts .given .1 in
-    let r = c .before .before .before .before .run-checked .ensures in
-    completed s xs m out (decoded s _ e) (c .before .before .before .before .before .before .before .before .before .before .before .before .before .if1 .left) (sym (c .before .before .before .before .before .before .before .before .before .before .before .before .arguments-allowed .ensures) ∙ not-false _ (c .before .before .before .before .before .before .before .before .before .before .before .if2 .left)) (c .before .before .before .before .before .before .before .before .before .if3 .left) (c .before .before .before .before .before .before .before .if4 .left) (r .0) (r .1)
+    let r = done c in
+    let g = ready r in
+    let e = allowed (held g) in
+    let d = counted e in
+    let p = first d in
+    let a = start (entry p) .args in
+    answered (entry p)
+    (completed (now (a .code)) (now (a .arguments)) (now (a .work)) (now (a .out)) (list p) (d .if1 .left)
+    (finite (e .before) ∙ not-false _ (e .if2 .left)) (held g .if3 .left) (g .if4 .left) (r .run-checked .ensures .0) (r .run-checked .ensures .1))
 
 pub run-spec : {M : Type 1} → statement M
 run-spec =
