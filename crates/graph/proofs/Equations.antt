@@ -3,7 +3,7 @@
 use Prim.Native.Nat.{ℕ, zero, suc, _+_}
 use mathlib.Core.Path.{_≡_, refl, ap, sym, _∙_, subst}
 use mathlib.Core.Bool.{Bool, true, false, _||_, cond}
-use mathlib.Core.List.{List, [], _∷_}
+use mathlib.Core.List.{List, [], _∷_, reverse, reverseAux}
 use mathlib.Core.Option.{none, some}
 use mathlib.Core.Logic.{_⊎_, inl, inr, ⊎-elim}
 use native.Mathlib.Omega.{arith}
@@ -11,7 +11,6 @@ use lib.Dec.{eqb}
 use lib.ListN.{length, getElem?}
 use borrow.Author.Tests.{eqb-true, eqb-false, eq-eqb}
 use Rattle.base.specs.Lists.{member, Is}
-use Rattle.base.specs.Outcome.{ok}
 use Rattle.base.specs.Bytes.{Bytes}
 use Rattle.base.proofs.Bools.{and-inv, or-inv}
 use Rattle.base.proofs.Lists.{some-is}
@@ -22,16 +21,19 @@ use Rattle.value.specs.Results.{results}
 use Rattle.value.proofs.Laws.{results-typed}
 use Rattle.graph.specs.Graph.{Ref, Payload, consts, refs, calls, Node, Function}
 use Rattle.graph.specs.Look.{findNode, findFunction, reads, outputRefs}
-use Rattle.graph.specs.Judge.{outputTypes, wantsOf, givesOf, givesAt, refType, table}
+use Rattle.graph.specs.Judge.{outputTypes, wantsOf, givesOf, givesAt, refType}
+use Rattle.graph.specs.Read.{version1}
+use Rattle.graph.specs.Rules.{Meets}
 use Rattle.graph.specs.Schedule.{ready, schedule}
 use Rattle.graph.specs.Sound.{Wired, Shaped, Sound, AllSound}
 use Rattle.graph.specs.Orders.{Ordered}
 use Rattle.graph.specs.Meaning.{bind, all, Call, Env, refMeans, payloadMeans, nodeMeans, functionMeans, meaningOf}
-use Rattle.graph.specs.Equations.{Solves, Model}
+use Rattle.graph.specs.Equations.{Solves, Model, OneMeaning}
 use Rattle.graph.proofs.Loops.{In}
 use Rattle.graph.proofs.Order.{ids, is-in, in-is, cond-or, member-first, schedule-within, reads-in, scheduled}
 use Rattle.graph.proofs.Means.{node-mono}
 use Rattle.graph.proofs.Formed.{accepted}
+use Rattle.graph.proofs.Exactly.{table-back}
 
 -- ---- along the schedule
 
@@ -366,8 +368,28 @@ module _ (fs : List Function) (sound : AllSound fs) where
       let (vs, a, b, o) = model-agrees call fs sound m (f .id) f (stands fs sound f is .own) args t in
       b ∙ sym a
 
--- an accepted table has exactly one meaning: on every function of it, on all arguments of its types
-pub accepted-meaning : (s : List ℕ) → Bytes s → (fs : List Function) → table s ≡ ok fs
-    → Model fs (meaningOf fs)
-    × ((call : Call) → Model fs call → (f : Function) → Is f fs → (args : List Value) → Typed (f .inputs) args → call (f .id) args ≡ meaningOf fs (f .id) args)
-accepted-meaning s small fs e = let sound = accepted s small fs e in (meaning-model fs sound, meaning-unique fs sound)
+-- ---- a table
+
+module _ {A : Type 0} where
+  reversed : (x : A) (xs ys : List A) → Is x (reverseAux xs ys) → Is x xs ⊎ Is x ys
+  reversed x [] ys h = inr h
+  reversed x (y ∷ xs) ys h = ⊎-elim (λ a. inl (inr a)) (λ b. ⊎-elim (λ e. inl (inl e)) (λ c. inr c) b) (reversed x xs (y ∷ ys) h)
+
+  reversed-back : (x : A) (xs ys : List A) → Is x xs ⊎ Is x ys → Is x (reverseAux xs ys)
+  reversed-back x [] ys (inl h) = absurd h
+  reversed-back x [] ys (inr h) = h
+  reversed-back x (y ∷ xs) ys (inl (inl e)) = reversed-back x xs (y ∷ ys) (inr (inl e))
+  reversed-back x (y ∷ xs) ys (inl (inr h)) = reversed-back x xs (y ∷ ys) (inl h)
+  reversed-back x (y ∷ xs) ys (inr h) = reversed-back x xs (y ∷ ys) (inr (inr h))
+
+-- an accepted table has one meaning
+pub one-meaning : (s : List ℕ) → Bytes s → (fs : List Function) → Meets version1 s fs → OneMeaning fs (meaningOf (reverse fs))
+one-meaning s small fs m =
+    let sound : AllSound (reverse fs) = accepted s small (reverse fs) (table-back s fs m) in
+    let there : (f : Function) → Is f fs → Is f (reverse fs) = λ f h. reversed-back f fs [] (inl h) in
+    let back : (f : Function) → Is f (reverse fs) → Is f fs = λ f h. ⊎-elim (λ a. a) (λ b. absurd b) (reversed f fs [] h) in
+    record {
+      defined = λ f h. meaning-defined (reverse fs) sound f (there f h);
+      model = λ f h. meaning-model (reverse fs) sound f (there f h);
+      only = λ call c f h. meaning-unique (reverse fs) sound call (λ g i. c g (back g i)) f (there f h);
+    }

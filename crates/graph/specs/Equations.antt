@@ -7,6 +7,7 @@ use Rattle.value.specs.declared.Value.{Value}
 use Rattle.value.specs.Typed.{Typed}
 use Rattle.graph.specs.Graph.{Node, Function}
 use Rattle.graph.specs.Look.{reads, outputRefs}
+use Rattle.graph.specs.Judge.{outputTypes}
 use Rattle.graph.specs.Meaning.{all, Call, Env, refMeans, payloadMeans}
 
 -- a node's result on its references' meanings, or for a call the callee's outputs on the arguments' meanings
@@ -28,3 +29,12 @@ pub record Meant (call : Call) (f : Function) (args : List Value) : Type 0 where
 -- every function of a table, on all arguments of its types
 abbrev pub Model : List Function → Call → Type 0
 Model fs call = (f : Function) → Is f fs → (args : List Value) → Typed (f .inputs) args → Meant call f args
+
+-- the one meaning of the functions, on all arguments of their types: it has values of their outputs' types, it satisfies the
+-- equations, and whatever satisfies them agrees with it
+pub record OneMeaning (fs : List Function) (call : Call) : Type 0 where
+  pub defined : (f : Function) → Is f fs → (args : List Value) → Typed (f .inputs) args
+      → (vs : List Value) × (call (f .id) args ≡ some vs) × Typed (outputTypes (f .outputs)) vs
+  pub model : Model fs call
+  pub only : (other : Call) → Model fs other → (f : Function) → Is f fs → (args : List Value) → Typed (f .inputs) args
+      → other (f .id) args ≡ call (f .id) args
