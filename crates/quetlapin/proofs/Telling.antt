@@ -32,7 +32,7 @@ use Rattle.checker.specs.Answers.{verdictOf}
 use Rattle.compiler.specs.Whole as compiler
 use Rattle.runner.specs.Runs as runner
 use Rattle.quetlapin.specs.Answers as evaluation
-use Rattle.quetlapin.specs.Numbers.{numberOf, Bounded, Told, counted, codeLength, runCount, evaluationCount, ofVerdict, ofCompiled, ofRan, ofEvaluated}
+use Rattle.quetlapin.specs.Numbers.{numberOf, Refusal, Bounded, Told, counted, codeLength, runCount, evaluationCount, ofVerdict, ofCompiled, ofRan, ofEvaluated}
 
 -- ---- one answer, one number
 
@@ -47,9 +47,6 @@ told-one (fault n p) (fault m q) (b, b1, b2) (d, d1, d2) e =
 
 -- ---- bounds, step by step
 
-abbrev Refusal : ℕ → ℕ → Type 0
-Refusal n p = (1 ≤ n) × (n ≤ 21) × (p < 0x1_0000_0000)
-
 module _ {A : Type 0} (f : A → ℕ) where
   bounded-fault : (g : Outcome A) → Bounded (counted f g) → (n p : ℕ) → g ≡ fault n p → Refusal n p
   bounded-fault (ok a) b n p e = let z : _≡_ {A = ℕ} 0 1 = cc in absurd (omega arith)
@@ -62,17 +59,17 @@ module _ {A B : Type 0} (f : B → ℕ) where
   bound-bounded (ok a) k b h = h a refl
   bound-bounded (fault n p) k b h = b n p refl
 
-  there-bounded : (o : Option A) (k : A → Outcome B) (n : ℕ) → 1 ≤ n → n ≤ 21 → ((a : A) → o ≡ some a → Bounded (counted f (k a)))
+  there-bounded : (o : Option A) (k : A → Outcome B) (n : ℕ) → Refusal n 0 → ((a : A) → o ≡ some a → Bounded (counted f (k a)))
       → Bounded (counted f (orElse o n 0 >>= k))
   unfolding _>>=_
-  there-bounded none k n l h g = (l, h, omega arith)
-  there-bounded (some a) k n l h g = g a refl
+  there-bounded none k n h g = h
+  there-bounded (some a) k n h g = g a refl
 
 module _ {B : Type 0} (f : B → ℕ) where
-  need-bounded : (t : Bool) (n : ℕ) (g : Outcome B) → 1 ≤ n → n ≤ 21 → Bounded (counted f g) → Bounded (counted f (need t n 0 >> g))
+  need-bounded : (t : Bool) (n : ℕ) (g : Outcome B) → Refusal n 0 → Bounded (counted f g) → Bounded (counted f (need t n 0 >> g))
   unfolding need _>>_
-  need-bounded true n g l h b = b
-  need-bounded false n g l h b = (l, h, omega arith)
+  need-bounded true n g h b = b
+  need-bounded false n g h b = h
 
 -- ---- the four answers
 
@@ -106,10 +103,10 @@ module _ (s : List ℕ) (small : Bytes s) where
       bounded-fault none-told (compilable s c)
       (bound-bounded none-told (table s) (λ latest. within latest c) table-fault
       (λ latest q.
-      there-bounded none-told (chosen c latest) _ 14 (omega arith) (omega arith)
+      there-bounded none-told (chosen c latest) _ 14 (omega arith, omega arith, omega arith)
       (λ x r.
-      need-bounded none-told (leb (functionOperations (operationsOf (x .early)) (x .function)) operationLimit) 15 _ (omega arith) (omega arith)
-      (need-bounded none-told (leb (functionWords (x .early) (x .function)) wordLimit) 16 (ok x) (omega arith) (omega arith) (omega arith)))))
+      need-bounded none-told (leb (functionOperations (operationsOf (x .early)) (x .function)) operationLimit) 15 _ (omega arith, omega arith, omega arith)
+      (need-bounded none-told (leb (functionWords (x .early) (x .function)) wordLimit) 16 (ok x) (omega arith, omega arith, omega arith) (omega arith)))))
       n p e
 
   module _ (c : ℕ) (code : List ℕ) where
@@ -118,7 +115,7 @@ module _ (s : List ℕ) (small : Bytes s) where
     compiled-bounded =
         bound-bounded size-told (compilable s c) _ (compilable-fault c)
         (λ x e.
-        need-bounded size-told (leb (length (codeOf x)) (length code)) 17 _ (omega arith) (omega arith)
+        need-bounded size-told (leb (length (codeOf x)) (length code)) 17 _ (omega arith, omega arith, omega arith)
         (let (fs, w) = compilable-within s c x small e in omega (arith, code-length s c fs x w)))
 
   -- once the compiler passes, the bounds are those of a run of its list
@@ -128,9 +125,9 @@ module _ (s : List ℕ) (small : Bytes s) where
     runs-bounded functions x w l =
         let g = runOrRefusal s c functions x w arguments code work out in
         let b : Bounded (runCount g) =
-        need-bounded count-told (eqb (length arguments) (widths (x .function .inputs))) 19 _ (omega arith) (omega arith)
-        (need-bounded count-told (every argumentWord arguments) 20 _ (omega arith) (omega arith)
-        (need-bounded count-told (leb (functionWords (x .early) (x .function)) (length work) && leb (widths (outputTypes (x .function .outputs))) (length out)) 21 _ (omega arith) (omega arith)
+        need-bounded count-told (eqb (length arguments) (widths (x .function .inputs))) 19 _ (omega arith, omega arith, omega arith)
+        (need-bounded count-told (every argumentWord arguments) 20 _ (omega arith, omega arith, omega arith)
+        (need-bounded count-told (leb (functionWords (x .early) (x .function)) (length work) && leb (widths (outputTypes (x .function .outputs))) (length out)) 21 _ (omega arith, omega arith, omega arith)
         (omega (arith, output-count s c functions x w)))) in
         subst (λ (o : Outcome Answers.Evaluated). Bounded (evaluationCount o)) (sym (evaluated-is s c functions x w arguments code work out l))
         (bound-bounded words-told g (λ b. ok (withCode x code b)) (bounded-fault count-told g b) (λ a e. subst (λ (o : Outcome Buffers). Bounded (runCount o)) e b))
@@ -152,11 +149,11 @@ module _ (s : List ℕ) (small : Bytes s) where
 pub ran-bounded : (code : List ℕ) → Bytes code → (arguments work out : List ℕ) → Bounded (runCount (ran code arguments work out))
 unfolding ran
 ran-bounded code small arguments work out =
-    there-bounded count-told (decode code) _ 18 (omega arith) (omega arith)
+    there-bounded count-told (decode code) _ 18 (omega arith, omega arith, omega arith)
     (λ b e.
-    need-bounded count-told (eqb (length arguments) (b .arguments)) 19 _ (omega arith) (omega arith)
-    (need-bounded count-told (every argumentWord arguments) 20 _ (omega arith) (omega arith)
-    (need-bounded count-told (leb (b .words) (length work) && leb (length (b .outputs)) (length out)) 21 _ (omega arith) (omega arith)
+    need-bounded count-told (eqb (length arguments) (b .arguments)) 19 _ (omega arith, omega arith, omega arith)
+    (need-bounded count-told (every argumentWord arguments) 20 _ (omega arith, omega arith, omega arith)
+    (need-bounded count-told (leb (b .words) (length work) && leb (length (b .outputs)) (length out)) 21 _ (omega arith, omega arith, omega arith)
     (omega (arith, well-formed code small b .0 e .fit .outputs)))))
 
 -- ---- the answers as enums are the same answers

@@ -27,10 +27,14 @@ abbrev pub numberOf : Outcome ℕ → ℕ
 numberOf (ok n) = n
 numberOf (fault n p) = refusalNumber n p
 
--- a success is below 2^32; a refusal has one of 01's numbers, and its place is below 2^32
+-- one of 01's numbers, and a place below 2^32
+abbrev pub Refusal : ℕ → ℕ → Type 0
+Refusal n p = (1 ≤ n) × (n ≤ 21) × (p < 0x1_0000_0000)
+
+-- a success is below 2^32 too
 abbrev pub Bounded : Outcome ℕ → Type 0
 Bounded (ok n) = n < 0x1_0000_0000
-Bounded (fault n p) = (1 ≤ n) × (n ≤ 21) × (p < 0x1_0000_0000)
+Bounded (fault n p) = Refusal n p
 
 -- so no two answers have the same number, and what another program is told is the answer
 pub record Told (o : Outcome ℕ) (r : ℕ) : Type 0 where
