@@ -15,7 +15,6 @@ use Rattle.ports.specs.Ports.{width, takes, arity, constantWords, isType, typeF
 use Rattle.ports.proofs.Laws.{no-kind}
 use Rattle.value.specs.declared.Value.{Value}
 use Rattle.value.specs.declared.Operator.{Operator}
-use Rattle.value.specs.declared.Operator.the-variants.{Add, Subtract, Multiply, Divide, Minimum, Maximum, Absolute, Remainder, Select, Clamp}
 use Rattle.value.specs.Values.{allWords}
 use Rattle.value.specs.Results.{each, results}
 use Rattle.base.specs.Bytes.{constants}
@@ -24,116 +23,48 @@ use Rattle.bytecode.specs.Run.{valuesAt, execute}
 use Rattle.bytecode.specs.Code.{addresses}
 use Rattle.bytecode.specs.WellFormed.{Below}
 use Rattle.bytecode.proofs.Decoded.{addresses-length}
-use Rattle.executor.specs.declared.Next.{Next}
-use Rattle.executor.specs.Execution.{instructionAt, endOf, wordsGiven, operate, Ready, Executable, Operands, Executed, Operated}
+use Rattle.executor.specs.declared.Extent.{Extent}
+use Rattle.executor.specs.Execution.{instructionAt, endOf, codeBytes, wordsGiven, kindFor, AllLoadable, Ready, Executable, Operands, Executed}
+use Rattle.executor.proofs.Stored.{carried}
 
 -- ---- kinds with T
 
--- the kind k is the operator o on n operands
-pub record Carried (k : ℕ) (o : Operator) (n : ℕ) : Type 0 where
-  pub count : arity (kindOf k) ≡ n
-  pub takes : (t : ℕ) → takes (kindOf k) t ≡ replicate n t
-  pub gives : (t : ℕ) → wordsGiven k t ≡ width t + 0
-  pub constants : constantWords (kindOf k) ≡ 0
-  pub results : (cs : List ℕ) (vs : List Value) → results (kindOf k) cs vs ≡ each o vs ∷ []
-
-module _ {k : ℕ} {o : Operator} {n : ℕ} (c : Carried k o n) (t : ℕ) (s : List ℕ) (at result : ℕ) where
-  behind : endOf k at ≡ at + 2 * n
-  behind = let e : arity (kindOf k) ≡ n = c .count in let z : constantWords (kindOf k) ≡ 0 = c .constants in omega arith
-
-  operands-of : (m : List ℕ) → Ready k t s at result m → Operands n t s at result m
-  operands-of m h =
-      let f : endOf k at ≤ length s = h .fits in
-      let r : result + wordsGiven k t ≤ length m = h .room in
-      let g : wordsGiven k t ≡ width t + 0 = c .gives t in
-      let e : endOf k at ≡ at + 2 * n = behind in
-      record {
-        fits = omega arith;
-        operands = subst (λ (ts : List ℕ). Below result ts (addresses n s at)) (c .takes t)
-            (subst (λ (i : ℕ). Below result (takes (kindOf k) t) (addresses i s at)) (c .count) (h .operands));
-        room = omega arith;
-        canonical = h .canonical;
-      }
-
-  carried-out : (m : List ℕ) → operate o t (addresses n s at) result m ≡ execute (instructionAt k t s at result) m
-  unfolding execute operate
-  carried-out m =
-      let cs = constants (constantWords (kindOf k)) s (at + 2 * arity (kindOf k)) in
-      let vs = valuesAt m (takes (kindOf k) t) (addresses (arity (kindOf k)) s at) in
-      let e : valuesAt m (replicate (length (addresses n s at)) t) (addresses n s at) ≡ vs =
-      ap (λ (i : ℕ). valuesAt m (replicate i t) (addresses n s at)) (addresses-length n s at)
-      ∙ ap (λ (ts : List ℕ). valuesAt m ts (addresses n s at)) (sym (c .takes t))
-      ∙ ap (λ (i : ℕ). valuesAt m (takes (kindOf k) t) (addresses i s at)) (sym (c .count)) in
-      ap (λ (us : List Value). sets m result (allWords (each o us ∷ []))) e
-      ∙ ap (λ (us : List Value). sets m result (allWords us)) (sym (c .results cs vs))
-
-  executed-of : {m after : List ℕ} {x : Next} → Operated o n t s at result m after x → Executed k t s at result m after x
-  executed-of {m} h =
-      let b : _ ≡ result + width t = h .next-result in
-      let g : wordsGiven k t ≡ width t + 0 = c .gives t in
-      record { words = h .words ∙ carried-out m; next-at = h .next-at ∙ sym behind; next-result = b ∙ omega arith }
-
-pub addition-is : Carried 1 Add 2
-unfolding results
-addition-is = record { count = refl; takes = λ t. refl; gives = λ t. refl; constants = refl; results = λ cs vs. refl }
-
-pub subtraction-is : Carried 2 Subtract 2
-unfolding results
-subtraction-is = record { count = refl; takes = λ t. refl; gives = λ t. refl; constants = refl; results = λ cs vs. refl }
-
-pub multiplication-is : Carried 3 Multiply 2
-unfolding results
-multiplication-is = record { count = refl; takes = λ t. refl; gives = λ t. refl; constants = refl; results = λ cs vs. refl }
-
-pub division-is : Carried 4 Divide 2
-unfolding results
-division-is = record { count = refl; takes = λ t. refl; gives = λ t. refl; constants = refl; results = λ cs vs. refl }
-
-pub min-is : Carried 18 Minimum 2
-unfolding results
-min-is = record { count = refl; takes = λ t. refl; gives = λ t. refl; constants = refl; results = λ cs vs. refl }
-
-pub max-is : Carried 19 Maximum 2
-unfolding results
-max-is = record { count = refl; takes = λ t. refl; gives = λ t. refl; constants = refl; results = λ cs vs. refl }
-
-pub abs-is : Carried 20 Absolute 1
-unfolding results
-abs-is = record { count = refl; takes = λ t. refl; gives = λ t. refl; constants = refl; results = λ cs vs. refl }
-
-pub fmod-is : Carried 21 Remainder 2
-unfolding results
-fmod-is = record { count = refl; takes = λ t. refl; gives = λ t. refl; constants = refl; results = λ cs vs. refl }
-
-pub select-is : Carried 22 Select 4
-unfolding results
-select-is = record { count = refl; takes = λ t. refl; gives = λ t. refl; constants = refl; results = λ cs vs. refl }
-
-pub clamp-is : Carried 23 Clamp 3
-unfolding results
-clamp-is = record { count = refl; takes = λ t. refl; gives = λ t. refl; constants = refl; results = λ cs vs. refl }
+-- the code of an operator's kind asks for its operands alone
+operands-of : {o : Operator} {n t : ℕ} {s : List ℕ} {at result : ℕ} {m : List ℕ} → Ready (kindFor o) t s at result m → arity (kindOf (kindFor o)) ≡ n
+    → Operands o n t s at result m
+operands-of {o} {n} {t} {s} {at} {result} {m} h e =
+    let c = carried o in
+    let k = kindFor o in
+    let f : endOf k at ≤ length s = h .fits in
+    let r : result + wordsGiven k t ≤ length m = h .room in
+    let g : wordsGiven k t ≡ width t + 0 = c .gives t in
+    record {
+      count = e;
+      fits = omega arith;
+      operands = subst (λ (i : ℕ). AllLoadable m (replicate i t) (addresses i s at)) e
+          (subst (λ (ts : List ℕ). AllLoadable m ts (addresses (arity (kindOf k)) s at)) (c .takes t) (h .operands));
+      room = omega arith;
+    }
 
 -- ---- an arm: its number k stands for the kind byte x
 
-module _ {x t : ℕ} {s : List ℕ} {at result : ℕ} {m₀ : List ℕ} (h : Executable x t s at result m₀) {k : ℕ} (e : x ≡ k) where
-  pub plain-ready : Ready k t s at result m₀
-  plain-ready = subst (λ (i : ℕ). Ready i t s at result m₀) e (h .ready)
+module _ {x t : ℕ} {s : List ℕ} {at result : ℕ} {m : List ℕ} (h : Executable x t s at result m) where
+  pub plain-ready : {k : ℕ} → x ≡ k → Ready k t s at result m
+  plain-ready e = subst (λ (i : ℕ). Ready i t s at result m) e (h .ready)
 
-  pub typed-ready : {o : Operator} {n : ℕ} → Carried k o n → Operands n t s at result m₀
-  typed-ready c = operands-of c t s at result m₀ plain-ready
+  pub typed-ready : (o : Operator) {n : ℕ} → x ≡ kindFor o → arity (kindOf (kindFor o)) ≡ n → Operands o n t s at result m
+  typed-ready o e c = operands-of (plain-ready e) c
 
-module _ {x t : ℕ} {s : List ℕ} {at result : ℕ} {k : ℕ} (e : x ≡ k) {m after : List ℕ} {y : Next} where
-  pub plain-done : Executed k t s at result m after y → Executed x t s at result m after y
-  plain-done d = subst (λ (i : ℕ). Executed i t s at result m after y) (sym e) d
-
-  pub typed-done : {o : Operator} {n : ℕ} → Carried k o n → Operated o n t s at result m after y → Executed x t s at result m after y
-  typed-done c d = plain-done (executed-of c t s at result d)
+pub carried-out : {x k t : ℕ} {s : List ℕ} {at result : ℕ} {m after : List ℕ} {y : Extent} → x ≡ k
+    → after ≡ execute (instructionAt k t s at result) m → y .bytes ≡ codeBytes k → y .words ≡ wordsGiven k t → Executed x t s at result m after y
+carried-out {x} {k} {t} {s} {at} {result} {m} {after} {y} e w b g =
+    subst (λ (i : ℕ). Executed i t s at result m after y) (sym e) (record { words = w; bytes = b; given = g })
 
 -- the same of the type byte t, which is u
-pub with-type : {k t u : ℕ} {s : List ℕ} {at result : ℕ} {m₀ : List ℕ} → t ≡ u → Executable k t s at result m₀ → Executable k u s at result m₀
-with-type {k} {t} {u} {s} {at} {result} {m₀} e h = subst (λ (i : ℕ). Executable k i s at result m₀) e h
+pub with-type : {k t u : ℕ} {s : List ℕ} {at result : ℕ} {m : List ℕ} → t ≡ u → Executable k t s at result m → Executable k u s at result m
+with-type {k} {t} {u} {s} {at} {result} {m} e h = subst (λ (i : ℕ). Executable k i s at result m) e h
 
-pub of-type : {k t u : ℕ} {s : List ℕ} {at result : ℕ} {m after : List ℕ} {y : Next} → t ≡ u → Executed k u s at result m after y → Executed k t s at result m after y
+pub of-type : {k t u : ℕ} {s : List ℕ} {at result : ℕ} {m after : List ℕ} {y : Extent} → t ≡ u → Executed k u s at result m after y → Executed k t s at result m after y
 of-type {k} {t} {u} {s} {at} {result} {m} {after} {y} e d = subst (λ (i : ℕ). Executed k i s at result m after y) (sym e) d
 
 -- ---- the last arm
@@ -192,17 +123,17 @@ plainArms = 16 ∷ 15 ∷ 14 ∷ 13 ∷ 12 ∷ 11 ∷ 10 ∷ 9 ∷ 8 ∷ 7 ∷ 6
 abbrev typedArms : List ℕ
 typedArms = 22 ∷ 21 ∷ 20 ∷ 19 ∷ 18 ∷ 4 ∷ 3 ∷ 2 ∷ 1 ∷ []
 
-module _ {k : ℕ} {s : List ℕ} {at result : ℕ} {m₀ : List ℕ} where
-  pub last-plain : Executable k 0 s at result m₀ → NoneOf plainArms k → k ≡ 17
+module _ {k : ℕ} {s : List ℕ} {at result : ℕ} {m : List ℕ} where
+  pub last-plain : Executable k 0 s at result m → NoneOf plainArms k → k ≡ 17
   last-plain h r = last-of 17 plainArms k (among (17 ∷ plainArms) 0 refl k (h .legal)) r
 
-  pub last-scalars : Executable k 1 s at result m₀ → NoneOf typedArms k → k ≡ 23
+  pub last-scalars : Executable k 1 s at result m → NoneOf typedArms k → k ≡ 23
   last-scalars h r = last-of 23 typedArms k (among (23 ∷ typedArms) 1 refl k (h .legal)) r
 
-  pub last-vectors : Executable k 2 s at result m₀ → NoneOf typedArms k → k ≡ 23
+  pub last-vectors : Executable k 2 s at result m → NoneOf typedArms k → k ≡ 23
   last-vectors h r = last-of 23 typedArms k (among (23 ∷ typedArms) 2 refl k (h .legal)) r
 
-  pub last-matrices : Executable k 3 s at result m₀ → NoneOf typedArms k → k ≡ 23
+  pub last-matrices : Executable k 3 s at result m → NoneOf typedArms k → k ≡ 23
   last-matrices h r = last-of 23 typedArms k (among (23 ∷ typedArms) 3 refl k (h .legal)) r
 
 last-fits : (b : Bool) (t : ℕ) → cond b (isType t) (eqb t 0) ≡ true → NoneOf (2 ∷ 1 ∷ 0 ∷ []) t → t ≡ 3
@@ -213,5 +144,5 @@ last-fits true t e r =
     omega (arith, r .1, r .0 .1)
 last-fits false t e r = absurd (r .0 .0 .1 (eqb-true t 0 e))
 
-pub last-type : {k t : ℕ} {s : List ℕ} {at result : ℕ} {m₀ : List ℕ} → Executable k t s at result m₀ → NoneOf (2 ∷ 1 ∷ 0 ∷ []) t → t ≡ 3
+pub last-type : {k t : ℕ} {s : List ℕ} {at result : ℕ} {m : List ℕ} → Executable k t s at result m → NoneOf (2 ∷ 1 ∷ 0 ∷ []) t → t ≡ 3
 last-type {k} {t} h r = last-fits (portsOf (kindOf k) .typed) t (and-inv (executable (portsOf (kindOf k) .form)) _ (h .legal) .1) r

@@ -30,7 +30,9 @@ use Rattle.bytecode.specs.Code.{addresses}
 use Rattle.bytecode.proofs.Decoded.{addresses-length}
 use Rattle.base.proofs.Stores.{sets-below}
 use Rattle.bytecode.proofs.Origins.{takes-codes}
-use Rattle.executor.specs.Execution.{Canonical, CanonicalBefore, Loadable, instructionAt, wordsGiven, Ready, Executable, Operands}
+use Rattle.bytecode.specs.WellFormed.{Below}
+use Rattle.executor.specs.Execution.{Canonical, Loadable, AllLoadable, instructionAt, wordsGiven, Executable}
+use Rattle.executor.specs.Instructions.{CanonicalBefore}
 
 -- ---- one word
 
@@ -117,10 +119,10 @@ values-typed m (t ∷ ts) [] c l = absurd (omega arith)
 values-typed m (t ∷ ts) (a ∷ xs) (p, c) l =
     (subst (Of t) (sym (value-at m t a)) (value-of t (wordsAt m a (width t)) p), values-typed m ts xs c (omega arith))
 
-pub after-execute : (k t : ℕ) (s : List ℕ) (at result : ℕ) (m : List ℕ) → Executable k t s at result m
+pub after-execute : (k t : ℕ) (s : List ℕ) (at result : ℕ) (m : List ℕ) → Executable k t s at result m → CanonicalBefore result m
     → CanonicalBefore (result + wordsGiven k t) (execute (instructionAt k t s at result) m)
 unfolding execute
-after-execute k t s at result m h =
+after-execute k t s at result m h before =
     let ts = takes (kindOf k) t in
     let vs = valuesAt m ts (addresses (arity (kindOf k)) s at) in
     let rs = results (kindOf k) (constants (constantWords (kindOf k)) s (at + 2 * arity (kindOf k))) vs in
@@ -130,16 +132,18 @@ after-execute k t s at result m h =
     let l : length (allWords rs) ≡ wordsGiven k t = typed-widths (gives (kindOf k) t) rs g in
     let r : result + wordsGiven k t ≤ length m = h .ready .room in
     subst (λ (n : ℕ). CanonicalBefore (result + n) (sets m result (allWords rs))) l
-    (after-sets (allWords rs) m result (values-words (gives (kindOf k) t) rs g) (omega arith) (h .ready .canonical))
+    (after-sets (allWords rs) m result (values-words (gives (kindOf k) t) rs g) (omega arith) before)
 
 -- ---- operands stand before the result, where all words are canonical
 
-pub of-operands : {n t : ℕ} {s : List ℕ} {at result : ℕ} {m : List ℕ} → Operands n t s at result m → {a w : ℕ} → a + w ≤ result → Loadable m a w
-of-operands {result = result} {m = m} h e =
-    let r : result + _ ≤ length m = h .room in
-    record { end = result; within = e; room = omega arith; canonical = h .canonical }
+pub all-loadable : (m : List ℕ) (next : ℕ) → next ≤ length m → CanonicalBefore next m → (ts xs : List ℕ) → Below next ts xs → AllLoadable m ts xs
+all-loadable m next r c [] xs h = tt
+all-loadable m next r c (t ∷ ts) [] h = h
+all-loadable m next r c (t ∷ ts) (a ∷ xs) (p, h) =
+    (record { room = omega arith; canonical = λ i l u. c i (omega arith) }, all-loadable m next r c ts xs h)
 
-pub of-ready : {k t : ℕ} {s : List ℕ} {at result : ℕ} {m : List ℕ} → Ready k t s at result m → {a w : ℕ} → a + w ≤ result → Loadable m a w
-of-ready {result = result} {m = m} h e =
-    let r : result + _ ≤ length m = h .room in
-    record { end = result; within = e; room = omega arith; canonical = h .canonical }
+-- some of the words
+pub part : {m : List ℕ} {at n a w : ℕ} → Loadable m at n → at ≤ a → a + w ≤ at + n → Loadable m a w
+part {m} {at} {n} {a} {w} h l u =
+    let r : at + n ≤ length m = h .room in
+    record { room = omega arith; canonical = λ i p q. h .canonical i (omega arith) (omega arith) }

@@ -1,4 +1,4 @@
 pub mod Canonical
-pub mod Arms
 pub mod Stored
+pub mod Arms
 pub mod Loop

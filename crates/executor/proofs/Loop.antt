@@ -21,10 +21,10 @@ use Rattle.bytecode.specs.Run.{Instruction, execute, executeAll}
 use Rattle.bytecode.specs.Code.{addresses, allBelow, readInstruction, nextWord, Listed, readInstructions}
 use Rattle.bytecode.proofs.Decoded.{guard-inv, then-inv, addresses-length, all-below}
 use Rattle.base.proofs.Lists.{some-is}
-use Rattle.executor.specs.declared.Next.{Next}
-use Rattle.executor.specs.Execution.{instructionAt, endOf, wordsGiven, CanonicalBefore, Executable, Executed}
-use Rattle.executor.specs.Listing.{afterAll, Listing}
-use Rattle.executor.proofs.Canonical.{after-execute}
+use Rattle.executor.specs.declared.Extent.{Extent}
+use Rattle.executor.specs.Execution.{instructionAt, endOf, codeBytes, wordsGiven, Executable, Executed}
+use Rattle.executor.specs.Instructions.{CanonicalBefore, afterAll, Instructions}
+use Rattle.executor.proofs.Canonical.{after-execute, all-loadable}
 
 -- ---- an instruction that is read, and what is known of it
 
@@ -65,7 +65,7 @@ pub record Running (s : List ℕ) (left at result : ℕ) (m end : List ℕ) : Ty
   pub canonical : CanonicalBefore result m
   pub same : executeAll (rest .instructions) m ≡ end
 
-pub start : (s : List ℕ) (count first : ℕ) (m : List ℕ) → Listing s count first m
+pub start : (s : List ℕ) (count first : ℕ) (m : List ℕ) → Instructions s count first m
     → Running s count 12 first m (afterAll (readInstructions count s 12 first) m)
 unfolding afterAll
 start s count first m h = record { rest = h .listed; reads = h .reads; room = h .room; canonical = h .canonical; same = rw (h .reads) }
@@ -110,10 +110,10 @@ executable-of s left at result m end p =
       legal = r .legal;
       ready = record {
         fits = r .fits;
-        operands = all-below result (takes (kindOf k) t) (addresses (arity (kindOf k)) s (at + 2))
-            (addresses-length (arity (kindOf k)) s (at + 2) ∙ sym (length-takes (kindOf k) t)) (r .below);
+        operands = all-loadable m result (omega arith) (p .canonical) (takes (kindOf k) t) (addresses (arity (kindOf k)) s (at + 2))
+            (all-below result (takes (kindOf k) t) (addresses (arity (kindOf k)) s (at + 2))
+            (addresses-length (arity (kindOf k)) s (at + 2) ∙ sym (length-takes (kindOf k) t)) (r .below));
         room = omega arith;
-        canonical = p .canonical;
       };
     }
 
@@ -121,26 +121,31 @@ length-execute : (i : Instruction) (m : List ℕ) → length (execute i m) ≡ l
 unfolding execute
 length-execute i m = simp length-sets
 
-pub same-size : (k t : ℕ) (s : List ℕ) (at result : ℕ) (m after : List ℕ) (x : Next) → Executed k t s at result m after x → length after ≡ length m
+pub same-size : (k t : ℕ) (s : List ℕ) (at result : ℕ) (m after : List ℕ) (x : Extent) → Executed k t s at result m after x → length after ≡ length m
 same-size k t s at result m after x d = ap length (d .words) ∙ length-execute (instructionAt k t s at result) m
 
-next-of : (s : List ℕ) (left at result : ℕ) (m end after : List ℕ) (x : Next) → Split s left at result m end
-    → Executed (byte s at) (byte s (at + 1)) s (at + 2) result m after x → Running s left (x .at) (x .result) after end
+next-of : (s : List ℕ) (left at result : ℕ) (m end after : List ℕ) (x : Extent) → Split s left at result m end
+    → Executed (byte s at) (byte s (at + 1)) s (at + 2) result m after x → Running s left (at + x .bytes) (result + x .words) after end
 next-of s left at result m end after x p d =
     let i = p .first in
     let e = p .read .is in
-    let ea : x .at ≡ i .next = d .next-at ∙ ap (λ (y : Part Instruction). y .next) e in
-    let er : x .result ≡ nextWord result (i .it) = d .next-result ∙ ap (λ (y : Part Instruction). nextWord result (y .it)) e in
+    let k = byte s at in
+    let b : x .bytes ≡ codeBytes k = d .bytes in
+    let g : x .words ≡ wordsGiven k (byte s (at + 1)) = d .given in
+    let ek : at + x .bytes ≡ endOf k (at + 2) = omega arith in
+    let ew : result + x .words ≡ result + wordsGiven k (byte s (at + 1)) = omega arith in
+    let ea : at + x .bytes ≡ i .next = ek ∙ ap (λ (y : Part Instruction). y .next) e in
+    let er : result + x .words ≡ nextWord result (i .it) = ew ∙ ap (λ (y : Part Instruction). nextWord result (y .it)) e in
     let em : after ≡ execute (i .it) m = d .words ∙ ap (λ (y : Part Instruction). execute (y .it) m) e in
     let el : length after ≡ length m = same-size (byte s at) (byte s (at + 1)) s (at + 2) result m after x d in
     let o : p .rest .words ≤ length m = p .room in
     let h = executable-of s left at result m end p in
     record {
       rest = p .rest;
-      reads = ap (λ (y : ℕ). readInstructions left s y (x .result)) ea ∙ ap (readInstructions left s (i .next)) er ∙ p .reads;
+      reads = ap (λ (y : ℕ). readInstructions left s y (result + x .words)) ea ∙ ap (readInstructions left s (i .next)) er ∙ p .reads;
       room = omega arith;
-      canonical = subst (λ (y : ℕ). CanonicalBefore y after) (sym (d .next-result))
-          (subst (CanonicalBefore (result + wordsGiven (byte s at) (byte s (at + 1)))) (sym (d .words)) (after-execute (byte s at) (byte s (at + 1)) s (at + 2) result m h));
+      canonical = subst (λ (y : ℕ). CanonicalBefore y after) (sym ew)
+          (subst (CanonicalBefore (result + wordsGiven (byte s at) (byte s (at + 1)))) (sym (d .words)) (after-execute (byte s at) (byte s (at + 1)) s (at + 2) result m h (p .canonical)));
       same = ap (executeAll (p .rest .instructions)) em ∙ p .same;
     }
 
@@ -154,8 +159,8 @@ pub ready : (s : List ℕ) (left at result : ℕ) (m end : List ℕ) → Running
     → Executable (byte s at) (byte s (at + 1)) s (at + 2) result m
 ready s left at result m end h p = executable-of s (left - 1) at result m end (less s left at result m end h p)
 
-pub next : (s : List ℕ) (left at result : ℕ) (m end after : List ℕ) (x : Next) → Running s left at result m end → 0 < left
-    → Executed (byte s at) (byte s (at + 1)) s (at + 2) result m after x → Running s (left - 1) (x .at) (x .result) after end
+pub next : (s : List ℕ) (left at result : ℕ) (m end after : List ℕ) (x : Extent) → Running s left at result m end → 0 < left
+    → Executed (byte s at) (byte s (at + 1)) s (at + 2) result m after x → Running s (left - 1) (at + x .bytes) (result + x .words) after end
 next s left at result m end after x h p d = next-of s (left - 1) at result m end after x (less s left at result m end h p) d
 
 pub done : (s : List ℕ) (left at result : ℕ) (m end : List ℕ) → Running s left at result m end → left ≡ 0 → m ≡ end

@@ -1,2 +1,2 @@
 pub mod Execution
-pub mod Listing
+pub mod Instructions

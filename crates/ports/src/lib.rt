@@ -338,6 +338,20 @@ pub fn result_words(row: Ports, ty: u8) -> usize
     }
 }
 
+// The words of the constant of a kind with this row.
+pub fn constant_words(row: Ports) -> usize
+    ensures { λ r. ⌜ r ≡ Definition.constantIn (row .form) (row .words) ⌝ }
+    ensures bounded { λ r. ⌜ r < 256 ⌝ }
+{
+    let form = row.form;
+    match form {
+        Form::Absent => 0,
+        Form::Constant => row.words as usize,
+        Form::References => 0,
+        Form::Call => 0,
+    }
+}
+
 // Whether there is a kind with this row.
 pub fn exists(form: Form) -> bool
     ensures { λ r. ⌜ r ≡ Definition.exists form ⌝ }

@@ -19,10 +19,10 @@ use Rattle.base.specs.Bytes.{byte, u16, u64, constants}
 use Rattle.base.specs.Outcome.{Part}
 use Rattle.bytecode.specs.Run.{Instruction}
 use Rattle.bytecode.specs.Code.{guard, addresses, allBelow, allLess, readOperands, readKind, readInstruction, nextWord}
-use Rattle.executor.specs.declared.Next.{Next}
+use Rattle.runner.specs.declared.Next.{Next}
 use Rattle.executor.specs.Execution.{endOf, wordsGiven}
-use Rattle.runner.specs.declared.Passed.{Passed}
-use Rattle.runner.specs.declared.Passed.the-variants.{Here, Wrong}
+use Rattle.runner.specs.declared.Progress.{Progress}
+use Rattle.runner.specs.declared.Progress.the-variants.{Passed, Refused}
 use Rattle.runner.specs.Checks.{passedOf, Begun}
 use Rattle.runner.proofs.Walks.{Walk}
 
@@ -65,7 +65,7 @@ pub pass : (result : ℕ) {b : Bool} (o : Option (Part Instruction)) → b ≡ t
 unfolding guard
 pass result o e = rw e
 
-pub fail : (result : ℕ) {b : Bool} (o : Option (Part Instruction)) → b ≡ false → passedOf result (guard b o) ≡ Wrong
+pub fail : (result : ℕ) {b : Bool} (o : Option (Part Instruction)) → b ≡ false → passedOf result (guard b o) ≡ Refused
 unfolding guard passedOf
 fail result o e = rw e
 
@@ -112,18 +112,18 @@ module _ (s : List ℕ) (at result : ℕ) (row : Ports) (h : Begun s at result r
   begun : passedOf result (readInstruction s at result) ≡ passedOf result (readKind k t s (at + 2) result)
   begun = pass result _ (le-leb (at + 2) (length s) (h .bytes))
 
-  pub not-executable : executable (row .form) ≡ false → Wrong ≡ passedOf result (readInstruction s at result)
+  pub not-executable : executable (row .form) ≡ false → Refused ≡ passedOf result (readInstruction s at result)
   not-executable e = sym (begun ∙ fail result _ (legal-is ∙ ap (λ (b : Bool). b && typeFits row t) e))
 
   module _ (can : executable (row .form) ≡ true) where
     legal-by : legalInstruction (kindOf k) t ≡ typeFits row t
     legal-by = legal-is ∙ ap (λ (b : Bool). b && typeFits row t) can
 
-    pub wrong-type : typeFits row t ≡ false → Wrong ≡ passedOf result (readInstruction s at result)
+    pub wrong-type : typeFits row t ≡ false → Refused ≡ passedOf result (readInstruction s at result)
     wrong-type e = sym (begun ∙ fail result _ (legal-by ∙ e))
 
     module _ (right : typeFits row t ≡ true) where
-      pub too-short : length s < at + 2 + (2 * n + 8 * c) → Wrong ≡ passedOf result (readInstruction s at result)
+      pub too-short : length s < at + 2 + (2 * n + 8 * c) → Refused ≡ passedOf result (readInstruction s at result)
       too-short l =
           let e : endOf k (at + 2) ≡ at + 2 + (2 * n + 8 * c) = end-is in
           sym (begun ∙ pass result _ (legal-by ∙ right) ∙ fail result _ (lt-leb (endOf k (at + 2)) (length s) (omega arith)))
@@ -136,20 +136,20 @@ module _ (s : List ℕ) (at result : ℕ) (row : Ports) (h : Begun s at result r
             begun ∙ pass result _ (legal-by ∙ right) ∙ pass result _ (le-leb (endOf k (at + 2)) (length s) (omega arith))
 
         pub too-high : allBelow result (types n (own t (row .first)) (own t (row .rest))) (addresses n s (at + 2)) ≡ false
-            → Wrong ≡ passedOf result (readInstruction s at result)
+            → Refused ≡ passedOf result (readInstruction s at result)
         too-high e = sym (fitted ∙ fail result _ (below-is ∙ e))
 
         module _ (below : allBelow result (types n (own t (row .first)) (own t (row .rest))) (addresses n s (at + 2)) ≡ true) where
-          pub not-allowed : every constantWord (constants c s (at + 2 + 2 * n)) ≡ false → Wrong ≡ passedOf result (readInstruction s at result)
+          pub not-allowed : every constantWord (constants c s (at + 2 + 2 * n)) ≡ false → Refused ≡ passedOf result (readInstruction s at result)
           not-allowed e = sym (fitted ∙ pass result _ (below-is ∙ below) ∙ fail result _ (allowed-is ∙ e))
 
           pub right-here : every constantWord (constants c s (at + 2 + 2 * n)) ≡ true → {a b : ℕ}
               → a ≡ at + 2 + (2 * n + 8 * c) → b ≡ result + resultWords row t
-              → Here (record { at = a; result = b }) ≡ passedOf result (readInstruction s at result)
+              → Passed (record { at = a; result = b }) ≡ passedOf result (readInstruction s at result)
           unfolding passedOf
           right-here e {a} {b} ea eb =
               let p : a ≡ endOf k (at + 2) = ea ∙ sym end-is in
               let q : b ≡ result + wordsGiven k t = eb ∙ ap (λ (w : ℕ). result + w) (sym words-is) in
-              ap (λ (x : ℕ). Here (record { at = x; result = b })) p
-              ∙ ap (λ (y : ℕ). Here (record { at = endOf k (at + 2); result = y })) q
+              ap (λ (x : ℕ). Passed (record { at = x; result = b })) p
+              ∙ ap (λ (y : ℕ). Passed (record { at = endOf k (at + 2); result = y })) q
               ∙ sym (fitted ∙ pass result _ (below-is ∙ below) ∙ pass result _ (allowed-is ∙ e))

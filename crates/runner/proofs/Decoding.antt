@@ -14,6 +14,7 @@ use Rattle.value.specs.Values.{argumentWord}
 use Rattle.value.proofs.Laws.{same-word}
 use Rattle.base.specs.Outcome.{Outcome, ok, fault, _>>=_, _>>_, need, orElse}
 use Rattle.base.specs.Bytes.{byte, u16}
+use Rattle.base.specs.Limits.{operationLimit, wordLimit, portWordLimit}
 use Rattle.base.proofs.Bools.{and-inv, and-both}
 use Rattle.bytecode.specs.Run.{Instruction, BoardList, execute, executeAll, run}
 use Rattle.bytecode.specs.Code.{guard, then, addresses, allLess, Listed, readInstructions, readOutputs, withinLimits, readCounts, marked, decode}
@@ -25,8 +26,8 @@ use Rattle.runner.specs.declared.Checked.{Checked}
 use Rattle.runner.specs.declared.Checked.the-variants.{Formed, Malformed}
 use Rattle.runner.specs.declared.Ran.{Ran}
 use Rattle.runner.specs.declared.Ran.the-variants.{Done, Refused}
-use Rattle.executor.specs.Execution.{Canonical, CanonicalBefore}
-use Rattle.executor.specs.Listing.{afterAll, Listing}
+use Rattle.executor.specs.Execution.{Canonical}
+use Rattle.executor.specs.Instructions.{CanonicalBefore, afterAll, Instructions}
 use Rattle.executor.proofs.Canonical.{after-sets}
 use Rattle.executor.proofs.Loop.{words-grow}
 use Rattle.runner.specs.Checks.{countsOf, checkedOf}
@@ -47,16 +48,16 @@ pub record Decoded (s : List ℕ) (c : Counts) : Type 0 where
   pub fits : 2 * c .outputs ≤ length s
   pub below : Each (λ a. a < c .words) (addresses (c .outputs) s (length s - 2 * c .outputs))
   pub first : c .arguments ≤ c .words
-  pub small : c .outputs ≤ 128
+  pub small : c .outputs ≤ portWordLimit
 
 of-counts : (s : List ℕ) (a o n w : ℕ) (b : BoardList) (c : Counts) → readCounts s a o n w ≡ some b → decode s ≡ some b
     → countsOf b ≡ c → Decoded s c
 of-counts s a o n w b c e d q =
     let (t, e1) = guard-inv (withinLimits a o n w) _ b e in
-    let (t1, l5) = and-inv (leb a 128 && leb 1 o && leb o 128 && leb n 4096) (leb w 8192) t in
-    let (t2, l4) = and-inv (leb a 128 && leb 1 o && leb o 128) (leb n 4096) t1 in
-    let (t3, l3) = and-inv (leb a 128 && leb 1 o) (leb o 128) t2 in
-    let few : o ≤ 128 = leb-true o 128 l3 in
+    let (t1, l5) = and-inv (leb a portWordLimit && leb 1 o && leb o portWordLimit && leb n operationLimit) (leb w wordLimit) t in
+    let (t2, l4) = and-inv (leb a portWordLimit && leb 1 o && leb o portWordLimit) (leb n operationLimit) t1 in
+    let (t3, l3) = and-inv (leb a portWordLimit && leb 1 o) (leb o portWordLimit) t2 in
+    let few : o ≤ portWordLimit = leb-true o portWordLimit l3 in
     let (l, el, e2) = then-inv (readInstructions n s 12 a) _ b e1 in
     let (u1, e3) = guard-inv (eqb (l .words) w) _ b e2 in
     let (u2, e4) = guard-inv (eqb (l .at + 2 * o) (length s)) _ b e3 in
@@ -217,9 +218,9 @@ copied {m} work arguments {n} e l r a f =
     (subst (λ (k : ℕ). CanonicalBefore k (sets work 0 arguments)) z
     (after-sets arguments work 0 (each-canonical arguments a f) (omega arith) (λ i h. absurd (omega arith))))
 
-pub listing : (s : List ℕ) (c : Counts) (m : List ℕ) → Decoded s c → c .words ≤ length m → CanonicalBefore (c .arguments) m
-    → Listing s (c .instructions) (c .arguments) m
-listing s c m d h k = let w = d .same-words in record { listed = d .listed; reads = d .reads; room = omega arith; canonical = k }
+pub instructions-ready : (s : List ℕ) (c : Counts) (m : List ℕ) → Decoded s c → c .words ≤ length m → CanonicalBefore (c .arguments) m
+    → Instructions s (c .instructions) (c .arguments) m
+instructions-ready s c m d h k = let w = d .same-words in record { listed = d .listed; reads = d .reads; room = omega arith; canonical = k }
 
 each-less : (xs : List ℕ) (m n : ℕ) → m ≤ n → Each (λ a. a < m) xs → Each (λ a. a < n) xs
 each-less [] m n h e = tt

@@ -11,7 +11,7 @@ use lib.Dec.{leb, ltb, eqb}
 use lib.ListN.{length}
 use Rattle.ports.specs.declared.Ports.{Ports}
 use Rattle.ports.specs.Kinds.{Kind, unknown, addition, subtraction, multiplication, division, constant, constvec, constmat, composevector, vectorfromscalar, decomposevector, composematrix, matrixfromcolumns, matrixfromrows, dot, cross, matvecmultiplication, transpose, min, max, abs, fmod, select, clamp, call, kindOf}
-use Rattle.ports.specs.Ports.{width, widths, gives, executable, typeFits, legalInstruction}
+use Rattle.ports.specs.Ports.{width, widths, rows, gives, executable, typeFits, legalInstruction}
 use Rattle.ports.proofs.Laws.{no-kind}
 use Rattle.base.specs.Bytes.{byte, u16}
 use Rattle.base.specs.Outcome.{Part}
@@ -19,11 +19,11 @@ use Rattle.bytecode.specs.Run.{Instruction, BoardList}
 use Rattle.bytecode.specs.Code.{guard, then, addresses, allLess, readInstruction, nextWord, Listed, readInstructions, readOutputs, withinLimits, readCounts, marked, decode}
 use Rattle.base.proofs.Lists.{some-is}
 use Rattle.bytecode.proofs.Decoded.{then-inv, addresses-length}
-use Rattle.executor.specs.declared.Next.{Next}
+use Rattle.runner.specs.declared.Next.{Next}
 use Rattle.executor.specs.Execution.{endOf, wordsGiven}
 use Rattle.executor.proofs.Loop.{Read, read-inv}
-use Rattle.runner.specs.declared.Passed.{Passed}
-use Rattle.runner.specs.declared.Passed.the-variants.{Here, Wrong}
+use Rattle.runner.specs.declared.Progress.{Progress}
+use Rattle.runner.specs.declared.Progress.the-variants.{Passed, Refused}
 use Rattle.runner.specs.declared.Counts.{Counts}
 use Rattle.runner.specs.declared.Checked.{Checked}
 use Rattle.runner.specs.declared.Checked.the-variants.{Formed, Malformed}
@@ -77,7 +77,7 @@ unfolding guard
 guard-none true = refl
 guard-none false = refl
 
-none-high : (s : List ℕ) (at result : ℕ) → 25 ≤ byte s at → readInstruction s at result ≡ none
+none-high : (s : List ℕ) (at result : ℕ) → length rows ≤ byte s at → readInstruction s at result ≡ none
 unfolding guard
 none-high s at result h =
     let e : legalInstruction (kindOf (byte s at)) (byte s (at + 1)) ≡ false =
@@ -86,7 +86,7 @@ none-high s at result h =
 
 -- ---- the loop
 
-after-none : (n : ℕ) (s : List ℕ) (at result : ℕ) → readInstruction s at result ≡ none → endedOf (readInstructions (suc n) s at result) ≡ Wrong
+after-none : (n : ℕ) (s : List ℕ) (at result : ℕ) → readInstruction s at result ≡ none → endedOf (readInstructions (suc n) s at result) ≡ Refused
 unfolding endedOf then
 after-none n s at result e = rw e
 
@@ -102,12 +102,12 @@ unfolding then
 after-some n s at result i e = rw e (inner (readInstructions n s (i .next) (nextWord result (i .it))) (i .it))
 
 -- what the check of one instruction tells
-wrong-is : (result : ℕ) (o : Option (Part Instruction)) → passedOf result o ≡ Wrong → o ≡ none
+wrong-is : (result : ℕ) (o : Option (Part Instruction)) → passedOf result o ≡ Refused → o ≡ none
 unfolding passedOf
 wrong-is result none e = refl
 wrong-is result (some i) e = let z : _≡_ {A = ℕ} 0 1 = cc in absurd (omega arith)
 
-here-is : (result : ℕ) (o : Option (Part Instruction)) (x : Next) → passedOf result o ≡ Here x
+here-is : (result : ℕ) (o : Option (Part Instruction)) (x : Next) → passedOf result o ≡ Passed x
     → (i : Part Instruction) × (o ≡ some i) × (x .at ≡ i .next) × (x .result ≡ nextWord result (i .it))
 unfolding passedOf
 here-is result none x e = let z : _≡_ {A = ℕ} 0 1 = cc in absurd (omega arith)
@@ -115,17 +115,17 @@ here-is result (some i) x e =
     let q : record { at = i .next; result = nextWord result (i .it) } ≡ x = cc in
     (i, refl, sym (ap (λ (y : Next). y .at) q), sym (ap (λ (y : Next). y .result) q))
 
-pub stop : (left : ℕ) (s : List ℕ) (at result : ℕ) → 0 < left → readInstruction s at result ≡ none → Wrong ≡ endedOf (readInstructions left s at result)
+pub stop : (left : ℕ) (s : List ℕ) (at result : ℕ) → 0 < left → readInstruction s at result ≡ none → Refused ≡ endedOf (readInstructions left s at result)
 stop zero s at result h e = absurd (omega arith)
 stop (suc n) s at result h e = sym (after-none n s at result e)
 
-pub stop-short : (left : ℕ) (s : List ℕ) (at result : ℕ) → 0 < left → length s < at + 2 → Wrong ≡ endedOf (readInstructions left s at result)
+pub stop-short : (left : ℕ) (s : List ℕ) (at result : ℕ) → 0 < left → length s < at + 2 → Refused ≡ endedOf (readInstructions left s at result)
 stop-short left s at result h l = stop left s at result h (none-short s at result l)
 
-pub stop-high : (left : ℕ) (s : List ℕ) (at result : ℕ) → 0 < left → 25 ≤ byte s at → Wrong ≡ endedOf (readInstructions left s at result)
+pub stop-high : (left : ℕ) (s : List ℕ) (at result : ℕ) → 0 < left → length rows ≤ byte s at → Refused ≡ endedOf (readInstructions left s at result)
 stop-high left s at result h l = stop left s at result h (none-high s at result l)
 
-pub stop-wrong : (left : ℕ) (s : List ℕ) (at result : ℕ) → 0 < left → passedOf result (readInstruction s at result) ≡ Wrong → Wrong ≡ endedOf (readInstructions left s at result)
+pub stop-wrong : (left : ℕ) (s : List ℕ) (at result : ℕ) → 0 < left → passedOf result (readInstruction s at result) ≡ Refused → Refused ≡ endedOf (readInstructions left s at result)
 stop-wrong left s at result h e = stop left s at result h (wrong-is result (readInstruction s at result) e)
 
 pub record Stepped (left : ℕ) (s : List ℕ) (at result : ℕ) (x : Next) : Type 0 where
@@ -133,7 +133,7 @@ pub record Stepped (left : ℕ) (s : List ℕ) (at result : ℕ) (x : Next) : Ty
   pub next-at : x .at ≤ length s
   pub next-result : x .result ≤ result + 16
 
-pub go-on : (left : ℕ) (s : List ℕ) (at result : ℕ) (x : Next) → 0 < left → passedOf result (readInstruction s at result) ≡ Here x → Stepped left s at result x
+pub go-on : (left : ℕ) (s : List ℕ) (at result : ℕ) (x : Next) → 0 < left → passedOf result (readInstruction s at result) ≡ Passed x → Stepped left s at result x
 go-on zero s at result x h e = absurd (omega arith)
 go-on (suc n) s at result x h e =
     let (i, ei, ea, er) = here-is result (readInstruction s at result) x e in
@@ -148,7 +148,7 @@ go-on (suc n) s at result x h e =
       next-result = omega arith;
     }
 
-pub ended : (left : ℕ) (s : List ℕ) (at result : ℕ) → left ≡ 0 → Here (record { at = at; result = result }) ≡ endedOf (readInstructions left s at result)
+pub ended : (left : ℕ) (s : List ℕ) (at result : ℕ) → left ≡ 0 → Passed (record { at = at; result = result }) ≡ endedOf (readInstructions left s at result)
 unfolding endedOf
 ended zero s at result z = refl
 ended (suc n) s at result z = absurd (omega arith)
@@ -174,19 +174,19 @@ count-is (suc n) s at next l e =
     let (r, er, e2) = then-inv (readInstructions n s (i .next) (nextWord next (i .it))) _ l e1 in
     sym (ap (λ (x : Listed). length (x .instructions)) (some-is e2)) ∙ ap suc (count-is n s (i .next) (nextWord next (i .it)) r er)
 
-wrong-end : (o : Option Listed) → endedOf o ≡ Wrong → o ≡ none
+wrong-end : (o : Option Listed) → endedOf o ≡ Refused → o ≡ none
 unfolding endedOf
 wrong-end none e = refl
 wrong-end (some l) e = let z : _≡_ {A = ℕ} 0 1 = cc in absurd (omega arith)
 
-pub here-end : (o : Option Listed) (x : Next) → endedOf o ≡ Here x → (l : Listed) × (o ≡ some l) × (x .at ≡ l .at) × (x .result ≡ l .words)
+pub here-end : (o : Option Listed) (x : Next) → endedOf o ≡ Passed x → (l : Listed) × (o ≡ some l) × (x .at ≡ l .at) × (x .result ≡ l .words)
 unfolding endedOf
 here-end none x e = let z : _≡_ {A = ℕ} 0 1 = cc in absurd (omega arith)
 here-end (some l) x e =
     let q : record { at = l .at; result = l .words } ≡ x = cc in
     (l, refl, sym (ap (λ (y : Next). y .at) q), sym (ap (λ (y : Next). y .result) q))
 
-pub end-within : (n : ℕ) (s : List ℕ) (first : ℕ) (x : Next) → 12 ≤ length s → endedOf (readInstructions n s 12 first) ≡ Here x → x .at ≤ length s
+pub end-within : (n : ℕ) (s : List ℕ) (first : ℕ) (x : Next) → 12 ≤ length s → endedOf (readInstructions n s 12 first) ≡ Passed x → x .at ≤ length s
 end-within n s first x h e =
     let (l, el, ea, er) = here-end (readInstructions n s 12 first) x e in
     let w : l .at ≤ length s = at-within n s 12 first l h el in
@@ -222,11 +222,11 @@ module _ (s : List ℕ) where
         opened : checkedOf (decode s) ≡ checkedOf (then (readInstructions (u16 s 8) s 12 (byte s 5)) (readOutputs s (byte s 5) (byte s 6) (u16 s 10)))
         opened = read ∙ on-check _ limits
 
-        pub no-instructions : endedOf (readInstructions (u16 s 8) s 12 (byte s 5)) ≡ Wrong → Malformed ≡ checkedOf (decode s)
+        pub no-instructions : endedOf (readInstructions (u16 s 8) s 12 (byte s 5)) ≡ Refused → Malformed ≡ checkedOf (decode s)
         unfolding then checkedOf
         no-instructions e = sym (opened ∙ rw (wrong-end (readInstructions (u16 s 8) s 12 (byte s 5)) e))
 
-        module _ (x : Next) (e : endedOf (readInstructions (u16 s 8) s 12 (byte s 5)) ≡ Here x) where
+        module _ (x : Next) (e : endedOf (readInstructions (u16 s 8) s 12 (byte s 5)) ≡ Passed x) where
           abbrev the-list : Listed
           the-list = here-end (readInstructions (u16 s 8) s 12 (byte s 5)) x e .0
 

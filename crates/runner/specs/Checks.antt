@@ -1,5 +1,5 @@
 -- The check of a code: its counts, or that it is not well formed.
-use Prim.Native.Nat.{ℕ, _+_, _≤_}
+use Prim.Native.Nat.{ℕ, _+_, _^_, _≤_, _<_}
 use mathlib.Core.Path.{_≡_}
 use mathlib.Core.List.{List}
 use mathlib.Core.Option.{Option, none, some}
@@ -16,8 +16,8 @@ use Rattle.bytecode.specs.WellFormed.{Codes}
 use Rattle.runner.specs.declared.Counts.{Counts}
 use Rattle.runner.specs.declared.Checked.{Checked}
 use Rattle.runner.specs.declared.Checked.the-variants.{Formed, Malformed}
-use Rattle.runner.specs.declared.Passed.{Passed}
-use Rattle.runner.specs.declared.Passed.the-variants.{Here, Wrong}
+use Rattle.runner.specs.declared.Progress.{Progress}
+use Rattle.runner.specs.declared.Progress.the-variants.{Passed, Refused}
 
 -- the counts of a board list
 abbrev pub countsOf : BoardList → Counts
@@ -38,16 +38,16 @@ headerCounts s = record { arguments = byte s 5; outputs = byte s 6; instructions
 
 -- what stands behind an instruction, and behind all of them
 
-unfoldable pub passedOf : ℕ → Option (Part Instruction) → Passed
-passedOf result none = Wrong
-passedOf result (some i) = Here (record { at = i .next; result = nextWord result (i .it) })
+unfoldable pub passedOf : ℕ → Option (Part Instruction) → Progress
+passedOf result none = Refused
+passedOf result (some i) = Passed (record { at = i .next; result = nextWord result (i .it) })
 
-unfoldable pub endedOf : Option Listed → Passed
-endedOf none = Wrong
-endedOf (some l) = Here (record { at = l .at; result = l .words })
+unfoldable pub endedOf : Option Listed → Progress
+endedOf none = Refused
+endedOf (some l) = Passed (record { at = l .at; result = l .words })
 
 -- an instruction whose two first bytes are there, and the row of its kind
 pub record Begun (s : List ℕ) (at result : ℕ) (row : Ports) : Type 0 where
   pub bytes : at + 2 ≤ length s
   pub row-is : row ≡ portsOf (kindOf (byte s at))
-  pub result-small : result ≤ 20000000
+  pub result-small : result < 2 ^ 32

@@ -4,7 +4,7 @@ ghost use mathlib.Core.List.{map};
 ghost use Prim.Native.Nat.{_+_, _*_, _≤_, _<_};
 ghost use lib.ListN.{length, replicate};
 ghost use lib.Seq.{sets};
-ghost use Rattle.ports.specs.Ports.{types, constantIn};
+ghost use Rattle.ports.specs.Ports.{types};
 ghost use Rattle.base.specs.Lists.{wordAt, every};
 ghost use Rattle.value.specs.Values.{constantWord, argumentWord};
 ghost use Rattle.base.specs.Bytes.{constants};
@@ -13,8 +13,6 @@ ghost use Rattle.bytecode.specs.Code.{addresses, allBelow, allLess, readInstruc
 ghost use Rattle.bytecode.specs.Answers.{ran};
 ghost use Rattle.runner.specs.Checks.{passedOf, endedOf, checkedOf, Exactly, Begun, headerCounts};
 ghost use Rattle.runner.specs.Runs.{Answered, Refused18, Runnable, OutputsReady, memoryOf, outputsOf};
-use executor::Next;
-use ports::Form;
 use ports::Ports;
 
 // The counts that a code says.
@@ -37,27 +35,19 @@ pub enum Ran {
     Refused(u8, usize),
 }
 
-// What stands behind the instructions that are right.
-pub enum Passed {
-    Here(Next),
-    Wrong,
+// Where the next instruction stands, and where its result goes.
+pub struct Next {
+    pub at: usize,
+    pub result: usize,
+}
+
+// What follows the instructions that passed.
+pub enum Progress {
+    Passed(Next),
+    Refused,
 }
 
 // ---- the check of a code
-
-// The words of the constant of a kind with this row.
-fn constant_words(row: Ports) -> usize
-    ensures { λ r. ⌜ r ≡ constantIn (row .form) (row .words) ⌝ }
-    ensures bounded { λ r. ⌜ r < 256 ⌝ }
-{
-    let form = row.form;
-    match form {
-        Form::Absent => 0,
-        Form::Constant => row.words as usize,
-        Form::References => 0,
-        Form::Call => 0,
-    }
-}
 
 fn constants_allowed(s: &[u8], from: usize, count: usize) -> bool
     requires { ⌜ from + 8 * count ≤ length (now s) ⌝ }
@@ -66,7 +56,7 @@ fn constants_allowed(s: &[u8], from: usize, count: usize) -> bool
     let mut at = from;
     let mut left = count;
     while 0 < left {
-        if !value::constant_word(executor::u64_at(s, at)) {
+        if !value::constant_word(base::u64_at(s, at)) {
             return false;
         }
         at += 8;
@@ -84,7 +74,7 @@ fn operands_below(s: &[u8], from: usize, count: usize, t: u8, result: usize) -> 
     let mut at = from;
     let mut left = count;
     while 0 < left {
-        if result < executor::u16_at(s, at) + width {
+        if result < base::u16_at(s, at) + width {
             return false;
         }
         at += 2;
@@ -101,7 +91,7 @@ fn all_below(s: &[u8], at: usize, count: usize, first: u8, rest: u8, result: usi
     if count == 0 {
         return true;
     }
-    if result < executor::u16_at(s, at) + ports::width(first) {
+    if result < base::u16_at(s, at) + ports::width(first) {
         return false;
     }
     operands_below(s, at + 2, count - 1, rest, result)
@@ -114,7 +104,7 @@ fn outputs_less(s: &[u8], from: usize, count: usize, words: usize) -> bool
     let mut at = from;
     let mut left = count;
     while 0 < left {
-        if words <= executor::u16_at(s, at) {
+        if words <= base::u16_at(s, at) {
             return false;
         }
         at += 2;
@@ -124,41 +114,41 @@ fn outputs_less(s: &[u8], from: usize, count: usize, words: usize) -> bool
 }
 
 // One instruction, its kind byte at `at`, by its kind's row.
-fn check_instruction(s: &[u8], at: usize, result: usize, row: Ports) -> Passed
+fn check_instruction(s: &[u8], at: usize, result: usize, row: Ports) -> Progress
     requires { ⌜ Begun (now s) at result row ⌝ }
     ensures { λ r. ⌜ r ≡ passedOf result (readInstruction (now (s .entry)) at result) ⌝ }
 {
     let form = row.form;
     if !ports::executable(form) {
-        return Passed::Wrong;
+        return Progress::Refused;
     }
     let t = s[at + 1];
     if !ports::type_fits(row, t) {
-        return Passed::Wrong;
+        return Progress::Refused;
     }
     let p = at + 2;
     let n = row.operands as usize;
-    let c = constant_words(row);
+    let c = ports::constant_words(row);
     let size = 2 * n + 8 * c;
     if s.len() - p < size {
-        return Passed::Wrong;
+        return Progress::Refused;
     }
     let first = ports::own(t, row.first);
     let rest = ports::own(t, row.rest);
     if !all_below(s, p, n, first, rest, result) {
-        return Passed::Wrong;
+        return Progress::Refused;
     }
     if !constants_allowed(s, p + 2 * n, c) {
-        return Passed::Wrong;
+        return Progress::Refused;
     }
-    Passed::Here(Next {
+    Progress::Passed(Next {
         at: p + size,
         result: result + ports::result_words(row, t),
     })
 }
 
 // All instructions, from the byte 12 and the word `first` on: what stands behind them.
-fn check_instructions(s: &[u8], count: usize, first: usize) -> Passed
+fn check_instructions(s: &[u8], count: usize, first: usize) -> Progress
     requires { ⌜ (12 ≤ length (now s)) × (count ≤ 65535) × (first ≤ 255) ⌝ }
     ensures { λ r. ⌜ r ≡ endedOf (readInstructions count (now (s .entry)) 12 first) ⌝ }
 {
@@ -168,21 +158,21 @@ fn check_instructions(s: &[u8], count: usize, first: usize) -> Passed
     let mut left = count;
     while 0 < left {
         if s.len() - at < 2 {
-            return Passed::Wrong;
+            return Progress::Refused;
         }
-        let k = executor::byte_at(s, at);
-        if 25 <= k {
-            return Passed::Wrong;
+        let k = base::byte_at(s, at);
+        if rows.len() <= k {
+            return Progress::Refused;
         }
         let row = rows[k];
-        let Passed::Here(next) = check_instruction(s, at, result, row) else {
-            return Passed::Wrong;
+        let Progress::Passed(next) = check_instruction(s, at, result, row) else {
+            return Progress::Refused;
         };
         at = next.at;
         result = next.result;
         left -= 1;
     }
-    Passed::Here(Next { at, result })
+    Progress::Passed(Next { at, result })
 }
 
 // Mark, version and zero byte.
@@ -199,7 +189,7 @@ fn marked(s: &[u8]) -> bool
     if s[2] != 0x52 {
         return false;
     }
-    if executor::u16_at(s, 3) != 1 {
+    if base::u16_at(s, 3) != 1 {
         return false;
     }
     s[7] == 0
@@ -209,10 +199,10 @@ fn header_counts(s: &[u8]) -> Counts
     requires { ⌜ 12 ≤ length (now s) ⌝ }
     ensures { λ r. ⌜ (r ≡ headerCounts (now (s .entry))) × (r .arguments ≤ 255) × (r .outputs ≤ 255) × (r .instructions ≤ 65535) ⌝ }
 {
-    let arguments = executor::byte_at(s, 5);
-    let outputs = executor::byte_at(s, 6);
-    let instructions = executor::u16_at(s, 8);
-    let words = executor::u16_at(s, 10);
+    let arguments = base::byte_at(s, 5);
+    let outputs = base::byte_at(s, 6);
+    let instructions = base::u16_at(s, 8);
+    let words = base::u16_at(s, 10);
     Counts {
         arguments,
         outputs,
@@ -224,19 +214,19 @@ fn header_counts(s: &[u8]) -> Counts
 fn within_limits(c: Counts) -> bool
     ensures { λ r. ⌜ r ≡ withinLimits (c .arguments) (c .outputs) (c .instructions) (c .words) ⌝ }
 {
-    if 128 < c.arguments {
+    if base::PORT_WORD_LIMIT < c.arguments {
         return false;
     }
     if c.outputs < 1 {
         return false;
     }
-    if 128 < c.outputs {
+    if base::PORT_WORD_LIMIT < c.outputs {
         return false;
     }
-    if 4096 < c.instructions {
+    if base::OPERATION_LIMIT < c.instructions {
         return false;
     }
-    c.words <= 8192
+    c.words <= base::WORD_LIMIT
 }
 
 // Whether a code is well formed, and its counts.
@@ -254,7 +244,7 @@ pub fn check_code(s: &[u8]) -> Checked
     if !within_limits(counts) {
         return Checked::Malformed;
     }
-    let Passed::Here(next) = check_instructions(s, counts.instructions, counts.arguments) else {
+    let Progress::Passed(next) = check_instructions(s, counts.instructions, counts.arguments) else {
         return Checked::Malformed;
     };
     let at = next.at;
@@ -302,7 +292,7 @@ fn copy_outputs(s: &[u8], from: usize, count: usize, work: &[u64], out: &mut [u6
 {
     let mut i = 0;
     while i < count {
-        let a = executor::u16_at(s, from + 2 * i);
+        let a = base::u16_at(s, from + 2 * i);
         out[i] = work[a];
         i += 1;
     }

@@ -9,7 +9,7 @@ ghost use Rattle.ports.specs.Ports.{width};
 ghost use Rattle.value.specs.Values as Values;
 ghost use Rattle.value.specs.Values.{vec, typeOf, word, rowWords, wordsOf, floatAt, vecAt, rowAt, matAt, valueAt, constantWord, argumentWord};
 ghost use Rattle.value.specs.Steps as Steps;
-ghost use Rattle.value.specs.Steps.{stepOf, selected, clamped, zeroVec, zeroRow, zeroMat, scalar, vector, matrix, eachVec, eachRow, eachMat, components, dotProduct, crossProduct, rowTimes, matrixTimes, fromColumns, fromRows, transposed};
+ghost use Rattle.value.specs.Steps.{stepOf, zero64, selected, clamped, zeroVec, zeroRow, zeroMat, scalar, vector, matrix, eachVec, eachRow, eachMat, components, dotProduct, crossProduct, rowTimes, matrixTimes, fromColumns, fromRows, transposed};
 
 pub struct Vec3 {
     pub x: f64,
@@ -379,6 +379,12 @@ pub fn step_mat(o: Operator, a: Mat4, b: Mat4, c: Mat4, d: Mat4) -> Mat4
 }
 
 // ---- a value as a scalar, a vector, a matrix; zeros where it is of another type
+
+pub fn zero() -> f64
+    ensures { λ r. ⌜ r ≡ zero64 ⌝ }
+{
+    0.0
+}
 
 pub fn zero_vec() -> Vec3
     ensures { λ r. ⌜ r ≡ zeroVec ⌝ }

@@ -4,29 +4,51 @@ use Rattle.executor.proofs.Arms.{with-type, of-type, last-type}
 use Rattle.executor.proofs.execute.Statement.{statement}
 use Rattle.executor.proofs.execute.Tie as tie
 
+-- ---- places: the bytes read, and the entry
+
+abbrev known : tie.After-shared-slice-known3 → tie.After-slice-known
+known p = p .before .before
+
+abbrev start : tie.After-shared-slice-known3 → tie.Start
+start p = known p .before .before
+
+-- ---- needs
+
 execute-plain-requires : tie.Need-execute-plain-requires
-execute-plain-requires c κs = with-type (c .before .match .keys1) (c .before .before .before .before .before .before .pre)
+execute-plain-requires c κs = let k = c .before in with-type (k .match .keys1) (start (k .before) .pre)
 
 returns : tie.Need-returns
-returns c = of-type (c .before .before .before .before .match .keys1) (c .before .before .execute-plain .ensures)
+returns c =
+    let w = c .before .before in
+    of-type (w .before .before .match .keys1) (w .execute-plain .ensures)
 
 execute-scalars-requires : tie.Need-execute-scalars-requires
-execute-scalars-requires c κs = with-type (c .before .match .keys2) (c .before .before .before .before .before .before .pre)
+execute-scalars-requires c κs = let k = c .before in with-type (k .match .keys2) (start (k .before) .pre)
 
 returns-2 : tie.Need-returns-2
-returns-2 c = of-type (c .before .before .before .before .match .keys2) (c .before .before .execute-scalars .ensures)
+returns-2 c =
+    let w = c .before .before in
+    of-type (w .before .before .match .keys2) (w .execute-scalars .ensures)
 
 execute-vectors-requires : tie.Need-execute-vectors-requires
-execute-vectors-requires c κs = with-type (c .before .match .keys3) (c .before .before .before .before .before .before .pre)
+execute-vectors-requires c κs = let k = c .before in with-type (k .match .keys3) (start (k .before) .pre)
 
 returns-3 : tie.Need-returns-3
-returns-3 c = of-type (c .before .before .before .before .match .keys3) (c .before .before .execute-vectors .ensures)
+returns-3 c =
+    let w = c .before .before in
+    of-type (w .before .before .match .keys3) (w .execute-vectors .ensures)
 
 execute-matrices-requires : tie.Need-execute-matrices-requires
-execute-matrices-requires c κs = with-type (last-type (c .before .before .before .before .before .before .pre) (c .before .match .rest)) (c .before .before .before .before .before .before .pre)
+execute-matrices-requires c κs =
+    let k = c .before in
+    let h = start (k .before) .pre in
+    with-type (last-type h (k .match .rest)) h
 
 returns-4 : tie.Need-returns-4
-returns-4 c = of-type (last-type (c .before .before .before .before .before .before .before .before .before .pre) (c .before .before .before .before .match .rest)) (c .before .before .execute-matrices .ensures)
+returns-4 c =
+    let w = c .before .before in
+    let k = w .before .before in
+    of-type (last-type (start (k .before) .pre) (k .match .rest)) (w .execute-matrices .ensures)
 
 pub execute-spec : {M : Type 1} → statement M
 execute-spec =

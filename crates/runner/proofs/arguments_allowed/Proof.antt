@@ -18,6 +18,19 @@ Inv-loop xs i₀ i = (every argumentWord (drop i xs) ≡ every argumentWord xs) 
 abbrev μ-loop : tie.MeasureT-loop
 μ-loop xs i₀ i = length xs - i
 
+-- ---- places
+
+abbrev start : tie.At-loop Inv-loop μ-loop → tie.Start Inv-loop μ-loop
+start p = p .before .before
+
+abbrev at-loop : tie.In-loop Inv-loop μ-loop → tie.At-loop Inv-loop μ-loop
+at-loop p = p .before
+
+abbrev in-turn : tie.After-argument-word Inv-loop μ-loop → tie.In-loop Inv-loop μ-loop
+in-turn p = p .before .before
+
+-- ---- needs
+
 loop-holds : tie.Need-loop-holds Inv-loop μ-loop
 loop-holds c = (refl, omega arith)
 
@@ -29,9 +42,13 @@ shared-slice-read-argument-word c = search needs
 
 returns : tie.Need-returns Inv-loop μ-loop
 returns c =
-    let l = c .before .before .before .before .loop in
-    let xs = now (c .before .before .before .before .before .before .args .xs) in
-    sym (every-off argumentWord xs (l .i) (c .before .before .before .loop-test .taken) (sym (c .before .argument-word .ensures) ∙ not-true _ (c .if1 .taken))) ∙ l .inv .0
+    let p1 = c .before in
+    let p2 = in-turn p1 in
+    let p3 = at-loop p2 in
+    let p4 = start p3 in
+    let l = p3 .loop in
+    let xs = now (p4 .args .xs) in
+    sym (every-off argumentWord xs (l .i) (p2 .loop-test .taken) (sym (p1 .argument-word .ensures) ∙ not-true _ (c .if1 .taken))) ∙ l .inv .0
 
 add-i : tie.Need-add-i Inv-loop μ-loop
 add-i c = search needs
@@ -41,9 +58,13 @@ loop-less c = search needs
 
 loop-again : tie.Need-loop-again Inv-loop μ-loop
 loop-again c =
-    let l = c .before .before .before .before .loop in
-    let xs = now (c .before .before .before .before .before .before .args .xs) in
-    (sym (every-on argumentWord xs (l .i) (c .before .before .before .loop-test .taken) (sym (c .before .argument-word .ensures) ∙ not-false _ (c .if1 .left))) ∙ l .inv .0, omega (arith, c .before .before .before .loop-test .taken))
+    let p1 = c .before in
+    let p2 = in-turn p1 in
+    let p3 = at-loop p2 in
+    let p4 = start p3 in
+    let l = p3 .loop in
+    let xs = now (p4 .args .xs) in
+    (sym (every-on argumentWord xs (l .i) (p2 .loop-test .taken) (sym (p1 .argument-word .ensures) ∙ not-false _ (c .if1 .left))) ∙ l .inv .0, omega (arith, p2 .loop-test .taken))
 
 returns-2 : tie.Need-returns-2 Inv-loop μ-loop
 returns-2 c =

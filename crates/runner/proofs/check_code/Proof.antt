@@ -12,7 +12,7 @@ use Rattle.base.specs.Bytes.{byte, u16, Bytes}
 use Rattle.bytecode.specs.Code.{addresses, allLess, readInstructions, withinLimits, marked}
 use Rattle.runner.specs.declared.Counts.{Counts}
 use Rattle.runner.specs.declared.Checked.the-variants.{Formed}
-use Rattle.runner.specs.declared.Passed.the-variants.{Here}
+use Rattle.runner.specs.declared.Progress.the-variants.{Passed}
 use Rattle.runner.specs.Checks.{endedOf, headerCounts}
 use Rattle.runner.proofs.Passing.{no-header, no-mark, over-limits, no-instructions, other-words, other-length, bad-output, formed, end-within}
 use Rattle.runner.proofs.Exact.{check-exact}
@@ -84,7 +84,7 @@ marked-is p = mark-is (mark (limits (p .before .before) .before .before))
 within-is : (p : tie.After-next) → let s = s4 p in withinLimits (byte s 5) (byte s 6) (u16 s 8) (u16 s 10) ≡ true
 within-is p = let q = limits (p .before .before) in limits-are (q .before) ∙ not-false _ (q .if3 .left)
 
-ended-is : (p : tie.After-next) → let s = s4 p in endedOf (readInstructions (u16 s 8) s 12 (byte s 5)) ≡ Here (p .next .given .0 .0)
+ended-is : (p : tie.After-next) → let s = s4 p in endedOf (readInstructions (u16 s 8) s 12 (byte s 5)) ≡ Passed (p .next .given .0 .0)
 ended-is p = ended (p .before .before) ∙ p .next .given .1
 
 -- the outputs follow, with the counts of the header

@@ -20,6 +20,22 @@ Inv-loop s from count at₀ left₀ at left = (every constantWord (constants lef
 abbrev μ-loop : tie.MeasureT-loop
 μ-loop s from count at₀ left₀ at left = left
 
+-- ---- places
+
+abbrev start : tie.At-loop Inv-loop μ-loop → tie.Start Inv-loop μ-loop
+start p = p .before .before
+
+abbrev at-loop : tie.In-loop Inv-loop μ-loop → tie.At-loop Inv-loop μ-loop
+at-loop p = p .before
+
+abbrev in-turn : tie.After-u64-at Inv-loop μ-loop → tie.In-loop Inv-loop μ-loop
+in-turn p = p .before
+
+abbrev after-u64-at : tie.After-constant-word Inv-loop μ-loop → tie.After-u64-at Inv-loop μ-loop
+after-u64-at p = p .before
+
+-- ---- needs
+
 loop-holds : tie.Need-loop-holds Inv-loop μ-loop
 loop-holds c = (refl, search needs)
 
@@ -28,12 +44,22 @@ u64-at-requires c κs = omega (arith, c .before .loop .inv .1, c .loop-test .tak
 
 returns : tie.Need-returns Inv-loop μ-loop
 returns c =
-    let a = c .before .before .before .before .before .before .args in
-    let l = c .before .before .before .before .loop in
-    sym (off (constants-walk (now (a .s))) (l .left) (l .at) (c .before .before .before .loop-test .taken) (ap constantWord (sym (c .before .before .u64-at .ensures)) ∙ sym (c .before .constant-word .ensures) ∙ not-true _ (c .if1 .taken))) ∙ l .inv .0
+    let p1 = c .before in
+    let p2 = after-u64-at p1 in
+    let p3 = in-turn p2 in
+    let p4 = at-loop p3 in
+    let p5 = start p4 in
+    let a = p5 .args in
+    let l = p4 .loop in
+    sym (off (constants-walk (now (a .s))) (l .left) (l .at) (p3 .loop-test .taken) (ap constantWord (sym (p2 .u64-at .ensures)) ∙ sym (p1 .constant-word .ensures) ∙ not-true _ (c .if1 .taken))) ∙ l .inv .0
 
 add-at : tie.Need-add-at Inv-loop μ-loop
-add-at c = omega (arith, c .before .before .before .before .loop .inv .1, c .before .before .before .loop-test .taken)
+add-at c =
+    let p1 = c .before in
+    let p2 = after-u64-at p1 in
+    let p3 = in-turn p2 in
+    let p4 = at-loop p3 in
+    omega (arith, p4 .loop .inv .1, p3 .loop-test .taken)
 
 sub-left : tie.Need-sub-left Inv-loop μ-loop
 sub-left c = omega (arith, c .before .before .before .loop-test .taken)
@@ -43,9 +69,14 @@ loop-less c = omega (arith, c .before .before .before .loop-test .taken)
 
 loop-again : tie.Need-loop-again Inv-loop μ-loop
 loop-again c =
-    let a = c .before .before .before .before .before .before .args in
-    let l = c .before .before .before .before .loop in
-    (sym (on (constants-walk (now (a .s))) (l .left) (l .at) (c .before .before .before .loop-test .taken) (ap constantWord (sym (c .before .before .u64-at .ensures)) ∙ sym (c .before .constant-word .ensures) ∙ not-false _ (c .if1 .left))) ∙ l .inv .0, omega (arith, l .inv .1, c .before .before .before .loop-test .taken))
+    let p1 = c .before in
+    let p2 = after-u64-at p1 in
+    let p3 = in-turn p2 in
+    let p4 = at-loop p3 in
+    let p5 = start p4 in
+    let a = p5 .args in
+    let l = p4 .loop in
+    (sym (on (constants-walk (now (a .s))) (l .left) (l .at) (p3 .loop-test .taken) (ap constantWord (sym (p2 .u64-at .ensures)) ∙ sym (p1 .constant-word .ensures) ∙ not-false _ (c .if1 .left))) ∙ l .inv .0, omega (arith, l .inv .1, p3 .loop-test .taken))
 
 returns-2 : tie.Need-returns-2 Inv-loop μ-loop
 returns-2 c =

@@ -42,8 +42,11 @@ held p = p .before .before
 abbrev ready : tie.After-run-checked → tie.Else4
 ready p = p .before .before .before
 
+abbrev lent : tie.After-slice-known4 → tie.After-work
+lent p = p .before .before .before
+
 abbrev done : tie.After-slice-known4 → tie.After-run-checked
-done p = p .before .before .before .before
+done p = lent p .before
 
 -- ---- what is known at each
 

@@ -1,0 +1,48 @@
+-- `executor::operators::one_matrix`: the operands, the step, the result.
+use borrow.Author.Needs.{needs}
+use mathlib.Core.Path.{ap, _∙_}
+use Rattle.value.specs.declared.Value.the-variants.{Matrix}
+use Rattle.value.specs.Steps.{stepOf, eachMat}
+use Rattle.executor.proofs.Stored.{four, operated}
+use Rattle.executor.proofs.operators.one_matrix.Statement.{statement}
+use Rattle.executor.proofs.operators.one_matrix.Tie as tie
+
+-- ---- places
+
+abbrev at-put-long : tie.After-slice-known2 → tie.After-put-long
+at-put-long p = p .before .before
+
+abbrev at-step-mat : tie.After-put-long → tie.After-step-mat
+at-step-mat p = p .before .before
+
+abbrev at-zero-mat : tie.After-step-mat → tie.After-zero-mat
+at-zero-mat p = p .before
+
+abbrev at-matrix-at : tie.After-zero-mat → tie.After-matrix-at
+at-matrix-at p = p .before
+
+abbrev known : tie.After-matrix-at → tie.After-shared-slice-known
+known p = p .before .before .before
+
+abbrev start : tie.After-matrix-at → tie.Start
+start p = known p .before
+
+returns : tie.Need-returns
+returns c =
+    let p1 = at-put-long c in
+    let p2 = at-step-mat p1 in
+    let p3 = at-zero-mat p2 in
+    let p4 = at-matrix-at p3 in
+    let b = start p4 in
+    operated (b .pre) (ap Matrix (p2 .step-mat .ensures ∙ four (eachMat (stepOf (b .args .o))) (p4 .matrix-at .ensures) (p3 .zero-mat .ensures) (p3 .zero-mat .ensures) (p3 .zero-mat .ensures))) (p1 .put-long .ensures)
+
+pub one-matrix-spec : {M : Type 1} → statement M
+one-matrix-spec =
+    tie.close
+    (tie.spec
+    (λ c κs. search needs)
+    (λ c κs. search needs)
+    (λ c κs. search needs)
+    (λ c κs. search needs)
+    (λ c. search needs)
+    returns)
