@@ -26,11 +26,12 @@ use Rattle.resolver.proofs.Rows.{row-slot, rows-size, place-at, places-size}
 use Rattle.checker.specs.Slots.{Scene, PlacesAre, RowIs, RowsAre}
 use Rattle.checker.proofs.Wiring.{nodes-of}
 use Rattle.checker.proofs.Whole.{nodes-count, node-of, stands-at}
+use Rattle.base.specs.Limits.{nodeLimit, slotLimit, noNode, operandLimit}
 
 -- ---- the function that is judged
 
 module _ (s starts : List ℕ) (k : ℕ) (f : Head) (h : Scene s starts k f) where
-  pub few-nodes : f .count ≤ 256
+  pub few-nodes : f .count ≤ nodeLimit
   few-nodes =
       let l = function-holds s (f .place) (h .reads) .few in
       let e = h .count in
@@ -49,7 +50,7 @@ module _ (s starts : List ℕ) (k : ℕ) (f : Head) (h : Scene s starts k f) whe
 
   -- what the resolver fills
   pub rows-are :
-      (ts us : List ℕ) → us ≡ sets ts 0 (rowsOf (nodesAt (f .count) s (f .first)) (nodesAt (f .count) s (f .first))) → length ts ≡ 4096
+      (ts us : List ℕ) → us ≡ sets ts 0 (rowsOf (nodesAt (f .count) s (f .first)) (nodesAt (f .count) s (f .first))) → length ts ≡ slotLimit
       → RowsAre s (f .place) (f .count) us
   rows-are ts us e size =
       let q : us ≡ sets ts 0 (rowsOf (functionAt s (f .place) .nodes) (functionAt s (f .place) .nodes)) =
@@ -65,11 +66,11 @@ module _ (s starts : List ℕ) (k : ℕ) (f : Head) (h : Scene s starts k f) whe
             (omega (arith, c, n, few)) size;
       }
 
-module _ (s : List ℕ) (first count : ℕ) (ps qs : List ℕ) (e : qs ≡ sets ps 0 (placesOf (nodesAt count s first))) (size : length ps ≡ 256) where
-  pub places-length : length qs ≡ 256
+module _ (s : List ℕ) (first count : ℕ) (ps qs : List ℕ) (e : qs ≡ sets ps 0 (placesOf (nodesAt count s first))) (size : length ps ≡ nodeLimit) where
+  pub places-length : length qs ≡ nodeLimit
   places-length = ap length e ∙ places-size (nodesAt count s first) ps ∙ size
 
-  pub places-are : count ≤ 256 → PlacesAre s first count qs
+  pub places-are : count ≤ nodeLimit → PlacesAre s first count qs
   places-are l = λ i h. ap (λ (v : List ℕ). getD v i 0) e ∙ place-at s first count ps i h (omega (arith, l, size))
 
 -- ---- the node that a slot tells
@@ -84,7 +85,7 @@ no-index (n ∷ ns) id h = pickOne (eqb (n .id) id) (λ l. no-index ns id l) h
 
 module _ (s : List ℕ) (f at i : ℕ) (d : u16 s at ≡ 0 → ⊥) (e : i ≡ target (functionAt s f .nodes) (some (reference s at))) where
   index-is : i ≡ indexOf (u16 s at) (functionAt s f .nodes)
-  index-is = e ∙ ap (λ (b : Bool). cond b 256 (indexOf (u16 s at) (functionAt s f .nodes))) (ne-eqb (u16 s at) 0 d)
+  index-is = e ∙ ap (λ (b : Bool). cond b noNode (indexOf (u16 s at) (functionAt s f .nodes))) (ne-eqb (u16 s at) 0 d)
 
   pub slot-found : i < nodeCount s f → findNode (u16 s at) (functionAt s f .nodes) ≡ some (nodeAt s (nodePlace s (nodesPlace s f) i))
   slot-found h =
@@ -105,7 +106,7 @@ reference-at (suc n) s at (suc j) h =
     reference-at n s (at + 3) j (omega arith) ∙ ap (λ (p : ℕ). some (reference s p)) e
 
 pub row-is :
-    (s : List ℕ) (f begin m i count : ℕ) (ts : List ℕ) → RowsAre s f count ts → i < count → m ≤ 16
+    (s : List ℕ) (f begin m i count : ℕ) (ts : List ℕ) → RowsAre s f count ts → i < count → m ≤ operandLimit
     → reads (nodeAt s (nodePlace s (nodesPlace s f) i)) ≡ references m s begin → RowIs s f begin m i ts
 row-is s f begin m i count ts h b l e = λ j c.
     h .slots i j b (omega arith)

@@ -25,18 +25,20 @@ use Rattle.graph.proofs.Formed.{function-formed}
 use Rattle.graph.proofs.Accept.{resolved-by}
 use Rattle.graph.proofs.Order.{wired-in}
 use Rattle.order.specs.Resolve.{target}
-use Rattle.order.proofs.Nodes.{some-is, at-below}
+use Rattle.order.proofs.Nodes.{at-below}
 use Rattle.reader.specs.Layout.{nodeAt, nodeEnd, nodesAt, nodePlace, nodeCount, nodesPlace, functionAt, functionEnd, functionsAt, functionPlace, earlier}
 use Rattle.reader.specs.Find.{ReadsFunction, Started}
 use Rattle.reader.specs.Records.{seen}
 use Rattle.reader.specs.declared.Seen.{Seen}
 use Rattle.reader.proofs.Rows.{operands-few}
 use Rattle.reader.proofs.Standing.{function-read, parse-read, earlier-all}
-use Rattle.reader.proofs.Passed.{place-next, function-holds}
+use Rattle.reader.proofs.Passed.{place-next, function-holds, length-earlier}
 use Rattle.resolver.proofs.Rows.{length-nodes}
 use Rattle.checker.specs.declared.Head.{Head}
 use Rattle.checker.specs.Answers.{callsChecked, outputsChecked, nodeChecked}
 use Rattle.checker.specs.Slots.{ReadsFunctions, RowsAre, Ready}
+use Rattle.base.specs.Limits.{operandLimit, functionLimit}
+use Rattle.base.proofs.Lists.{some-is}
 
 -- ---- the nodes by their indices
 
@@ -132,7 +134,7 @@ formed : (s : List ℕ) → Bytes s → (at : ℕ) → ReadsFunction s at → Fo
 formed s small at (x, e) =
     subst Formed (ap (λ (y : Part Function). y .it) (function-read (version1 .nodeLimit) s at x e)) (function-formed s small (version1 .nodeLimit) at x e .0)
 
-payload-narrow : (k : ℕ) (p : Payload) → FormedPayload (kindOf k) p → length (readsOf p) ≤ 16
+payload-narrow : (k : ℕ) (p : Payload) → FormedPayload (kindOf k) p → length (readsOf p) ≤ operandLimit
 payload-narrow k (consts ws) h = omega arith
 payload-narrow k (refs rs) (a, l) = let b = operands-few k in omega (arith, l, b)
 payload-narrow k (calls c rs) (a, l) = omega (arith, l)
@@ -251,11 +253,6 @@ module _ (s : List ℕ) where
 
 -- ---- the verdict
 
-length-earlier : (begin : ℕ) (s : List ℕ) (k : ℕ) → length (earlier begin s k) ≡ k
-unfolding earlier
-length-earlier begin s zero = refl
-length-earlier begin s (suc k) = ap suc (length-earlier begin s k)
-
 module _ (s : List ℕ) where
   pub unread : (n p : ℕ) → Seen.Fault n p ≡ seen (parse version1 s) → verdict s ≡ fault n p
   unfolding verdict table
@@ -268,7 +265,7 @@ module _ (s : List ℕ) where
   -- a table that was read
   pub record Whole : Type 0 where
     pub size : 8 ≤ length s
-    pub few : byte s 5 ≤ 16
+    pub few : byte s 5 ≤ functionLimit
     pub short : length s < 65536
     pub reads : ReadsFunctions (byte s 5) s
 
@@ -286,7 +283,7 @@ module _ (s : List ℕ) where
       let b = small 7 in
       record {
         size = leb-true _ _ t1;
-        few = leb-true _ _ (and-inv (leb 1 (byte s 5)) (leb (byte s 5) 16) t5 .1);
+        few = leb-true _ _ (and-inv (leb 1 (byte s 5)) (leb (byte s 5) functionLimit) t5 .1);
         short = omega (arith, l, a, b);
         reads = (p, ep);
       }

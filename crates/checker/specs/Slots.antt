@@ -14,6 +14,7 @@ use Rattle.order.specs.Resolve.{target, Resolves}
 use Rattle.reader.specs.Layout.{nodeAt, nodePlace, nodeCount, nodesPlace, functionAt}
 use Rattle.reader.specs.Find.{ReadsFunction, Started}
 use Rattle.checker.specs.declared.Head.{Head}
+use Rattle.base.specs.Limits.{functionLimit, nodeLimit, operandLimit, slotLimit}
 
 abbrev pub ReadsFunctions : ℕ → List ℕ → Type 0
 ReadsFunctions n s = (p : Part (List Function)) × (functions (version1 .nodeLimit) n s (version1 .header) ≡ ok p)
@@ -21,7 +22,7 @@ ReadsFunctions n s = (p : Part (List Function)) × (functions (version1 .nodeLim
 -- the function f is judged after the first k, whose places `starts` has
 pub record Scene (s starts : List ℕ) (k : ℕ) (f : Head) : Type 0 where
   pub started : Started s starts k
-  pub few : k ≤ 16
+  pub few : k ≤ functionLimit
   pub reads : ReadsFunction s (f .place)
   pub first : f .first ≡ nodesPlace s (f .place)
   pub count : f .count ≡ nodeCount s (f .place)
@@ -41,8 +42,8 @@ RowIs s f begin n i ts = (j : ℕ) → j < n → slot ts i j ≡ target (functio
 
 -- those of the first n nodes of the function at f have what they read
 pub record RowsAre (s : List ℕ) (f n : ℕ) (ts : List ℕ) : Type 0 where
-  pub size : length ts ≡ 4096
-  pub slots : (i j : ℕ) → i < n → j < 16
+  pub size : length ts ≡ slotLimit
+  pub slots : (i j : ℕ) → i < n → j < operandLimit
       → slot ts i j ≡ target (functionAt s f .nodes) (getElem? (reads (nodeAt s (nodePlace s (nodesPlace s f) i))) j)
 
 -- all is known of a function but its loops
@@ -56,6 +57,6 @@ pub record Ready (s : List ℕ) (f : Head) (ts : List ℕ) : Type 0 where
 
 -- what a function at f that is good leaves
 pub record Filled (s : List ℕ) (f : ℕ) (ps ts : List ℕ) : Type 0 where
-  pub few : length ps ≡ 256
-  pub size : length ts ≡ 4096
+  pub few : length ps ≡ nodeLimit
+  pub size : length ts ≡ slotLimit
   pub places : PlacesAre s (nodesPlace s f) (nodeCount s f) ps

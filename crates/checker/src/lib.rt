@@ -1,10 +1,11 @@
 // The verdict on a graph table.
 ghost use mathlib.Core.Path.{_≡_};
-ghost use Prim.Native.Nat.{_+_, _*_, _<_, _≤_};
+ghost use Prim.Native.Nat.{_+_, _*_, _^_, _<_, _≤_};
 ghost use mathlib.Core.List.{[]};
 ghost use mathlib.Core.Option.{some};
 ghost use lib.ListN.{length, getD, getElem?};
 ghost use Rattle.ports.specs.Ports.{givesRow};
+ghost use Rattle.base.specs.Limits.{functionLimit, nodeLimit, operandLimit, slotLimit};
 ghost use Rattle.base.specs.Outcome.{ok, need, each};
 ghost use Rattle.graph.specs.Look.{findFunction};
 ghost use Rattle.graph.specs.Read.{version1, reference, references};
@@ -16,23 +17,19 @@ ghost use Rattle.reader.specs.Records.{seen};
 ghost use Rattle.reader.specs.declared.Seen.{Seen};
 ghost use Rattle.checker.specs.Answers.{hit, portOf, typeAt, wantsList, WantFits, outputsChecked, referencesChecked, nodeChecked, callsChecked, verdictOf, Judged};
 ghost use Rattle.checker.specs.Slots.{ReadsFunctions, Scene, PlacesAre, Placed, RowIs, RowsAre, Ready, Filled};
+use base::FUNCTION_LIMIT;
+use base::NODE_LIMIT;
+use base::OPERAND_LIMIT;
+use base::SLOT_LIMIT;
+use base::u16_at;
+use base::wide;
+use base::wide16;
+use base::wide32;
 use order::OnLoop;
 use ports::Form;
 use ports::Ports;
 use reader::Found;
 use reader::Seen;
-
-fn size(x: u8) -> usize
-    ensures { λ r. ⌜ (r ≡ x) × (r < 256) ⌝ }
-{
-    x as usize
-}
-
-fn wide(x: u16) -> usize
-    ensures { λ r. ⌜ r ≡ x ⌝ }
-{
-    x as usize
-}
 
 // The function that is judged: its place, where its nodes begin, and how many there are.
 pub struct Head {
@@ -44,8 +41,8 @@ pub struct Head {
 // ---- 9
 
 // Whether one of the first j ids is this one.
-fn id_before(ids: &[u16; 256], j: usize, id: u16) -> bool
-    requires { ⌜ j ≤ 256 ⌝ }
+fn id_before(ids: &[u16; NODE_LIMIT], j: usize, id: u16) -> bool
+    requires { ⌜ j ≤ nodeLimit ⌝ }
     ensures { λ r. ⌜ r ≡ hit (now (ids .entry)) j id ⌝ }
 {
     let mut met = false;
@@ -60,15 +57,15 @@ fn id_before(ids: &[u16; 256], j: usize, id: u16) -> bool
 }
 
 // No node has the id of an earlier one.
-fn fresh_nodes(s: &[u8], f: Head, places: &[u16; 256]) -> Seen
-    requires { ⌜ ReadsNodes (f .count) (now s) (f .first) × (f .count ≤ 256) × Placed (now s) f (now places) ⌝ }
+fn fresh_nodes(s: &[u8], f: Head, places: &[u32; NODE_LIMIT]) -> Seen
+    requires { ⌜ ReadsNodes (f .count) (now s) (f .first) × (f .count ≤ nodeLimit) × Placed (now s) f (now places) ⌝ }
     ensures { λ r. ⌜ r ≡ seen (fresh [] (nodesAt (f .count) (now (s .entry)) (f .first))) ⌝ }
 {
-    let mut ids = [0u16; 256];
+    let mut ids = [0u16; NODE_LIMIT];
     let mut j = 0;
     while j < f.count {
-        let at = wide(places[j]);
-        let id = reader::u16_at(s, at);
+        let at = wide32(places[j]);
+        let id = u16_at(s, at) as u16;
         if id_before(&ids, j, id) {
             return Seen::Fault(9, at);
         }
@@ -81,8 +78,8 @@ fn fresh_nodes(s: &[u8], f: Head, places: &[u16; 256]) -> Seen
 // ---- 10
 
 // The node at `at` is no call, or a call of one of the first k functions with its count of arguments.
-fn call_good(s: &[u8], at: usize, starts: &[usize; 16], k: usize) -> bool
-    requires { ⌜ ReadsNode (now s) at × Started (now s) (now starts) k × (k ≤ 16) ⌝ }
+fn call_good(s: &[u8], at: usize, starts: &[usize; FUNCTION_LIMIT], k: usize) -> bool
+    requires { ⌜ ReadsNode (now s) at × Started (now s) (now starts) k × (k ≤ functionLimit) ⌝ }
     ensures { λ r. ⌜ callOk (earlier (version1 .header) (now (s .entry)) k) at (nodeAt (now (s .entry)) at .payload) ≡ need r 10 at ⌝ }
 {
     let row = ports::ports_of(s[at + 2]);
@@ -92,7 +89,7 @@ fn call_good(s: &[u8], at: usize, starts: &[usize; 16], k: usize) -> bool
         Form::Constant => true,
         Form::References => true,
         Form::Call => {
-            let found = reader::find_function(s, starts, k, reader::u16_at(s, at + 4));
+            let found = reader::find_function(s, starts, k, u16_at(s, at + 4));
             match found {
                 Found::At(_, p) => s[at + 4 + 2] == s[p + 2],
                 Found::Nothing => false,
@@ -102,13 +99,19 @@ fn call_good(s: &[u8], at: usize, starts: &[usize; 16], k: usize) -> bool
 }
 
 // Each call is good.
-fn calls_good(s: &[u8], starts: &[usize; 16], k: usize, f: Head, places: &[u16; 256]) -> Seen
-    requires { ⌜ ReadsNodes (f .count) (now s) (f .first) × (f .count ≤ 256) × Placed (now s) f (now places) × Started (now s) (now starts) k × (k ≤ 16) ⌝ }
+fn calls_good(
+    s: &[u8],
+    starts: &[usize; FUNCTION_LIMIT],
+    k: usize,
+    f: Head,
+    places: &[u32; NODE_LIMIT],
+) -> Seen
+    requires { ⌜ ReadsNodes (f .count) (now s) (f .first) × (f .count ≤ nodeLimit) × Placed (now s) f (now places) × Started (now s) (now starts) k × (k ≤ functionLimit) ⌝ }
     ensures { λ r. ⌜ r ≡ seen (each (λ n. callOk (earlier (version1 .header) (now (s .entry)) k) (n .place) (n .payload)) (nodesAt (f .count) (now (s .entry)) (f .first))) ⌝ }
 {
     let mut j = 0;
     while j < f.count {
-        let at = wide(places[j]);
+        let at = wide32(places[j]);
         if call_good(s, at, starts, k) {
             j += 1;
         } else {
@@ -142,7 +145,7 @@ fn input_port(s: &[u8], at: usize, port: u8) -> PortType
     ensures { λ r. ⌜ r ≡ portOf (getElem? (functionAt (now (s .entry)) at .inputs) port) ⌝ }
 {
     if port < s[at + 2] {
-        PortType::Is(s[at + 6 + size(port)])
+        PortType::Is(s[at + 6 + wide(port)])
     } else {
         PortType::Nothing
     }
@@ -154,15 +157,21 @@ fn output_port(s: &[u8], at: usize, port: u8) -> PortType
     ensures { λ r. ⌜ r ≡ portOf (getElem? (outputTypes (functionAt (now (s .entry)) at .outputs)) port) ⌝ }
 {
     if port < s[at + 3] {
-        PortType::Is(s[at + 6 + size(s[at + 2]) + 4 * size(port)])
+        PortType::Is(s[at + 6 + wide(s[at + 2]) + 4 * wide(port)])
     } else {
         PortType::Nothing
     }
 }
 
 // Of a call of the id, one of the first k functions.
-fn callee_port(s: &[u8], starts: &[usize; 16], k: usize, id: u16, port: u8) -> PortType
-    requires { ⌜ Started (now s) (now starts) k × (k ≤ 16) ⌝ }
+fn callee_port(
+    s: &[u8],
+    starts: &[usize; FUNCTION_LIMIT],
+    k: usize,
+    id: usize,
+    port: u8,
+) -> PortType
+    requires { ⌜ Started (now s) (now starts) k × (k ≤ functionLimit) ⌝ }
     ensures { λ r. ⌜ r ≡ portOf (getElem? (outputsOf (findFunction id (earlier (version1 .header) (now (s .entry)) k))) port) ⌝ }
 {
     let found = reader::find_function(s, starts, k, id);
@@ -173,8 +182,8 @@ fn callee_port(s: &[u8], starts: &[usize; 16], k: usize, id: u16, port: u8) -> P
 }
 
 // Of the node at `at`.
-fn node_port(s: &[u8], at: usize, starts: &[usize; 16], k: usize, port: u8) -> PortType
-    requires { ⌜ ReadsNode (now s) at × Started (now s) (now starts) k × (k ≤ 16) ⌝ }
+fn node_port(s: &[u8], at: usize, starts: &[usize; FUNCTION_LIMIT], k: usize, port: u8) -> PortType
+    requires { ⌜ ReadsNode (now s) at × Started (now s) (now starts) k × (k ≤ functionLimit) ⌝ }
     ensures { λ r. ⌜ r ≡ portOf (getElem? (givesOf (earlier (version1 .header) (now (s .entry)) k) (nodeAt (now (s .entry)) at) (nodeAt (now (s .entry)) at .payload)) port) ⌝ }
 {
     let row = ports::ports_of(s[at + 2]);
@@ -184,16 +193,22 @@ fn node_port(s: &[u8], at: usize, starts: &[usize; 16], k: usize, port: u8) -> P
         Form::Absent => row_port(row, ty, port),
         Form::Constant => row_port(row, ty, port),
         Form::References => row_port(row, ty, port),
-        Form::Call => callee_port(s, starts, k, reader::u16_at(s, at + 4), port),
+        Form::Call => callee_port(s, starts, k, u16_at(s, at + 4), port),
     }
 }
 
 // Of the reference at `at`; its node is looked up.
-fn reference_port(s: &[u8], starts: &[usize; 16], k: usize, f: Head, at: usize) -> PortType
+fn reference_port(
+    s: &[u8],
+    starts: &[usize; FUNCTION_LIMIT],
+    k: usize,
+    f: Head,
+    at: usize,
+) -> PortType
     requires { ⌜ Scene (now s) (now starts) k f × (at + 3 ≤ length (now s)) ⌝ }
     ensures { λ r. ⌜ r ≡ typeAt (now (s .entry)) k (f .place) at ⌝ }
 {
-    let id = reader::u16_at(s, at);
+    let id = u16_at(s, at);
     let port = s[at + 2];
     if id == 0 {
         return input_port(s, f.place, port);
@@ -208,23 +223,23 @@ fn reference_port(s: &[u8], starts: &[usize; 16], k: usize, f: Head, at: usize) 
 // Of the reference at `at`, whose slot holds i.
 fn slot_port(
     s: &[u8],
-    starts: &[usize; 16],
+    starts: &[usize; FUNCTION_LIMIT],
     k: usize,
     f: Head,
-    places: &[u16; 256],
+    places: &[u32; NODE_LIMIT],
     i: usize,
     at: usize,
 ) -> PortType
     requires { ⌜ Scene (now s) (now starts) k f × Placed (now s) f (now places) × (at + 3 ≤ length (now s)) × (i ≡ target (functionAt (now s) (f .place) .nodes) (some (reference (now s) at))) ⌝ }
     ensures { λ r. ⌜ r ≡ typeAt (now (s .entry)) k (f .place) at ⌝ }
 {
-    let id = reader::u16_at(s, at);
+    let id = u16_at(s, at);
     let port = s[at + 2];
     if id == 0 {
         return input_port(s, f.place, port);
     }
     if i < f.count {
-        node_port(s, wide(places[i]), starts, k, port)
+        node_port(s, wide32(places[i]), starts, k, port)
     } else {
         PortType::Nothing
     }
@@ -250,7 +265,14 @@ fn want_at(s: &[u8], want: Want, n: usize, j: usize) -> u8
 }
 
 // The entries of n outputs at `begin`.
-fn outputs_good(s: &[u8], starts: &[usize; 16], k: usize, f: Head, begin: usize, n: usize) -> Seen
+fn outputs_good(
+    s: &[u8],
+    starts: &[usize; FUNCTION_LIMIT],
+    k: usize,
+    f: Head,
+    begin: usize,
+    n: usize,
+) -> Seen
     requires { ⌜ Scene (now s) (now starts) k f × (begin + 4 * n ≤ length (now s)) ⌝ }
     ensures { λ r. ⌜ r ≡ seen (outputsChecked (now (s .entry)) k (f .place) (outputsAt n (now (s .entry)) begin)) ⌝ }
 {
@@ -273,23 +295,31 @@ fn outputs_good(s: &[u8], starts: &[usize; 16], k: usize, f: Head, begin: usize,
 // The n references at `begin`, which are those of node i.
 fn references_good(
     s: &[u8],
-    starts: &[usize; 16],
+    starts: &[usize; FUNCTION_LIMIT],
     k: usize,
     f: Head,
-    places: &[u16; 256],
-    targets: &[u16; 4096],
+    places: &[u32; NODE_LIMIT],
+    targets: &[u16; SLOT_LIMIT],
     want: Want,
     begin: usize,
     n: usize,
     i: usize,
 ) -> Seen
-    requires { ⌜ Scene (now s) (now starts) k f × Placed (now s) f (now places) × WantFits (now s) n want × (begin + 3 * n ≤ length (now s)) × (n ≤ 16) × (i < 256) × RowIs (now s) (f .place) begin n i (now targets) ⌝ }
+    requires { ⌜ Scene (now s) (now starts) k f × Placed (now s) f (now places) × WantFits (now s) n want × (begin + 3 * n ≤ length (now s)) × (n ≤ operandLimit) × (i < nodeLimit) × RowIs (now s) (f .place) begin n i (now targets) ⌝ }
     ensures { λ r. ⌜ r ≡ seen (referencesChecked (now (s .entry)) k (f .place) (wantsList (now (s .entry)) n want) (references n (now (s .entry)) begin)) ⌝ }
 {
     let mut at = begin;
     let mut j = 0;
     while j < n {
-        let found = slot_port(s, starts, k, f, places, wide(targets[16 * i + j]), at);
+        let found = slot_port(
+            s,
+            starts,
+            k,
+            f,
+            places,
+            wide16(targets[OPERAND_LIMIT * i + j]),
+            at,
+        );
         let PortType::Is(ty) = found else {
             return Seen::Fault(11, at);
         };
@@ -305,17 +335,17 @@ fn references_good(
 // The references of node i.
 fn node_good(
     s: &[u8],
-    starts: &[usize; 16],
+    starts: &[usize; FUNCTION_LIMIT],
     k: usize,
     f: Head,
-    places: &[u16; 256],
-    targets: &[u16; 4096],
+    places: &[u32; NODE_LIMIT],
+    targets: &[u16; SLOT_LIMIT],
     i: usize,
 ) -> Seen
     requires { ⌜ Scene (now s) (now starts) k f × Placed (now s) f (now places) × RowsAre (now s) (f .place) (f .count) (now targets) × (i < f .count) × (callOk (earlier (version1 .header) (now s) k) (nodePlace (now s) (f .first) i) (nodeAt (now s) (nodePlace (now s) (f .first) i) .payload) ≡ ok tt) ⌝ }
     ensures { λ r. ⌜ r ≡ seen (nodeChecked (now (s .entry)) k (f .place) (nodeAt (now (s .entry)) (nodePlace (now (s .entry)) (f .first) i))) ⌝ }
 {
-    let at = wide(places[i]);
+    let at = wide32(places[i]);
     let row = ports::ports_of(s[at + 2]);
     let ty = s[at + 3];
     let form = row.form;
@@ -333,12 +363,12 @@ fn node_good(
                 targets,
                 want,
                 at + 4,
-                size(row.operands),
+                wide(row.operands),
                 i,
             )
         }
         Form::Call => {
-            let found = reader::find_function(s, starts, k, reader::u16_at(s, at + 4));
+            let found = reader::find_function(s, starts, k, u16_at(s, at + 4));
             match found {
                 Found::At(_, p) => references_good(
                     s,
@@ -349,7 +379,7 @@ fn node_good(
                     targets,
                     Want::Inputs(p),
                     at + 4 + 3,
-                    size(s[at + 4 + 2]),
+                    wide(s[at + 4 + 2]),
                     i,
                 ),
                 Found::Nothing => Seen::Good,
@@ -361,11 +391,11 @@ fn node_good(
 // The references of each node.
 fn nodes_good(
     s: &[u8],
-    starts: &[usize; 16],
+    starts: &[usize; FUNCTION_LIMIT],
     k: usize,
     f: Head,
-    places: &[u16; 256],
-    targets: &[u16; 4096],
+    places: &[u32; NODE_LIMIT],
+    targets: &[u16; SLOT_LIMIT],
 ) -> Seen
     requires { ⌜ Scene (now s) (now starts) k f × Placed (now s) f (now places) × RowsAre (now s) (f .place) (f .count) (now targets) × (callsChecked (now s) k (functionAt (now s) (f .place)) ≡ ok tt) ⌝ }
     ensures { λ r. ⌜ r ≡ seen (each (nodeChecked (now (s .entry)) k (f .place)) (functionAt (now (s .entry)) (f .place) .nodes)) ⌝ }
@@ -387,7 +417,7 @@ fn nodes_good(
 // ---- 13
 
 // No node lies on a loop.
-fn loop_free(s: &[u8], f: Head, targets: &[u16; 4096]) -> Seen
+fn loop_free(s: &[u8], f: Head, targets: &[u16; SLOT_LIMIT]) -> Seen
     requires { ⌜ Ready (now s) f (now targets) ⌝ }
     ensures { λ r. ⌜ r ≡ seen (loopFree (functionAt (now (s .entry)) (f .place))) ⌝ }
 {
@@ -407,27 +437,27 @@ fn loop_free(s: &[u8], f: Head, targets: &[u16; 4096]) -> Seen
 // The function at `place`, the k-th from 0; `targets` is room to work in. One that is good leaves the places of its nodes.
 fn judge_function(
     s: &[u8],
-    starts: &[usize; 16],
+    starts: &[usize; FUNCTION_LIMIT],
     k: usize,
     place: usize,
-    places: &mut [u16; 256],
-    targets: &mut [u16; 4096],
+    places: &mut [u32; NODE_LIMIT],
+    targets: &mut [u16; SLOT_LIMIT],
 ) -> Seen
-    requires { ⌜ Started (now s) (now starts) k × (k ≤ 16) × ReadsFunction (now s) place × (length (now s) < 65536) × (length (now places) ≡ 256) × (length (now targets) ≡ 4096) ⌝ }
+    requires { ⌜ Started (now s) (now starts) k × (k ≤ functionLimit) × ReadsFunction (now s) place × (length (now s) < 2 ^ 32) × (length (now places) ≡ nodeLimit) × (length (now targets) ≡ slotLimit) ⌝ }
     ensures { λ r. ⌜ r ≡ seen (judge (earlier (version1 .header) (now (s .entry)) k) (functionAt (now (s .entry)) place)) ⌝ }
     ensures { λ r. ⌜ (r ≡ Seen.Good → Filled (now (s .entry)) place (now (places .exit)) (now (targets .exit))) ⌝ }
 {
-    let same = reader::find_function(s, starts, k, reader::u16_at(s, place));
+    let same = reader::find_function(s, starts, k, u16_at(s, place));
     match same {
         Found::At(_, _) => {
             return Seen::Fault(9, place);
         }
         Found::Nothing => {}
     }
-    let nout = size(s[place + 3]);
-    let outputs = place + 6 + size(s[place + 2]);
+    let nout = wide(s[place + 3]);
+    let outputs = place + 6 + wide(s[place + 2]);
     let first = outputs + 4 * nout;
-    let count = wide(reader::u16_at(s, place + 4));
+    let count = u16_at(s, place + 4);
     let f = Head {
         place,
         first,
@@ -461,27 +491,27 @@ pub enum Verdict {
 }
 
 // Where the function at `at` ends, whose nodes have these places.
-fn function_end(s: &[u8], at: usize, places: &[u16; 256]) -> usize
+fn function_end(s: &[u8], at: usize, places: &[u32; NODE_LIMIT]) -> usize
     requires { ⌜ ReadsFunction (now s) at × PlacesAre (now s) (nodesPlace (now s) at) (nodeCount (now s) at) (now places) ⌝ }
     ensures { λ r. ⌜ r ≡ functionEnd (now (s .entry)) at ⌝ }
 {
-    let count = wide(reader::u16_at(s, at + 4));
+    let count = u16_at(s, at + 4);
     if count == 0 {
-        at + 6 + size(s[at + 2]) + 4 * size(s[at + 3])
+        at + 6 + wide(s[at + 2]) + 4 * wide(s[at + 3])
     } else {
-        reader::node_end(s, wide(places[count - 1]))
+        reader::node_end(s, wide32(places[count - 1]))
     }
 }
 
 // The functions of a table that was read, one after another.
 fn judge_all(s: &[u8], count: usize) -> Seen
-    requires { ⌜ ReadsFunctions count (now s) × (count ≤ 16) × (length (now s) < 65536) ⌝ }
+    requires { ⌜ ReadsFunctions count (now s) × (count ≤ functionLimit) × (length (now s) < 2 ^ 32) ⌝ }
     ensures { λ r. ⌜ r ≡ seen (judgeAll [] (functionsAt count (now (s .entry)) (version1 .header))) ⌝ }
 {
-    let mut starts = [0usize; 16];
-    let mut places = [0u16; 256];
-    let mut targets = [0u16; 4096];
-    let mut at = 8;
+    let mut starts = [0usize; FUNCTION_LIMIT];
+    let mut places = [0u32; NODE_LIMIT];
+    let mut targets = [0u16; SLOT_LIMIT];
+    let mut at = reader::HEADER;
     let mut k = 0;
     while k < count {
         let judged = judge_function(s, &starts, k, at, &mut places, &mut targets);
@@ -510,7 +540,7 @@ pub fn check(table: &[u8]) -> Verdict
             return Verdict::Refused(number, place);
         }
     }
-    let count = size(table[5]);
+    let count = wide(table[5]);
     let judged = judge_all(table, count);
     match judged {
         Seen::Good => Verdict::Accepted(count),

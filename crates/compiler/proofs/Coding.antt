@@ -35,6 +35,7 @@ use Rattle.compiler.proofs.Bounds.{Within}
 use Rattle.sums.proofs.Rows.{narrow}
 use Rattle.sums.proofs.Nodes.{call-payload, call-form}
 use Rattle.sums.proofs.Positions.{at-position, no-position}
+use Rattle.base.specs.Limits.{noNode}
 
 cmp : (a b : ℕ) → (a < b) ⊎ (b ≤ a)
 cmp a zero = inr (omega arith)
@@ -83,7 +84,7 @@ module _ (ns : List Node) (few : length ns ≤ 256) (laid : List ℕ) (spotted :
     where
       pickOne : (b : Bool) → eqb (r .node) 0 ≡ b → (a : Bool) → leb 8 (r .port) ≡ a
           → Codes
-          (cond a 0 (cond (ltb (cond b 256 (indexOf (r .node) ns)) 256) (getD laid (8 * cond b 256 (indexOf (r .node) ns) + r .port) 0) (r .port)))
+          (cond a 0 (cond (ltb (cond b noNode (indexOf (r .node) ns)) 256) (getD laid (8 * cond b noNode (indexOf (r .node) ns) + r .port) 0) (r .port)))
           (cond b (input (r .port)) (getD (spotsOf (r .node) spotted) (r .port) nowhere))
       pickOne true q true w = λ l. let z : 8 ≤ r .port = leb-true 8 (r .port) w in absurd (omega arith)
       pickOne true q false w = λ l. refl

@@ -56,7 +56,7 @@ WordsHeld s words k = (g : ℕ) → g < k → getD words g 0 ≡ min wordCap (wo
 
 -- ---- numbers of spots
 
--- a port of the node with the index v; 256 stands for the inputs
+-- a port of the node with the index v; a larger one stands for the inputs
 abbrev pub portCode : List ℕ → ℕ → ℕ → ℕ
 portCode laid v port = cond (leb 8 port) 0 (cond (ltb v 256) (getD laid (8 * v + port) 0) port)
 

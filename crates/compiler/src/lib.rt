@@ -336,23 +336,23 @@ fn emit(
 
 // ---- layout
 
-// The index of the node that the reference at q reads, or 256 for an input.
+// The index of the node that the reference at q reads, or `NO_NODE` for an input.
 fn target(t: &[u8], at: usize, n: usize, q: usize) -> u16
     requires { ⌜ (n ≤ 256) × (q < 2 ^ 31) × ReadsNodes n (now t) at ⌝ }
     ensures { λ r. ⌜ r ≡ Resolve.target (nodesAt n (now (t .entry)) at) (some (reference (now (t .entry)) q)) ⌝ }
 {
     let id = u16_at(t, q);
     if id == 0 {
-        return 256;
+        return base::NO_NODE;
     }
-    let found = reader::find_node(t, at, n, id as u16);
+    let found = reader::find_node(t, at, n, id);
     match found {
         Found::At(i, _) => i as u16,
         Found::Nothing => n as u16,
     }
 }
 
-// The spot of a port of the node with the index v; 256 stands for the inputs.
+// The spot of a port of the node with the index v; a larger one stands for the inputs.
 fn spot_of(laid: &[u16; 2048], v: usize, port: usize) -> u16
     ensures { λ r. ⌜ r ≡ portCode (now (laid .entry)) v port ⌝ }
 {
@@ -492,7 +492,7 @@ fn lay_nodes(
     words: &[u32; 16],
     outs: &[u16; 128],
     targets: &[u16; 4096],
-    places: &[u16; 256],
+    places: &[u32; 256],
     index: &[u16; 256],
     k: usize,
     n: usize,
@@ -513,7 +513,7 @@ fn lay_nodes(
     let mut m = 0;
     while m < n {
         let i = wide16(index[m]);
-        let p = wide16(places[i]);
+        let p = wide32(places[i]);
         order[256 * k + m] = p as u16;
         let r = reads_at(t, p);
         let count = r.count;
@@ -570,7 +570,7 @@ fn lay_function(
     let p = wide16(starts[k]);
     let n = u16_at(t, p + 4);
     let at = sums::nodes_place(t, p);
-    let mut places = [0u16; 256];
+    let mut places = [0u32; 256];
     let mut targets = [0u16; 4096];
     let mut index = [0u16; 256];
     let mut laid = [0u16; 2048];

@@ -12,6 +12,7 @@ use Rattle.base.specs.Lists.{member}
 use Rattle.base.proofs.Bools.{and-inv, or-inv, or-left, or-right}
 use Rattle.order.specs.Indices.{slot, settled, ready, eligible, next, orderFrom, indexOrder}
 use Rattle.order.proofs.Range.{First, first-is, all-each, each-all}
+use Rattle.base.specs.Limits.{operandLimit}
 
 -- ---- how many of the k numbers from i on are missing
 
@@ -101,11 +102,11 @@ module _ (ts : List ℕ) (n : ℕ) where
 
   ready-more : (p q : ℕ → Bool) → ((v : ℕ) → p v ≡ true → q v ≡ true) → (i : ℕ) → ready ts n p i ≡ true → ready ts n q i ≡ true
   ready-more p q h i e =
-      each-all (λ j. settled n q (slot ts i j)) 16 0
+      each-all (λ j. settled n q (slot ts i j)) operandLimit 0
       (λ j a b.
       ⊎-elim (λ x. or-left (leb n (slot ts i j)) (q (slot ts i j)) x)
       (λ y. or-right (leb n (slot ts i j)) (q (slot ts i j)) (h (slot ts i j) y))
-      (or-inv (leb n (slot ts i j)) (p (slot ts i j)) (all-each (λ j. settled n p (slot ts i j)) 16 0 e j a b)))
+      (or-inv (leb n (slot ts i j)) (p (slot ts i j)) (all-each (λ j. settled n p (slot ts i j)) operandLimit 0 e j a b)))
 
   -- what can be taken at all is among the nodes to which none can be added
   inside : (done : ℕ → Bool) → Stuck done → (is : List ℕ) → Built is → (v : ℕ) → member v is ≡ true → done v ≡ true

@@ -12,6 +12,7 @@ use Rattle.order.specs.declared.OnLoop.the-variants.{At, Nothing}
 use Rattle.order.specs.Indices.{firstOf, anyOf, slot}
 use Rattle.order.specs.Paths.{readsIndex, Path, one, more, via, onLoop, firstOnLoop}
 use Rattle.order.proofs.Range.{any-some, some-any}
+use Rattle.base.specs.Limits.{operandLimit}
 
 module _ (ts : List ℕ) (n : ℕ) where
   -- ---- one step
@@ -21,16 +22,16 @@ module _ (ts : List ℕ) (n : ℕ) where
   read-below i j e = ltb-true j n (and-inv (ltb j n) _ e .0)
 
   -- the slot that holds it
-  pub read-slot : (i j : ℕ) → readsIndex ts n i j ≡ true → (s : ℕ) × (s < 16) × (slot ts i s ≡ j)
+  pub read-slot : (i j : ℕ) → readsIndex ts n i j ≡ true → (s : ℕ) × (s < operandLimit) × (slot ts i s ≡ j)
   unfolding readsIndex
   read-slot i j e =
-      let (s, l, h, q) = any-some (λ s. eqb (slot ts i s) j) 16 0 (and-inv (ltb j n) (anyOf (λ s. eqb (slot ts i s) j) 0 16) e .1) in
+      let (s, l, h, q) = any-some (λ s. eqb (slot ts i s) j) operandLimit 0 (and-inv (ltb j n) (anyOf (λ s. eqb (slot ts i s) j) 0 operandLimit) e .1) in
       (s, omega arith, eqb-true (slot ts i s) j q)
 
-  pub slot-read : (i j s : ℕ) → s < 16 → slot ts i s ≡ j → j < n → readsIndex ts n i j ≡ true
+  pub slot-read : (i j s : ℕ) → s < operandLimit → slot ts i s ≡ j → j < n → readsIndex ts n i j ≡ true
   unfolding readsIndex
   slot-read i j s l e h =
-      and-both (ltb j n) _ (lt-ltb j n h) (some-any (λ s. eqb (slot ts i s) j) 16 0 s (omega arith) (omega arith) (eq-eqb (slot ts i s) j e))
+      and-both (ltb j n) _ (lt-ltb j n h) (some-any (λ s. eqb (slot ts i s) j) operandLimit 0 s (omega arith) (omega arith) (eq-eqb (slot ts i s) j e))
 
   -- ---- the test tells only what is so
 

@@ -15,6 +15,7 @@ use Rattle.order.specs.Paths.{readsIndex, Path, one, more, onLoop}
 use Rattle.order.proofs.Range.{all-each}
 use Rattle.order.proofs.Closure.{read-below, read-slot, on-loop-iff}
 use Rattle.order.proofs.AnyOrder.{missing-none, Built, fresh, built-size, ordered}
+use Rattle.base.specs.Limits.{operandLimit}
 
 -- ---- what is done leads only to what is done, and never back
 
@@ -29,7 +30,7 @@ module _ (ts : List ℕ) (n : ℕ) where
       let below = read-below ts n f v h in
       let t : settled n (λ w. member w is) v ≡ true =
       subst (λ (k : ℕ). settled n (λ w. member w is) k ≡ true) q
-      (all-each (λ j. settled n (λ w. member w is) (slot ts f j)) 16 0 e s (omega arith) (omega arith)) in
+      (all-each (λ j. settled n (λ w. member w is) (slot ts f j)) operandLimit 0 e s (omega arith) (omega arith)) in
       ⊎-elim (λ a. let b = leb-true n v a in absurd (omega arith)) (λ b. b) (or-inv (leb n v) (member v is) t)
 
   from-ready : (is : List ℕ) (f : ℕ) → Safe is → ready ts n (λ w. member w is) f ≡ true → {x y : ℕ} → Path ts n x y → x ≡ f → member y is ≡ true

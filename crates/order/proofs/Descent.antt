@@ -20,6 +20,7 @@ use Rattle.order.proofs.Closure.{read-below, slot-read}
 use Rattle.order.proofs.Reached.{unmarked-none, unmarked-set}
 use Rattle.order.proofs.AnyOrder.{Built, fresh, built-size, any-order}
 use Rattle.order.proofs.Complete.{ready-reads}
+use Rattle.base.specs.Limits.{operandLimit, nodeLimit}
 
 -- ---- members
 
@@ -90,13 +91,13 @@ module _ (ts : List ℕ) (n : ℕ) where
     unsettled j = not (settled n done (slot ts i j))
 
     abbrev found : ℕ → ℕ
-    found j = cond (ltb j 16) (slot ts i j) n
+    found j = cond (ltb j operandLimit) (slot ts i j) n
 
-    pub waits-at : (j : ℕ) → j < 16 → firstOf unsettled 0 16 ≡ j → slot ts i j ≡ waits ts n done i
-    waits-at j l e = ap (λ (b : Bool). cond b (slot ts i j) n) (sym (lt-ltb j 16 l)) ∙ ap found (sym e)
+    pub waits-at : (j : ℕ) → j < operandLimit → firstOf unsettled 0 operandLimit ≡ j → slot ts i j ≡ waits ts n done i
+    waits-at j l e = ap (λ (b : Bool). cond b (slot ts i j) n) (sym (lt-ltb j operandLimit l)) ∙ ap found (sym e)
 
-    pub waits-nowhere : (j : ℕ) → 16 ≤ j → firstOf unsettled 0 16 ≡ j → n ≡ waits ts n done i
-    waits-nowhere j l e = ap (λ (b : Bool). cond b (slot ts i j) n) (sym (le-ltb j 16 l)) ∙ ap found (sym e)
+    pub waits-nowhere : (j : ℕ) → operandLimit ≤ j → firstOf unsettled 0 operandLimit ≡ j → n ≡ waits ts n done i
+    waits-nowhere j l e = ap (λ (b : Bool). cond b (slot ts i j) n) (sym (le-ltb j operandLimit l)) ∙ ap found (sym e)
 
     split : (a b : Bool) → not (a || b) ≡ true → (a ≡ false) × (b ≡ false)
     split true b e = both false e refl
@@ -106,11 +107,11 @@ module _ (ts : List ℕ) (n : ℕ) where
     module _ (w : ℕ) (e : w ≡ waits ts n done i) where
       -- it reads it, and it is not done
       waits-for : w < n → (readsIndex ts n i w ≡ true) × (done w ≡ false)
-      waits-for l = pickOne (firstOf unsettled 0 16) (first-is unsettled 16 0) (ltb (firstOf unsettled 0 16) 16) refl e
+      waits-for l = pickOne (firstOf unsettled 0 operandLimit) (first-is unsettled operandLimit 0) (ltb (firstOf unsettled 0 operandLimit) operandLimit) refl e
         where
-          pickOne : (f : ℕ) → First unsettled 0 16 f → (b : Bool) → ltb f 16 ≡ b → w ≡ cond b (slot ts i f) n → (readsIndex ts n i w ≡ true) × (done w ≡ false)
+          pickOne : (f : ℕ) → First unsettled 0 operandLimit f → (b : Bool) → ltb f operandLimit ≡ b → w ≡ cond b (slot ts i f) n → (readsIndex ts n i w ≡ true) × (done w ≡ false)
           pickOne f first true q h =
-              let a = ltb-true f 16 q in (
+              let a = ltb-true f operandLimit q in (
                 slot-read ts n i w f a (sym h) l,
                 ap done h ∙ split (leb n (slot ts i f)) (done (slot ts i f)) (first .hit (omega arith)) .1,
               )
@@ -118,29 +119,29 @@ module _ (ts : List ℕ) (n : ℕ) where
 
       pub waits-unready : w < n → ready ts n done i ≡ false
       waits-unready l =
-          pickOne (firstOf unsettled 0 16) (first-is unsettled 16 0) (ltb (firstOf unsettled 0 16) 16) refl e (ready ts n done i) refl
+          pickOne (firstOf unsettled 0 operandLimit) (first-is unsettled operandLimit 0) (ltb (firstOf unsettled 0 operandLimit) operandLimit) refl e (ready ts n done i) refl
         where
           pickOne :
-              (f : ℕ) → First unsettled 0 16 f → (b : Bool) → ltb f 16 ≡ b → w ≡ cond b (slot ts i f) n → (c : Bool) → ready ts n done i ≡ c → c ≡ false
+              (f : ℕ) → First unsettled 0 operandLimit f → (b : Bool) → ltb f operandLimit ≡ b → w ≡ cond b (slot ts i f) n → (c : Bool) → ready ts n done i ≡ c → c ≡ false
           pickOne f first b q h false r = refl
           pickOne f first true q h true r =
-              let a = ltb-true f 16 q in
-              both (settled n done (slot ts i f)) (all-each (λ j. settled n done (slot ts i j)) 16 0 r f (omega arith) (omega arith))
+              let a = ltb-true f operandLimit q in
+              both (settled n done (slot ts i f)) (all-each (λ j. settled n done (slot ts i j)) operandLimit 0 r f (omega arith) (omega arith))
               (not-true (settled n done (slot ts i f)) (first .hit (omega arith)))
           pickOne f first false q h true r = absurd (omega arith)
 
       pub waits-none : n ≤ w → ready ts n done i ≡ true
-      waits-none l = pickOne (firstOf unsettled 0 16) (first-is unsettled 16 0) (ltb (firstOf unsettled 0 16) 16) refl e
+      waits-none l = pickOne (firstOf unsettled 0 operandLimit) (first-is unsettled operandLimit 0) (ltb (firstOf unsettled 0 operandLimit) operandLimit) refl e
         where
-          pickOne : (f : ℕ) → First unsettled 0 16 f → (b : Bool) → ltb f 16 ≡ b → w ≡ cond b (slot ts i f) n → ready ts n done i ≡ true
+          pickOne : (f : ℕ) → First unsettled 0 operandLimit f → (b : Bool) → ltb f operandLimit ≡ b → w ≡ cond b (slot ts i f) n → ready ts n done i ≡ true
           pickOne f first true q h =
-              let a = ltb-true f 16 q in
+              let a = ltb-true f operandLimit q in
               let x = split (leb n (slot ts i f)) (done (slot ts i f)) (first .hit (omega arith)) .0 in
               let y = le-leb n (slot ts i f) (subst (λ (k : ℕ). n ≤ k) h l) in
               both (leb n (slot ts i f)) y x
           pickOne f first false q h =
-              let a = ltb-false f 16 q in
-              each-all (λ j. settled n done (slot ts i j)) 16 0 (λ j b c. not-false (settled n done (slot ts i j)) (first .miss j b (omega arith)))
+              let a = ltb-false f operandLimit q in
+              each-all (λ j. settled n done (slot ts i j)) operandLimit 0 (λ j b c. not-false (settled n done (slot ts i j)) (first .miss j b (omega arith)))
 
   -- ---- the path
 
@@ -180,15 +181,15 @@ module _ (ts : List ℕ) (n : ℕ) where
     pub closed : Closed held held
     pub known : (v : ℕ) → marked pushed v ≡ true → (member v done ≡ true) ⊎ (member v (path ++ held) ≡ true)
     pub seen : (v : ℕ) → (member v done ≡ true) ⊎ (member v path ≡ true) → marked pushed v ≡ true
-    pub size : length taken ≡ 256
-    pub places : length pushed ≡ 256
-    pub slots : length stack ≡ 256
-    pub room : depth + unmarked pushed ≤ 256
+    pub size : length taken ≡ nodeLimit
+    pub places : length pushed ≡ nodeLimit
+    pub slots : length stack ≡ nodeLimit
+    pub room : depth + unmarked pushed ≤ nodeLimit
 
   abbrev Descent : List Bool → List Bool → List ℕ → ℕ → ℕ → Type 0
   Descent taken pushed stack depth count = (path : List ℕ) × Descending taken pushed stack path depth count
 
-  descent-none : Descent (replicate 256 false) (replicate 256 false) (replicate 256 0) 0 0
+  descent-none : Descent (replicate nodeLimit false) (replicate nodeLimit false) (replicate nodeLimit 0) 0 0
   descent-none = (
     [],
     record {
@@ -203,12 +204,12 @@ module _ (ts : List ℕ) (n : ℕ) where
       below = λ v e. both false e refl;
       waiting = λ v e. refl;
       closed = λ v e. both false e refl;
-      known = λ v e. both (marked (replicate 256 false) v) e (mark-none v);
+      known = λ v e. both (marked (replicate nodeLimit false) v) e (mark-none v);
       seen = λ v e. ⊎-elim (λ a. both false a refl) (λ a. both false a refl) e;
-      size = length-replicate 256 false;
-      places = length-replicate 256 false;
-      slots = length-replicate {A = ℕ} 256 0;
-      room = let e = unmarked-none 256 in omega arith;
+      size = length-replicate nodeLimit false;
+      places = length-replicate nodeLimit false;
+      slots = length-replicate {A = ℕ} nodeLimit 0;
+      room = let e = unmarked-none nodeLimit in omega arith;
     },
   )
 
@@ -218,11 +219,11 @@ module _ (ts : List ℕ) (n : ℕ) where
 
     -- ---- a node more on the path
 
-    pushing : (few : n ≤ 256) (path : List ℕ) → (d : Descending taken pushed stack path depth count) → (w : ℕ) → w < n → Linked (w ∷ path)
+    pushing : (few : n ≤ nodeLimit) (path : List ℕ) → (d : Descending taken pushed stack path depth count) → (w : ℕ) → w < n → Linked (w ∷ path)
         → marked pushed w ≡ false → member w (d .done) ≡ false → Descent taken (set pushed w true) (set stack depth w) (depth + 1) count
     pushing few path d w l links e f =
         let u = unmarked-set pushed w (subst (λ (k : ℕ). w < k) (sym (d .places)) (omega arith)) e in
-        let s : depth < 256 = omega (arith, d .room) in
+        let s : depth < nodeLimit = omega (arith, d .room) in
         let m : w < length pushed = subst (λ (k : ℕ). w < k) (sym (d .places)) (omega arith) in (
           w ∷ path,
           record {
@@ -263,7 +264,7 @@ module _ (ts : List ℕ) (n : ℕ) where
 
     -- ---- nothing was begun
 
-    descent-root : n ≤ 256 → Descent taken pushed stack depth count → depth ≡ 0 → (w : ℕ) → w < n → marked pushed w ≡ false
+    descent-root : n ≤ nodeLimit → Descent taken pushed stack depth count → depth ≡ 0 → (w : ℕ) → w < n → marked pushed w ≡ false
         → Descent taken (set pushed w true) (set stack depth w) (depth + 1) count
     descent-root few ([], d) z w l e = pushing few [] d w l tt e (pickOne (member w (d .done)) refl)
       where
@@ -301,7 +302,7 @@ module _ (ts : List ℕ) (n : ℕ) where
       top-below (x ∷ path, d) = subst (λ (k : ℕ). k < n) (at-top x path d) (d .below x (member-first x path))
 
       -- it waits for w, which was not pushed
-      descent-push : n ≤ 256 → Descent taken pushed stack depth count → (w : ℕ) → readsIndex ts n v w ≡ true → marked taken w ≡ false
+      descent-push : n ≤ nodeLimit → Descent taken pushed stack depth count → (w : ℕ) → readsIndex ts n v w ≡ true → marked taken w ≡ false
           → marked pushed w ≡ false → Descent taken (set pushed w true) (set stack depth w) (depth + 1) count
       descent-push few ([], d) w r e f = absurd (omega (arith, d .deep))
       descent-push few (x ∷ path, d) w r e f =
@@ -349,7 +350,7 @@ module _ (ts : List ℕ) (n : ℕ) where
               (member-inv u x path h)
 
       -- it waits for nothing
-      descent-take : n ≤ 256 → Descent taken pushed stack depth count → ready ts n (marked taken) v ≡ true
+      descent-take : n ≤ nodeLimit → Descent taken pushed stack depth count → ready ts n (marked taken) v ≡ true
           → Descent (set taken v true) pushed stack (depth - 1) (count + 1)
       descent-take few ([], d) r = absurd (omega (arith, d .deep))
       descent-take few (x ∷ path, d) r =
@@ -364,7 +365,7 @@ module _ (ts : List ℕ) (n : ℕ) where
                     (ap not (subst (λ (k : ℕ). member k (d .done) ≡ false) (at-top x path d) (d .waiting x (member-first x (path ++ d .held))))) can,
                 d .built,
               );
-              marks = mark-one taken (d .done) v (subst (λ (k : ℕ). v < k) (sym (d .size)) (subst (λ (k : ℕ). k < 256) (at-top x path d) (omega arith))) (d .marks);
+              marks = mark-one taken (d .done) v (subst (λ (k : ℕ). v < k) (sym (d .size)) (subst (λ (k : ℕ). k < nodeLimit) (at-top x path d) (omega arith))) (d .marks);
               counted = omega (arith, d .counted);
               deep = omega (arith, d .deep);
               stored = d .stored .1;
@@ -414,11 +415,11 @@ module _ (ts : List ℕ) (n : ℕ) where
     pub begun : (v : ℕ) → v < root → marked pushed v ≡ true
     pub descent : Descent taken pushed stack depth count
 
-  pub searching-none : Searching (replicate 256 false) (replicate 256 false) (replicate 256 0) 0 0 0
+  pub searching-none : Searching (replicate nodeLimit false) (replicate nodeLimit false) (replicate nodeLimit 0) 0 0 0
   searching-none = record { bound = omega arith; idle = λ h. refl; begun = λ v h. absurd (omega arith); descent = descent-none }
 
-  module _ (few : n ≤ 256) {taken pushed : List Bool} {stack : List ℕ} {root depth count : ℕ} (s : Searching taken pushed stack root depth count) where
-    pub searching-size : (length pushed ≡ 256) × (depth + unmarked pushed ≤ 256) × (count ≤ n)
+  module _ (few : n ≤ nodeLimit) {taken pushed : List Bool} {stack : List ℕ} {root depth count : ℕ} (s : Searching taken pushed stack root depth count) where
+    pub searching-size : (length pushed ≡ nodeLimit) × (depth + unmarked pushed ≤ nodeLimit) × (count ≤ n)
     searching-size = let d = s .descent .1 in (d .places, d .room, descent-within (s .descent))
 
     -- one mark less is missing

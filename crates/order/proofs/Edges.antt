@@ -22,6 +22,7 @@ use Rattle.order.specs.Paths.{readsIndex, Path, one, more}
 use Rattle.order.specs.Resolve.{indexOf, target, Resolves}
 use Rattle.order.proofs.Closure.{read-below, read-slot, slot-read}
 use Rattle.order.proofs.Nodes.{at-is, at-below, index-of, in-index, ref-member, member-ref}
+use Rattle.base.specs.Limits.{noNode}
 
 among-in : (i : ℕ) (ns : List Node) → Among i ns → In i (ids ns)
 among-in i [] h = absurd h
@@ -39,7 +40,7 @@ module _ (ts : List ℕ) (ns : List Node) (r : Resolves ts ns) where
   slot-ref a y s none q t l = absurd (omega (arith, r .few))
   slot-ref a y s (some p) q t l = pickOne (eqb (p .node) 0) t
     where
-      pickOne : (b : Bool) → cond b 256 (indexOf (p .node) ns) ≡ y → Read a y
+      pickOne : (b : Bool) → cond b noNode (indexOf (p .node) ns) ≡ y → Read a y
       pickOne true e = absurd (omega (arith, r .few))
       pickOne false e =
           let (m, stands, found, same) = index-of (p .node) ns (subst (λ (k : ℕ). k < length ns) (sym e) l) in (
@@ -62,7 +63,7 @@ module _ (ts : List ℕ) (ns : List Node) (r : Resolves ts ns) where
       slot-read ts (length ns) x (indexOf j ns) s (omega arith)
       (r .slots x s a e (omega arith)
       ∙ (ap (target ns) q
-      ∙ (ap (λ (k : ℕ). cond (eqb k 0) 256 (indexOf k ns)) same ∙ ap (λ (b : Bool). cond b 256 (indexOf j ns)) (ne-eqb j 0 z))))
+      ∙ (ap (λ (k : ℕ). cond (eqb k 0) noNode (indexOf k ns)) same ∙ ap (λ (b : Bool). cond b noNode (indexOf j ns)) (ne-eqb j 0 z))))
       (in-index j ns i)
 
   -- ---- paths

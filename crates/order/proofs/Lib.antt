@@ -10,5 +10,4 @@ pub mod AnyOrder
 pub mod Complete
 pub mod Descent
 pub mod LoopFree
-pub mod Slots
 pub mod Stored

@@ -24,11 +24,12 @@ use Rattle.order.specs.Indices.{firstOf, indexOrder}
 use Rattle.order.specs.Paths.{Path, onLoop, firstOnLoop}
 use Rattle.order.specs.Resolve.{indexOf, Resolves}
 use Rattle.order.proofs.Range.{First, first-is}
-use Rattle.order.proofs.Nodes.{below-at, some-is, index-first}
+use Rattle.order.proofs.Nodes.{below-at, index-first}
 use Rattle.order.proofs.Scheduled.{schedule-is}
 use Rattle.order.proofs.Closure.{on-loop-iff}
 use Rattle.order.proofs.Edges.{path-leads, loop-path}
 use Rattle.order.proofs.Complete.{complete-free, path-below}
+use Rattle.base.proofs.Lists.{some-is}
 
 -- ---- the first fault
 

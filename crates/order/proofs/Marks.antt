@@ -12,6 +12,8 @@ use borrow.Author.Tests.{eqb-true, eqb-false, ltb-true, ltb-false, lt-ltb, le-lt
 use Rattle.base.specs.Lists.{member}
 use Rattle.order.specs.Indices.{firstOf, slot, settled, ready, eligible, next, orderFrom, indexOrder, marked}
 use Rattle.order.proofs.Range.{First, first-is, first-from, first-same, all-same}
+use Rattle.base.specs.Limits.{nodeLimit, operandLimit}
+use Rattle.base.proofs.Stores.{sets-append}
 
 -- ---- a mark more
 
@@ -28,13 +30,13 @@ mark-keeps ms i v l h = pickOne (eqb v i) refl
     pickOne true e = subst (λ (w : ℕ). marked (set ms i true) w ≡ true) (sym (eqb-true v i e)) (mark-same ms i l)
     pickOne false e = mark-other ms i v (eqb-false v i e) ∙ h
 
-pub mark-none : (v : ℕ) → marked (replicate 256 false) v ≡ false
-mark-none v = pickOne (ltb v 256) refl
+pub mark-none : (v : ℕ) → marked (replicate nodeLimit false) v ≡ false
+mark-none v = pickOne (ltb v nodeLimit) refl
   where
-    pickOne : (b : Bool) → ltb v 256 ≡ b → marked (replicate 256 false) v ≡ false
-    pickOne true e = getD-replicate 256 v false false (ltb-true v 256 e)
+    pickOne : (b : Bool) → ltb v nodeLimit ≡ b → marked (replicate nodeLimit false) v ≡ false
+    pickOne true e = getD-replicate nodeLimit v false false (ltb-true v nodeLimit e)
     pickOne false e =
-        List·getD-eq-default (replicate 256 false) false (subst (λ (m : ℕ). m ≤ v) (sym (length-replicate 256 false)) (ltb-false v 256 e))
+        List·getD-eq-default (replicate nodeLimit false) false (subst (λ (m : ℕ). m ≤ v) (sym (length-replicate nodeLimit false)) (ltb-false v nodeLimit e))
 
 -- ---- the marks tell which nodes are done
 
@@ -51,7 +53,7 @@ mark-one ms done i l h v = pickOne (eqb i v) refl
 module _ (ts : List ℕ) (n : ℕ) (p q : ℕ → Bool) (h : (v : ℕ) → p v ≡ q v) where
   pub ready-same : (i : ℕ) → ready ts n p i ≡ ready ts n q i
   ready-same i =
-      all-same (λ j. settled n p (slot ts i j)) (λ j. settled n q (slot ts i j)) 16 0
+      all-same (λ j. settled n p (slot ts i j)) (λ j. settled n q (slot ts i j)) operandLimit 0
       (λ j a b. ap (λ (x : Bool). leb n (slot ts i j) || x) (h (slot ts i j)))
 
   eligible-same : (i : ℕ) → eligible ts n p i ≡ eligible ts n q i
@@ -59,15 +61,6 @@ module _ (ts : List ℕ) (n : ℕ) (p q : ℕ → Bool) (h : (v : ℕ) → p v �
 
   next-same : next ts n p ≡ next ts n q
   next-same = first-same (eligible ts n p) (eligible ts n q) n 0 (λ v a b. eligible-same v)
-
--- ---- stores one after another
-
-module _ {A : Type 0} where
-  pub sets-more : (l : List A) (i : ℕ) (vs : List A) (x : A) → sets l i (vs ++ x ∷ []) ≡ set (sets l i vs) (i + length vs) x
-  sets-more l i [] x = let e : i ≡ i + 0 = omega arith in ap (λ (k : ℕ). set l k x) e
-  sets-more l i (v ∷ vs) x =
-      let e : suc i + length vs ≡ i + suc (length vs) = omega arith in
-      sets-more (set l i v) (suc i) vs x ∙ ap (λ (k : ℕ). set (sets (set l i v) (suc i) vs) k x) e
 
 -- ---- the order
 
@@ -83,9 +76,9 @@ module _ (ts : List ℕ) (n : ℕ) where
     pub marks : Marks taken done
     pub skipped : (v : ℕ) → v < low → marked taken v ≡ true
     pub bound : low ≤ n
-    pub size : length taken ≡ 256
+    pub size : length taken ≡ nodeLimit
 
-  pub scheduling-none : (start : List ℕ) → Scheduling start start (replicate 256 false) 0 0
+  pub scheduling-none : (start : List ℕ) → Scheduling start start (replicate nodeLimit false) 0 0
   unfolding indexOrder
   scheduling-none start =
       record {
@@ -98,7 +91,7 @@ module _ (ts : List ℕ) (n : ℕ) where
         marks = mark-none;
         skipped = λ v h. absurd (not-suc-le-zero h);
         bound = omega arith;
-        size = length-replicate 256 false;
+        size = length-replicate nodeLimit false;
       }
 
   module _ {start order : List ℕ} {taken : List Bool} {low count : ℕ} (s : Scheduling start order taken low count) where
@@ -135,7 +128,7 @@ module _ (ts : List ℕ) (n : ℕ) where
             (ap (λ (b : Bool). cond b (i ∷ orderFrom ts n (n - (count + 1)) (i ∷ s .done)) []) (lt-ltb i n h))
 
         -- node i is taken, and `low` goes on to the first that is not
-        pub scheduling-step : n ≤ 256 → (next-low : ℕ) → next-low ≡ firstOf (λ v. not (marked (set taken i true) v)) low (n - low)
+        pub scheduling-step : n ≤ nodeLimit → (next-low : ℕ) → next-low ≡ firstOf (λ v. not (marked (set taken i true) v)) low (n - low)
             → Scheduling start (set order count i) (set taken i true) next-low (count + 1)
         scheduling-step few next-low f =
             let l : i < length taken = subst (λ (k : ℕ). i < k) (sym (s .size)) (omega arith) in
@@ -148,7 +141,7 @@ module _ (ts : List ℕ) (n : ℕ) where
               whole = s .whole ∙ ap (λ (l : List ℕ). s .front ++ l) step ∙ sym (append-assoc (s .front) (i ∷ []) _);
               stored =
                   ap (λ (l : List ℕ). set l count i) (s .stored)
-                  ∙ (ap (λ (k : ℕ). set (sets start 0 (s .front)) k i) place ∙ sym (sets-more start 0 (s .front) i));
+                  ∙ (ap (λ (k : ℕ). set (sets start 0 (s .front)) k i) place ∙ sym (sets-append (s .front) (i ∷ []) start 0));
               marks = mark-one taken (s .done) i l (s .marks);
               skipped = λ v b. skipped l first v b (ltb v low) refl;
               bound = omega (arith, first .high, s .bound);

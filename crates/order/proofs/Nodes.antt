@@ -15,6 +15,7 @@ use Rattle.base.specs.Lists.{member, Is}
 use Rattle.graph.proofs.Loops.{In}
 use Rattle.graph.proofs.Order.{ids}
 use Rattle.order.specs.Resolve.{indexOf}
+use Rattle.base.proofs.Lists.{some-is}
 
 -- ---- what stands at an index
 
@@ -33,9 +34,6 @@ module _ {A : Type 0} where
   below-at [] i h = absurd (omega arith)
   below-at (y ∷ ys) zero h = (y, refl)
   below-at (y ∷ ys) (suc i) h = below-at ys i (omega arith)
-
-  pub some-is : {a b : A} → some a ≡ some b → a ≡ b
-  some-is e = cc
 
 -- ---- the index of an id
 

@@ -16,6 +16,7 @@ use Rattle.order.specs.Paths.{readsIndex, Path, one, more, onLoop}
 use Rattle.order.specs.Walk.{Walk, walk, visit, visitFrom, unmarked, Room}
 use Rattle.order.proofs.Marks.{mark-same, mark-other, mark-keeps, mark-none}
 use Rattle.order.proofs.Closure.{read-below, read-slot, slot-read, follow, on-loop-iff}
+use Rattle.base.specs.Limits.{nodeLimit, operandLimit}
 
 -- ---- marks that are not set
 
@@ -46,12 +47,12 @@ abbrev added : ℕ → Walk → Walk
 added v w = walk (set (w .seen) v true) (set (w .queue) (w .tail) v) (w .tail + 1)
 
 -- a node that was not seen has a place in the queue
-pub has-place : (w : Walk) (v : ℕ) → Room w → v < 256 → marked (w .seen) v ≡ false → w .tail < 256
+pub has-place : (w : Walk) (v : ℕ) → Room w → v < nodeLimit → marked (w .seen) v ≡ false → w .tail < nodeLimit
 has-place w v r l e =
     let f = unmarked-set (w .seen) v (subst (λ (k : ℕ). v < k) (sym (r .marks)) l) e in
     omega (arith, r .rest)
 
-added-room : (w : Walk) (v : ℕ) → Room w → v < 256 → marked (w .seen) v ≡ false → Room (added v w)
+added-room : (w : Walk) (v : ℕ) → Room w → v < nodeLimit → marked (w .seen) v ≡ false → Room (added v w)
 added-room w v r l e =
     let f = unmarked-set (w .seen) v (subst (λ (k : ℕ). v < k) (sym (r .marks)) l) e in
     record {
@@ -60,7 +61,7 @@ added-room w v r l e =
       rest = omega (arith, r .rest);
     }
 
-pub visit-room : (n v : ℕ) (w : Walk) → n ≤ 256 → Room w → Room (visit n v w)
+pub visit-room : (n v : ℕ) (w : Walk) → n ≤ nodeLimit → Room w → Room (visit n v w)
 visit-room n v w few r = pickOne (ltb v n) (marked (w .seen) v) refl refl
   where
     pickOne : (a b : Bool) → ltb v n ≡ a → marked (w .seen) v ≡ b → Room (cond (a && not b) (added v w) w)
@@ -115,7 +116,7 @@ module _ {P : ℕ → Type 0} where
         fresh = λ u h. ⊎-elim (λ a. s .fresh u a) (λ b. inr b) (t .fresh u h);
       }
 
-  step-added : (w : Walk) (v : ℕ) → Good w → v < 256 → marked (w .seen) v ≡ false → P v → Step P w (added v w)
+  step-added : (w : Walk) (v : ℕ) → Good w → v < nodeLimit → marked (w .seen) v ≡ false → P v → Step P w (added v w)
   step-added w v g l e p =
       record {
         good = record { room = added-room w v (g .room) l e; queued = λ u h. queued u h (eqb u v) refl; inside = λ q h. inside q h (eqb q (w .tail)) refl };
@@ -151,7 +152,7 @@ module _ {P : ℕ → Type 0} where
       fresh u h true q = inr (subst P (sym (eqb-true u v q)) p)
       fresh u h false q = inl (sym (mark-other (w .seen) v u (eqb-false u v q)) ∙ h)
 
-  visit-step : (n v : ℕ) (w : Walk) → n ≤ 256 → Good w → (v < n → P v) → Step P w (visit n v w)
+  visit-step : (n v : ℕ) (w : Walk) → n ≤ nodeLimit → Good w → (v < n → P v) → Step P w (visit n v w)
   visit-step n v w few g p = pickOne (ltb v n) (marked (w .seen) v) refl refl
     where
       pickOne : (a b : Bool) → ltb v n ≡ a → marked (w .seen) v ≡ b → Step P w (cond (a && not b) (added v w) w)
@@ -159,7 +160,7 @@ module _ {P : ℕ → Type 0} where
       pickOne true false qa qb = let l = ltb-true v n qa in step-added w v g (omega arith) qb (p l)
       pickOne false b qa qb = step-none w g
 
-visit-marks : (n v : ℕ) (w : Walk) → n ≤ 256 → Room w → v < n → marked (visit n v w .seen) v ≡ true
+visit-marks : (n v : ℕ) (w : Walk) → n ≤ nodeLimit → Room w → v < n → marked (visit n v w .seen) v ≡ true
 visit-marks n v w few r l =
     ap (λ (b : Bool). marked (cond (b && not (marked (w .seen) v)) (added v w) w .seen) v) (lt-ltb v n l) ∙ pickOne (marked (w .seen) v) refl
   where
@@ -169,30 +170,30 @@ visit-marks n v w few r l =
 
 -- ---- the slots of a node
 
-module _ (ts : List ℕ) (n : ℕ) (few : n ≤ 256) (i : ℕ) where
+module _ (ts : List ℕ) (n : ℕ) (few : n ≤ nodeLimit) (i : ℕ) where
   -- one slot, and those behind it
-  pub from-one : (j : ℕ) (w : Walk) → j < 16 → visitFrom ts n i j (16 - j) w ≡ visitFrom ts n i (j + 1) (16 - (j + 1)) (visit n (slot ts i j) w)
+  pub from-one : (j : ℕ) (w : Walk) → j < operandLimit → visitFrom ts n i j (operandLimit - j) w ≡ visitFrom ts n i (j + 1) (operandLimit - (j + 1)) (visit n (slot ts i j) w)
   unfolding visitFrom
   from-one j w h =
-      let e : 16 - j ≡ suc (16 - (j + 1)) = omega arith in
-      ap (λ (k : ℕ). visitFrom ts n i j k w) e ∙ ap (λ (s : ℕ). visitFrom ts n i s (16 - (j + 1)) (visit n (slot ts i j) w)) (sym (add-one j))
+      let e : operandLimit - j ≡ suc (operandLimit - (j + 1)) = omega arith in
+      ap (λ (k : ℕ). visitFrom ts n i j k w) e ∙ ap (λ (s : ℕ). visitFrom ts n i s (operandLimit - (j + 1)) (visit n (slot ts i j) w)) (sym (add-one j))
 
-  pub from-end : (j : ℕ) (w : Walk) → 16 ≤ j → visitFrom ts n i j (16 - j) w ≡ w
+  pub from-end : (j : ℕ) (w : Walk) → operandLimit ≤ j → visitFrom ts n i j (operandLimit - j) w ≡ w
   unfolding visitFrom
-  from-end j w h = let e : 16 - j ≡ 0 = omega arith in ap (λ (k : ℕ). visitFrom ts n i j k w) e
+  from-end j w h = let e : operandLimit - j ≡ 0 = omega arith in ap (λ (k : ℕ). visitFrom ts n i j k w) e
 
   -- the slots below j were visited
   abbrev pub Visiting : Walk → ℕ → Walk → Type 0
-  Visiting w j z = (j ≤ 16) × Room z × (visitFrom ts n i 0 16 w ≡ visitFrom ts n i j (16 - j) z)
+  Visiting w j z = (j ≤ operandLimit) × Room z × (visitFrom ts n i 0 operandLimit w ≡ visitFrom ts n i j (operandLimit - j) z)
 
-  pub visiting-step : (w z y : Walk) (j : ℕ) → Visiting w j z → j < 16 → y ≡ visit n (slot ts i j) z → Visiting w (j + 1) y
+  pub visiting-step : (w z y : Walk) (j : ℕ) → Visiting w j z → j < operandLimit → y ≡ visit n (slot ts i j) z → Visiting w (j + 1) y
   visiting-step w z y j (b, r, e) h q = (
     omega arith,
     subst Room (sym q) (visit-room n (slot ts i j) z few r),
-    e ∙ (from-one j z h ∙ ap (visitFrom ts n i (j + 1) (16 - (j + 1))) (sym q)),
+    e ∙ (from-one j z h ∙ ap (visitFrom ts n i (j + 1) (operandLimit - (j + 1))) (sym q)),
   )
 
-  from-step : (k j : ℕ) (w : Walk) → j + k ≤ 16 → Good w → Step (λ u. readsIndex ts n i u ≡ true) w (visitFrom ts n i j k w)
+  from-step : (k j : ℕ) (w : Walk) → j + k ≤ operandLimit → Good w → Step (λ u. readsIndex ts n i u ≡ true) w (visitFrom ts n i j k w)
   unfolding visitFrom
   from-step zero j w h g = step-none w g
   from-step (suc k) j w h g =
@@ -200,7 +201,7 @@ module _ (ts : List ℕ) (n : ℕ) (few : n ≤ 256) (i : ℕ) where
       step-then w (visit n (slot ts i j) w) _ s (from-step k (suc j) (visit n (slot ts i j) w) (omega arith) (s .good))
 
   from-marks :
-      (k j : ℕ) (w : Walk) → j + k ≤ 16 → Good w → (s : ℕ) → j ≤ s → s < j + k → slot ts i s < n
+      (k j : ℕ) (w : Walk) → j + k ≤ operandLimit → Good w → (s : ℕ) → j ≤ s → s < j + k → slot ts i s < n
       → marked (visitFrom ts n i j k w .seen) (slot ts i s) ≡ true
   unfolding visitFrom
   from-marks zero j w h g s a b l = absurd (omega arith)
@@ -218,14 +219,14 @@ module _ (ts : List ℕ) (n : ℕ) (few : n ≤ 256) (i : ℕ) where
           (subst (λ (x : ℕ). marked (visit n (slot ts i x) w .seen) (slot ts i s) ≡ true) (eqb-true s j q) (visit-marks n (slot ts i s) w few (g .room) l))
       pickOne t ih false q = let d : s ≡ j → ⊥ = eqb-false s j q in ih (omega arith)
 
-  all-step : (w : Walk) → Good w → Step (λ u. readsIndex ts n i u ≡ true) w (visitFrom ts n i 0 16 w)
-  all-step w g = from-step 16 0 w (omega arith) g
+  all-step : (w : Walk) → Good w → Step (λ u. readsIndex ts n i u ≡ true) w (visitFrom ts n i 0 operandLimit w)
+  all-step w g = from-step operandLimit 0 w (omega arith) g
 
-  all-marks : (w : Walk) → Good w → (u : ℕ) → readsIndex ts n i u ≡ true → marked (visitFrom ts n i 0 16 w .seen) u ≡ true
+  all-marks : (w : Walk) → Good w → (u : ℕ) → readsIndex ts n i u ≡ true → marked (visitFrom ts n i 0 operandLimit w .seen) u ≡ true
   all-marks w g u r =
       let (s, l, e) = read-slot ts n i u r in
       let h : slot ts i s < n = subst (λ (k : ℕ). k < n) (sym e) (read-below ts n i u r) in
-      subst (λ (k : ℕ). marked (visitFrom ts n i 0 16 w .seen) k ≡ true) e (from-marks 16 0 w (omega arith) g s (omega arith) (omega arith) h)
+      subst (λ (k : ℕ). marked (visitFrom ts n i 0 operandLimit w .seen) k ≡ true) e (from-marks operandLimit 0 w (omega arith) g s (omega arith) (omega arith) h)
 
 -- ---- the walk from node i
 
@@ -238,19 +239,19 @@ pub record Walking (ts : List ℕ) (n i head : ℕ) (w : Walk) : Type 0 where
   pub closed : (q : ℕ) → q < head → (v : ℕ) → readsIndex ts n (getD (w .queue) q 0) v ≡ true → marked (w .seen) v ≡ true
 
 abbrev pub nothing : Walk
-nothing = walk (replicate 256 false) (replicate 256 0) 0
+nothing = walk (replicate nodeLimit false) (replicate nodeLimit 0) 0
 
 pub nothing-room : Room nothing
-nothing-room = record { marks = length-replicate 256 false; places = length-replicate {A = ℕ} 256 0; rest = let e = unmarked-none 256 in omega arith }
+nothing-room = record { marks = length-replicate nodeLimit false; places = length-replicate {A = ℕ} nodeLimit 0; rest = let e = unmarked-none nodeLimit in omega arith }
 
-nothing-seen : {A : Type 0} (v : ℕ) → marked (replicate 256 false) v ≡ true → A
+nothing-seen : {A : Type 0} (v : ℕ) → marked (replicate nodeLimit false) v ≡ true → A
 nothing-seen v e = let f = mark-none v in let z : _≡_ {A = ℕ} 0 1 = cc in absurd (omega arith)
 
 nothing-good : Good nothing
 nothing-good = record { room = nothing-room; queued = λ v e. nothing-seen v e; inside = λ q h. absurd (not-suc-le-zero h) }
 
-module _ (ts : List ℕ) (n : ℕ) (few : n ≤ 256) (i : ℕ) where
-  pub walking-start : (w : Walk) → w ≡ visitFrom ts n i 0 16 nothing → Walking ts n i 0 w
+module _ (ts : List ℕ) (n : ℕ) (few : n ≤ nodeLimit) (i : ℕ) where
+  pub walking-start : (w : Walk) → w ≡ visitFrom ts n i 0 operandLimit nothing → Walking ts n i 0 w
   walking-start w e =
       let s = all-step ts n few i nothing nothing-good in
       subst (Walking ts n i 0) (sym e)
@@ -262,10 +263,10 @@ module _ (ts : List ℕ) (n : ℕ) (few : n ≤ 256) (i : ℕ) where
         closed = λ q h. absurd (not-suc-le-zero h);
       })
 
-  pub at-head : (head : ℕ) (w : Walk) → Walking ts n i head w → head < w .tail → getD (w .queue) head 0 < 256
+  pub at-head : (head : ℕ) (w : Walk) → Walking ts n i head w → head < w .tail → getD (w .queue) head 0 < nodeLimit
   at-head head w k h = subst (λ (m : ℕ). getD (w .queue) head 0 < m) (k .good .room .marks) (seen-below (w .seen) (getD (w .queue) head 0) (k .good .inside head h))
 
-  pub walking-step : (head : ℕ) (w z : Walk) → Walking ts n i head w → head < w .tail → z ≡ visitFrom ts n (getD (w .queue) head 0) 0 16 w → Walking ts n i (head + 1) z
+  pub walking-step : (head : ℕ) (w z : Walk) → Walking ts n i head w → head < w .tail → z ≡ visitFrom ts n (getD (w .queue) head 0) 0 operandLimit w → Walking ts n i (head + 1) z
   walking-step head w z k h e =
       let x = getD (w .queue) head 0 in
       let s = all-step ts n few x w (k .good) in
@@ -279,12 +280,12 @@ module _ (ts : List ℕ) (n : ℕ) (few : n ≤ 256) (i : ℕ) where
       })
     where
       closed :
-          Step (λ u. readsIndex ts n (getD (w .queue) head 0) u ≡ true) w (visitFrom ts n (getD (w .queue) head 0) 0 16 w) → (q : ℕ) → q < head + 1 → (v : ℕ)
-          → readsIndex ts n (getD (visitFrom ts n (getD (w .queue) head 0) 0 16 w .queue) q 0) v ≡ true → (b : Bool) → eqb q head ≡ b
-          → marked (visitFrom ts n (getD (w .queue) head 0) 0 16 w .seen) v ≡ true
+          Step (λ u. readsIndex ts n (getD (w .queue) head 0) u ≡ true) w (visitFrom ts n (getD (w .queue) head 0) 0 operandLimit w) → (q : ℕ) → q < head + 1 → (v : ℕ)
+          → readsIndex ts n (getD (visitFrom ts n (getD (w .queue) head 0) 0 operandLimit w .queue) q 0) v ≡ true → (b : Bool) → eqb q head ≡ b
+          → marked (visitFrom ts n (getD (w .queue) head 0) 0 operandLimit w .seen) v ≡ true
       closed s q l v r true d =
-          let a : getD (visitFrom ts n (getD (w .queue) head 0) 0 16 w .queue) q 0 ≡ getD (w .queue) head 0 =
-          ap (λ (m : ℕ). getD (visitFrom ts n (getD (w .queue) head 0) 0 16 w .queue) m 0) (eqb-true q head d) ∙ s .kept head h in
+          let a : getD (visitFrom ts n (getD (w .queue) head 0) 0 operandLimit w .queue) q 0 ≡ getD (w .queue) head 0 =
+          ap (λ (m : ℕ). getD (visitFrom ts n (getD (w .queue) head 0) 0 operandLimit w .queue) m 0) (eqb-true q head d) ∙ s .kept head h in
           all-marks ts n few (getD (w .queue) head 0) w (k .good) v (subst (λ (m : ℕ). readsIndex ts n m v ≡ true) a r)
       closed s q l v r false d =
           let f : q ≡ head → ⊥ = eqb-false q head d in

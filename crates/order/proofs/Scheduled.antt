@@ -20,7 +20,9 @@ use Rattle.graph.proofs.Order.{ids}
 use Rattle.order.specs.Indices.{firstOf, allOf, slot, settled, ready, eligible, next, orderFrom, indexOrder}
 use Rattle.order.specs.Resolve.{indexOf, target, Resolves}
 use Rattle.order.proofs.Range.{First, first-is, all-same}
-use Rattle.order.proofs.Nodes.{at-is, some-is, index-of, in-index, index-first, ref-member}
+use Rattle.order.proofs.Nodes.{at-is, index-of, in-index, index-first, ref-member}
+use Rattle.base.specs.Limits.{noNode, operandLimit}
+use Rattle.base.proofs.Lists.{some-is}
 
 -- ---- the references one by one
 
@@ -92,8 +94,8 @@ module _ (ts : List ℕ) (ns : List Node) (r : Resolves ts ns) where
     where
       pickOne :
           (b : Bool) → eqb (q .node) 0 ≡ b
-          → settled (length ns) (λ v. member v is) (cond b 256 (indexOf (q .node) ns)) ≡ b || member (q .node) done
-      pickOne true w = ap (λ (b : Bool). b || member 256 is) (le-leb (length ns) 256 (r .few))
+          → settled (length ns) (λ v. member v is) (cond b noNode (indexOf (q .node) ns)) ≡ b || member (q .node) done
+      pickOne true w = ap (λ (b : Bool). b || member noNode is) (le-leb (length ns) noNode (let f = r .few in omega arith))
       pickOne false w =
           let j : In (q .node) (ids ns) =
           ⊎-elim (λ z. absurd (eqb-false (q .node) 0 w z)) (λ a. a) (r .closed x (q .node) i (ref-member (reads x) s q e)) in
@@ -114,9 +116,9 @@ module _ (ts : List ℕ) (ns : List Node) (r : Resolves ts ns) where
   ready-is is done h v x e =
       let n = length ns in
       let i = at-is ns v x e in
-      all-same (λ j. settled n (λ w. member w is) (slot ts v j)) (λ j. settled n (λ w. member w is) (target ns (getElem? (reads x) j))) 16 0
+      all-same (λ j. settled n (λ w. member w is) (slot ts v j)) (λ j. settled n (λ w. member w is) (target ns (getElem? (reads x) j))) operandLimit 0
       (λ j a b. ap (λ (t : ℕ). settled n (λ w. member w is) t) (r .slots v j x e (omega arith)))
-      ∙ (slots-refs (λ o. settled n (λ w. member w is) (target ns o)) (ap (λ (b : Bool). b || member 256 is) (le-leb n 256 (r .few))) (reads x) 16 0 (reads x)
+      ∙ (slots-refs (λ o. settled n (λ w. member w is) (target ns o)) (ap (λ (b : Bool). b || member noNode is) (le-leb n noNode (let f = r .few in omega arith))) (reads x) operandLimit 0 (reads x)
       (λ w. let e : 0 + w ≡ w = omega arith in ap (λ (m : ℕ). getElem? (reads x) m) e) (r .narrow x i)
       ∙ refs-ready is done h x i (reads x) 0 (λ w. let e : 0 + w ≡ w = omega arith in ap (λ (m : ℕ). getElem? (reads x) m) e))
 

@@ -6,8 +6,8 @@ use mathlib.Core.List.{List, [], _∷_, map}
 use mathlib.Core.Option.{Option, some}
 use native.Mathlib.Omega.{arith}
 use lib.Dec.{ltb}
-use lib.ListN.{length, getD, getElem?, set, length-set}
-use lib.Seq.{sets, getD-set-same, getD-set-other}
+use lib.ListN.{length, getD, getElem?}
+use lib.Seq.{sets}
 use borrow.Author.Tests.{ltb-true}
 use Rattle.graph.specs.Graph.{Node}
 use Rattle.graph.specs.Look.{findNode}
@@ -16,6 +16,7 @@ use Rattle.graph.specs.Schedule.{schedule}
 use Rattle.order.specs.Indices.{next, orderFrom, indexOrder}
 use Rattle.order.specs.Resolve.{Resolves}
 use Rattle.order.proofs.Scheduled.{schedule-is}
+use Rattle.base.proofs.Stores.{sets-in}
 
 -- ---- its length and its entries
 
@@ -58,28 +59,13 @@ module _ (ts : List ℕ) (n : ℕ) where
 
 -- ---- in the array
 
-set-before : (vs l : List ℕ) (i q : ℕ) → q < i → getD (sets l i vs) q 0 ≡ getD l q 0
-set-before [] l i q h = refl
-set-before (v ∷ vs) l i q h = set-before vs (set l i v) (suc i) q (omega arith) ∙ getD-set-other l i q v 0 (λ e. omega arith)
-
-pub sets-at : (vs l : List ℕ) (i q : ℕ) → i + length vs ≤ length l → q < length vs → getD (sets l i vs) (i + q) 0 ≡ getD vs q 0
-sets-at [] l i q h b = absurd (omega arith)
-sets-at (v ∷ vs) l i zero h b =
-    let e : i + 0 ≡ i = omega arith in
-    ap (λ (k : ℕ). getD (sets (set l i v) (suc i) vs) k 0) e
-    ∙ (set-before vs (set l i v) (suc i) i (omega arith) ∙ getD-set-same l i v 0 (omega arith))
-sets-at (v ∷ vs) l i (suc q) h b =
-    let e : i + suc q ≡ suc i + q = omega arith in
-    let z = length-set l i v in
-    ap (λ (k : ℕ). getD (sets (set l i v) (suc i) vs) k 0) e ∙ sets-at vs (set l i v) (suc i) q (omega arith) (omega arith)
-
 -- what `schedule` leaves at q
 pub stored-at : (ts : List ℕ) (n : ℕ) (l : List ℕ) (q : ℕ) → n ≤ length l → q < length (indexOrder ts n)
     → getD (sets l 0 (indexOrder ts n)) q 0 ≡ getD (indexOrder ts n) q 0
 stored-at ts n l q h b =
     let s = order-short ts n in
     let e : q ≡ 0 + q = omega arith in
-    ap (λ (k : ℕ). getD (sets l 0 (indexOrder ts n)) k 0) e ∙ sets-at (indexOrder ts n) l 0 q (omega arith) b
+    ap (λ (k : ℕ). getD (sets l 0 (indexOrder ts n)) k 0) e ∙ sets-in (indexOrder ts n) l 0 q b (omega arith)
 
 -- ---- the nodes
 

@@ -1,4 +1,4 @@
--- A function's nodes by their indices, and the order of them. `ts` has 16 slots for each node: the indices of the
+-- A function's nodes by their indices, and the order of them. `ts` has `operandLimit` slots for each node: the indices of the
 -- nodes that it reads. A slot that holds n or more stands for no node. n is the node count.
 use Prim.Native.Nat.{ℕ, zero, suc, _+_, _*_}
 use mathlib.Core.Bool.{Bool, true, false, not, _&&_, _||_, cond}
@@ -6,6 +6,7 @@ use mathlib.Core.List.{List, [], _∷_}
 use lib.Dec.{leb, ltb}
 use lib.ListN.{getD}
 use Rattle.base.specs.Lists.{member}
+use Rattle.base.specs.Limits.{operandLimit}
 
 -- ---- some of the k numbers from i on
 
@@ -28,7 +29,7 @@ anyOf p i (suc k) = p i || anyOf p (suc i) k
 
 -- slot j of node i
 abbrev pub slot : List ℕ → ℕ → ℕ → ℕ
-slot ts i j = getD ts (16 * i + j) 0
+slot ts i j = getD ts (operandLimit * i + j) 0
 
 -- no node, or one that is done
 abbrev pub settled : ℕ → (ℕ → Bool) → ℕ → Bool
@@ -36,11 +37,11 @@ settled n done v = leb n v || done v
 
 -- all that node i reads is done
 abbrev pub ready : List ℕ → ℕ → (ℕ → Bool) → ℕ → Bool
-ready ts n done i = allOf (λ j. settled n done (slot ts i j)) 0 16
+ready ts n done i = allOf (λ j. settled n done (slot ts i j)) 0 operandLimit
 
 -- the first node that node i waits for, or n
 abbrev pub waits : List ℕ → ℕ → (ℕ → Bool) → ℕ → ℕ
-waits ts n done i = let j = firstOf (λ j. not (settled n done (slot ts i j))) 0 16 in cond (ltb j 16) (slot ts i j) n
+waits ts n done i = let j = firstOf (λ j. not (settled n done (slot ts i j))) 0 operandLimit in cond (ltb j operandLimit) (slot ts i j) n
 
 -- not done, and ready
 abbrev pub eligible : List ℕ → ℕ → (ℕ → Bool) → ℕ → Bool

@@ -7,10 +7,11 @@ use lib.Dec.{eqb, ltb}
 use Rattle.order.specs.declared.OnLoop.{OnLoop}
 use Rattle.order.specs.declared.OnLoop.the-variants.{At, Nothing}
 use Rattle.order.specs.Indices.{firstOf, anyOf, slot}
+use Rattle.base.specs.Limits.{operandLimit}
 
 -- j is a node that a slot of node i holds
 unfoldable pub readsIndex : List ℕ → ℕ → ℕ → ℕ → Bool
-readsIndex ts n i j = ltb j n && anyOf (λ s. eqb (slot ts i s) j) 0 16
+readsIndex ts n i j = ltb j n && anyOf (λ s. eqb (slot ts i s) j) 0 operandLimit
 
 -- following slots from i leads to j
 pub data Path (ts : List ℕ) (n : ℕ) : ℕ → ℕ → Type 0 where

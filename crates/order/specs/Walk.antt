@@ -6,6 +6,7 @@ use mathlib.Core.List.{List, [], _∷_}
 use lib.Dec.{ltb}
 use lib.ListN.{length, set}
 use Rattle.order.specs.Indices.{slot, marked}
+use Rattle.base.specs.Limits.{nodeLimit}
 
 -- marks of the nodes seen, and a queue of them that ends before `tail`
 pub record Walk : Type 0 where
@@ -33,6 +34,6 @@ unmarked (m ∷ ms) = cond m (unmarked ms) (suc (unmarked ms))
 
 -- the queue has room for each node that was not seen
 pub record Room (w : Walk) : Type 0 where
-  pub marks : length (w .seen) ≡ 256
-  pub places : length (w .queue) ≡ 256
-  pub rest : w .tail + unmarked (w .seen) ≡ 256
+  pub marks : length (w .seen) ≡ nodeLimit
+  pub places : length (w .queue) ≡ nodeLimit
+  pub rest : w .tail + unmarked (w .seen) ≡ nodeLimit

@@ -70,6 +70,3 @@ matrix-constant s at =
 -- every other type is a matrix
 pub other-constant : (s : List ℕ) (at t : ℕ) → (t ≡ 1 → ⊥) → (t ≡ 2 → ⊥) → Matrix (matrixAt s at) ≡ valueOf t (constants (width t) s at)
 other-constant s at t a b = matrix-constant s at ∙ rw (ne-eqb t 1 a, ne-eqb t 2 b)
-
-pub other-width : (t : ℕ) → (t ≡ 1 → ⊥) → (t ≡ 2 → ⊥) → width t ≡ 16
-other-width t a b = rw (ne-eqb t 1 a, ne-eqb t 2 b)

@@ -10,18 +10,28 @@ ghost use Rattle.ports.specs.Ports.{portsOf, formOf};
 ghost use Rattle.ports.specs.declared.Form as Forms;
 ghost use Rattle.value.specs.Values.{constantWord, valueOf};
 ghost use Rattle.base.specs.Lists.{every};
-ghost use Rattle.base.specs.Bytes.{u16, u64, constants};
+ghost use Rattle.base.specs.Bytes.{u64, constants};
+ghost use Rattle.base.specs.Limits.{functionLimit};
 ghost use Rattle.graph.specs.Read.{version1, inputs, outputs, inRange, payload, node, nodes, function, functions, parse};
 ghost use Rattle.reader.specs.Layout.{kindAt, nodeEnd, nodesAt, nodePlace, earlier};
 ghost use Rattle.reader.specs.Sizes.{nodeSize, nodeSizes, operandCounts};
 ghost use Rattle.reader.specs.Find.{ReadsNode, ReadsNodes, Started, nodeFound, functionFound};
 ghost use Rattle.reader.specs.Records.{recordAt, rowAt, matrixAt, vectorAt, payloadRead, nodeRead, seen, next, behind};
+use base::FUNCTION_LIMIT;
+use base::NODE_LIMIT;
+use base::PORT_LIMIT;
+use base::u16_at;
+use base::u64_at;
+use base::wide;
 use ports::Form;
 use ports::Ports;
 use value::Mat4;
 use value::Row;
 use value::Value;
 use value::Vec3;
+
+// The bytes of a table's header.
+pub const HEADER: usize = 8;
 
 // ---- what a reading answers
 
@@ -56,34 +66,7 @@ pub fn read_record(s: &[u8], at: usize, n: usize) -> Record
     Record::Ends(at + n)
 }
 
-// ---- numbers
-
-fn wide(x: u8) -> u64
-    ensures { λ r. ⌜ (r ≡ x) × (r < 256) ⌝ }
-{
-    x as u64
-}
-
-pub fn u16_at(s: &[u8], at: usize) -> u16
-    requires { ⌜ at + 2 ≤ length (now s) ⌝ }
-    ensures { λ r. ⌜ r ≡ u16 (now (s .entry)) at ⌝ }
-{
-    (wide(s[at]) + wide(s[at + 1]) * 256) as u16
-}
-
-pub fn u64_at(s: &[u8], at: usize) -> u64
-    requires { ⌜ at + 8 ≤ length (now s) ⌝ }
-    ensures { λ r. ⌜ r ≡ u64 (now (s .entry)) at ⌝ }
-{
-    wide(s[at])
-        + wide(s[at + 1]) * 0x100
-        + wide(s[at + 2]) * 0x1_0000
-        + wide(s[at + 3]) * 0x100_0000
-        + wide(s[at + 4]) * 0x1_0000_0000
-        + wide(s[at + 5]) * 0x100_0000_0000
-        + wide(s[at + 6]) * 0x1_0000_0000_0000
-        + wide(s[at + 7]) * 0x100_0000_0000_0000
-}
+// ---- constants
 
 pub fn float_at(s: &[u8], at: usize) -> f64
     requires { ⌜ at + 8 ≤ length (now s) ⌝ }
@@ -91,8 +74,6 @@ pub fn float_at(s: &[u8], at: usize) -> f64
 {
     value::float_of(u64_at(s, at))
 }
-
-// ---- constants
 
 // The n words at `at` may be constants: they are finite.
 pub fn all_finite(s: &[u8], at: usize, n: usize) -> bool
@@ -168,7 +149,7 @@ pub fn constant_at(s: &[u8], at: usize, ty: u8) -> Value
 pub enum Payload {
     Constant(Value),
     // callee, argument count, where the references begin
-    Call(u16, u8, usize),
+    Call(usize, usize, usize),
     References(usize),
 }
 
@@ -198,11 +179,11 @@ fn read_call(s: &[u8], at: usize, kind: u8) -> PayloadRead
     let Record::Ends(begin) = read_record(s, at, 3) else {
         return PayloadRead::Fault(5, at);
     };
-    let count = s[at + 2];
-    if 8 < count {
+    let count = s[at + 2] as usize;
+    if PORT_LIMIT < count {
         return PayloadRead::Fault(6, at);
     }
-    let Record::Ends(end) = read_record(s, begin, 3 * (count as usize)) else {
+    let Record::Ends(end) = read_record(s, begin, 3 * count) else {
         return PayloadRead::Fault(5, begin);
     };
     PayloadRead::Is(Payload::Call(u16_at(s, at), count, begin), end)
@@ -236,7 +217,7 @@ fn read_payload(s: &[u8], at: usize, kind: u8, row: Ports) -> PayloadRead
 
 // A node as read: its id, its place and its kind's own payload.
 pub struct Node {
-    pub id: u16,
+    pub id: usize,
     pub place: usize,
     pub kind: u8,
     pub ty: u8,
@@ -352,22 +333,22 @@ pub fn read_outputs(s: &[u8], at: usize, n: usize) -> Next
 }
 
 // The fields of a function's head are in their ranges.
-fn in_range(id: u16, nin: u8, nout: u8, count: u16) -> bool
-    ensures { λ r. ⌜ r ≡ inRange (version1 .nodeLimit) id nin nout count ⌝ }
+fn in_range(id: usize, input_count: usize, output_count: usize, node_count: usize) -> bool
+    ensures { λ r. ⌜ r ≡ inRange (version1 .nodeLimit) id «input_count» «output_count» «node_count» ⌝ }
 {
     if id < 1 {
         return false;
     }
-    if 8 < nin {
+    if PORT_LIMIT < input_count {
         return false;
     }
-    if nout < 1 {
+    if output_count < 1 {
         return false;
     }
-    if 8 < nout {
+    if PORT_LIMIT < output_count {
         return false;
     }
-    count <= 256
+    node_count <= NODE_LIMIT
 }
 
 // A function: where it ends.
@@ -378,21 +359,21 @@ pub fn read_function(s: &[u8], at: usize) -> Next
         return Next::Fault(5, at);
     };
     let id = u16_at(s, at);
-    let nin = s[at + 2];
-    let nout = s[at + 3];
-    let count = u16_at(s, at + 4);
-    if !in_range(id, nin, nout, count) {
+    let input_count = s[at + 2] as usize;
+    let output_count = s[at + 3] as usize;
+    let node_count = u16_at(s, at + 4);
+    if !in_range(id, input_count, output_count, node_count) {
         return Next::Fault(6, at);
     }
-    let ins = read_inputs(s, begin, nin as usize);
+    let ins = read_inputs(s, begin, input_count);
     let Next::At(outputs) = ins else {
         return ins;
     };
-    let outs = read_outputs(s, outputs, nout as usize);
+    let outs = read_outputs(s, outputs, output_count);
     let Next::At(nodes) = outs else {
         return outs;
     };
-    read_nodes(s, nodes, count as usize)
+    read_nodes(s, nodes, node_count)
 }
 
 // n functions, one after another: where they end.
@@ -420,7 +401,7 @@ pub fn read_functions(s: &[u8], at: usize, n: usize) -> Next
 pub fn read_table(s: &[u8]) -> Seen
     ensures { λ r. ⌜ r ≡ seen (parse version1 (now (s .entry))) ⌝ }
 {
-    if s.len() < 8 {
+    if s.len() < HEADER {
         return Seen::Fault(1, 0);
     }
     if s[0] != 0x49 {
@@ -435,17 +416,17 @@ pub fn read_table(s: &[u8]) -> Seen
     if u16_at(s, 3) != 1 {
         return Seen::Fault(3, 3);
     }
-    if u16_at(s, 6) as usize != s.len() {
+    if u16_at(s, 6) != s.len() {
         return Seen::Fault(4, 6);
     }
-    let count = s[5];
+    let count = s[5] as usize;
     if count < 1 {
         return Seen::Fault(6, 5);
     }
-    if 16 < count {
+    if FUNCTION_LIMIT < count {
         return Seen::Fault(6, 5);
     }
-    let read = read_functions(s, 8, count as usize);
+    let read = read_functions(s, HEADER, count);
     match read {
         Next::At(end) => {
             if end == s.len() {
@@ -459,12 +440,6 @@ pub fn read_table(s: &[u8]) -> Seen
 }
 
 // ---- lookups, in a table whose reading passed
-
-fn size(x: u8) -> usize
-    ensures { λ r. ⌜ (r ≡ x) × (r < 256) ⌝ }
-{
-    x as usize
-}
 
 // The bytes of a node of each kind, as the port list has them. 0 stands for a call: its argument count tells them.
 const SIZES: [u8; 25] = [
@@ -541,7 +516,7 @@ fn node_size(kind: u8) -> u8
     requires { ⌜ kind < 25 ⌝ }
     ensures { λ r. ⌜ r ≡ getD nodeSizes kind 0 ⌝ }
 {
-    let k = size(kind);
+    let k = wide(kind);
     SIZES[k]
 }
 
@@ -551,9 +526,9 @@ pub fn end_by(s: &[u8], at: usize, bytes: u8) -> usize
     ensures { λ r. ⌜ r ≡ nodeEnd (now (s .entry)) at ⌝ }
 {
     if bytes == 0 {
-        at + 4 + 3 + 3 * size(s[at + 4 + 2])
+        at + 4 + 3 + 3 * wide(s[at + 4 + 2])
     } else {
-        at + size(bytes)
+        at + wide(bytes)
     }
 }
 
@@ -572,7 +547,7 @@ pub enum Found {
 }
 
 // The first with the id among the `count` nodes from the place `first` on. It walks the table's bytes.
-pub fn find_node(s: &[u8], first: usize, count: usize, id: u16) -> Found
+pub fn find_node(s: &[u8], first: usize, count: usize, id: usize) -> Found
     requires { ⌜ ReadsNodes count (now s) first ⌝ }
     ensures { λ r. ⌜ r ≡ nodeFound 0 id (nodesAt count (now (s .entry)) first) ⌝ }
 {
@@ -583,7 +558,7 @@ pub fn find_node(s: &[u8], first: usize, count: usize, id: u16) -> Found
         if u16_at(s, at) == id {
             return Found::At(i, at);
         }
-        let k = size(s[at + 2]);
+        let k = wide(s[at + 2]);
         let bytes = sizes[k];
         at = end_by(s, at, bytes);
         i += 1;
@@ -606,8 +581,8 @@ pub fn node_place(s: &[u8], first: usize, count: usize, index: usize) -> usize
 }
 
 // The function of the id among the first k, whose places `starts` has.
-pub fn find_function(s: &[u8], starts: &[usize; 16], k: usize, id: u16) -> Found
-    requires { ⌜ Started (now s) (now starts) k × (k ≤ 16) ⌝ }
+pub fn find_function(s: &[u8], starts: &[usize; FUNCTION_LIMIT], k: usize, id: usize) -> Found
+    requires { ⌜ Started (now s) (now starts) k × (k ≤ functionLimit) ⌝ }
     ensures { λ r. ⌜ r ≡ functionFound id (earlier (version1 .header) (now (s .entry)) k) ⌝ }
 {
     let mut i = k;

@@ -16,6 +16,7 @@ use Rattle.resolver.specs.declared.Reads.{Reads}
 use Rattle.resolver.specs.Operands.{ReadsOf}
 use Rattle.resolver.specs.Groups.{idsOf, named, Gathered}
 use Rattle.base.proofs.Stores.{sets-append}
+use Rattle.base.specs.Limits.{nodeLimit, operandLimit}
 
 -- ---- one node's: n references, of which j are passed
 
@@ -42,7 +43,7 @@ module _ (s : List ℕ) (at left : ℕ) (wanted₀ : List ℕ) where
   pub record Gathering (wanted : List ℕ) (p n m : ℕ) : Type 0 where
     pub most : n ≤ left
     pub here : p ≡ nodePlace s at n
-    pub fits : m ≤ 256
+    pub fits : m ≤ nodeLimit
     pub size : m ≡ length (named (nodesAt n s at))
     pub ids : wanted ≡ sets wanted₀ 0 (named (nodesAt n s at))
 
@@ -50,7 +51,7 @@ module _ (s : List ℕ) (at left : ℕ) (wanted₀ : List ℕ) where
   unfolding named nodesAt nodePlace
   gather-start = record { most = omega arith; here = refl; fits = omega arith; size = refl; ids = refl }
 
-  pub gather-step : (wanted wanted' : List ℕ) (p p' n m : ℕ) (r : Reads) → Gathering wanted p n m → n < left → m ≤ 240 → ReadsOf s p r
+  pub gather-step : (wanted wanted' : List ℕ) (p p' n m : ℕ) (r : Reads) → Gathering wanted p n m → n < left → m ≤ nodeLimit - operandLimit → ReadsOf s p r
       → wanted' ≡ sets wanted m (idsOf (references (r .count) s (r .first))) → p' ≡ nodeEnd s p → Gathering wanted' p' (n + 1) (m + r .count)
   gather-step wanted wanted' p p' n m r h l f reads-are ew ep =
       let few = reads-are .few in

@@ -21,19 +21,20 @@ use Rattle.order.specs.Resolve.{indexOf}
 use Rattle.resolver.specs.Groups.{sought, Marked, FoundAll}
 use Rattle.resolver.proofs.Rows.{length-nodes}
 use Rattle.resolver.proofs.Walking.{Passed, pass-start, pass-step, left-next, left-none, left-all}
+use Rattle.base.specs.Limits.{nodeLimit, noNode}
 
 -- ---- one node: r of the m entries are passed
 
 module _ (wanted : List ℕ) (m id i : ℕ) (found₀ : List ℕ) where
   pub record Marking (found : List ℕ) (r : ℕ) : Type 0 where
-    pub size : length found ≡ 256
+    pub size : length found ≡ nodeLimit
     pub done : (q : ℕ) → q < r → getD found q 0 ≡ cond (eqb id (getD wanted q 0)) i (getD found₀ q 0)
     pub rest : (q : ℕ) → r ≤ q → getD found q 0 ≡ getD found₀ q 0
 
-  pub mark-start : length found₀ ≡ 256 → Marking found₀ 0
+  pub mark-start : length found₀ ≡ nodeLimit → Marking found₀ 0
   mark-start e = record { size = e; done = λ q l. absurd (omega arith); rest = λ q l. refl }
 
-  pub mark-step : (found : List ℕ) (r v : ℕ) → Marking found r → r < 256 → v ≡ cond (eqb id (getD wanted r 0)) i (getD found r 0) → Marking (set found r v) (r + 1)
+  pub mark-step : (found : List ℕ) (r v : ℕ) → Marking found r → r < nodeLimit → v ≡ cond (eqb id (getD wanted r 0)) i (getD found r 0) → Marking (set found r v) (r + 1)
   mark-step found r v h l e =
       record {
         size = length-set found r v ∙ h .size;
@@ -102,21 +103,21 @@ no-zero (suc n) s at r =
     ∙ no-zero n s (nodeEnd s at) (subst (λ (k : ℕ). ReadsNodes k s (nodeEnd s at)) z (rest-reads s (suc n) at (omega arith) r))
 
 -- the last match is what the id finds
-last-sought : (w : ℕ) (ns : List Node) → Distinct (ids ns) → member 0 (ids ns) ≡ false → lastMatch w 0 (cond (eqb 0 w) 256 (length ns)) ns ≡ sought ns w
+last-sought : (w : ℕ) (ns : List Node) → Distinct (ids ns) → member 0 (ids ns) ≡ false → lastMatch w 0 (cond (eqb 0 w) noNode (length ns)) ns ≡ sought ns w
 last-sought w ns d z = pickOne (eqb w 0) refl
   where
     here : (b : Bool) → member w (ids ns) ≡ b → lastMatch w 0 (length ns) ns ≡ indexOf w ns
     here true e = last-one w ns 0 (length ns) d e ∙ omega arith
     here false e = last-none w ns 0 (length ns) e ∙ sym (index-past w ns e)
 
-    pickOne : (b : Bool) → eqb w 0 ≡ b → lastMatch w 0 (cond (eqb 0 w) 256 (length ns)) ns ≡ cond b 256 (indexOf w ns)
+    pickOne : (b : Bool) → eqb w 0 ≡ b → lastMatch w 0 (cond (eqb 0 w) noNode (length ns)) ns ≡ cond b noNode (indexOf w ns)
     pickOne true q =
         let e : w ≡ 0 = eqb-true w 0 q in
-        last-none w ns 0 (cond (eqb 0 w) 256 (length ns)) (subst (λ (x : ℕ). member x (ids ns) ≡ false) (sym e) z)
-        ∙ ap (λ (b : Bool). cond b 256 (length ns)) (eq-eqb 0 w (sym e))
+        last-none w ns 0 (cond (eqb 0 w) noNode (length ns)) (subst (λ (x : ℕ). member x (ids ns) ≡ false) (sym e) z)
+        ∙ ap (λ (b : Bool). cond b noNode (length ns)) (eq-eqb 0 w (sym e))
     pickOne false q =
         let e : w ≡ 0 → ⊥ = eqb-false w 0 q in
-        ap (λ (b : Bool). lastMatch w 0 (cond b 256 (length ns)) ns) (ne-eqb 0 w (λ x. e (sym x))) ∙ here (member w (ids ns)) refl
+        ap (λ (b : Bool). lastMatch w 0 (cond b noNode (length ns)) ns) (ne-eqb 0 w (λ x. e (sym x))) ∙ here (member w (ids ns)) refl
 
 -- ---- the nodes in turn
 
@@ -131,19 +132,19 @@ last-end w i old left e = ap (lastMatch w i old) e
 module _ (s : List ℕ) (first count : ℕ) (wanted : List ℕ) (m : ℕ) where
   pub record Matching (found : List ℕ) (at i : ℕ) : Type 0 where
     pub pass : Passed s count at i
-    pub size : length found ≡ 256
+    pub size : length found ≡ nodeLimit
     pub same : (r : ℕ) → r < m
-        → lastMatch (getD wanted r 0) 0 (cond (eqb 0 (getD wanted r 0)) 256 count) (nodesAt count s first) ≡ lastMatch (getD wanted r 0) i (getD found r 0) (nodesAt (count - i) s at)
+        → lastMatch (getD wanted r 0) 0 (cond (eqb 0 (getD wanted r 0)) noNode count) (nodesAt count s first) ≡ lastMatch (getD wanted r 0) i (getD found r 0) (nodesAt (count - i) s at)
 
-  pub match-start : (found₀ found : List ℕ) → ReadsNodes count s first → m ≤ 256 → found₀ ≡ replicate 256 count → Marked wanted m 0 256 found₀ found → Matching found first 0
+  pub match-start : (found₀ found : List ℕ) → ReadsNodes count s first → m ≤ nodeLimit → found₀ ≡ replicate nodeLimit count → Marked wanted m 0 noNode found₀ found → Matching found first 0
   match-start found₀ found r l e h =
       record {
         pass = pass-start s count first r;
         size = h .size;
         same = λ q a.
             let w = getD wanted q 0 in
-            let x : getD found₀ q 0 ≡ count = ap (λ (f : List ℕ). getD f q 0) e ∙ getD-replicate 256 q count 0 (omega arith) in
-            let y : cond (eqb 0 w) 256 count ≡ getD found q 0 = ap (λ (k : ℕ). cond (eqb 0 w) 256 k) (sym x) ∙ sym (h .marks q a) in
+            let x : getD found₀ q 0 ≡ count = ap (λ (f : List ℕ). getD f q 0) e ∙ getD-replicate nodeLimit q count 0 (omega arith) in
+            let y : cond (eqb 0 w) noNode count ≡ getD found q 0 = ap (λ (k : ℕ). cond (eqb 0 w) noNode k) (sym x) ∙ sym (h .marks q a) in
             ap (λ (k : ℕ). lastMatch w 0 k (nodesAt count s first)) y ∙ ap (lastMatch w 0 (getD found q 0)) (left-all s count first);
       }
 
@@ -167,5 +168,5 @@ module _ (s : List ℕ) (first count : ℕ) (wanted : List ℕ) (m : ℕ) where
       let ns = nodesAt count s first in
       let w = getD wanted q 0 in
       sym (h .same q a ∙ last-end w i (getD found q 0) (nodesAt (count - i) s at) (left-none s count at i l))
-      ∙ ap (λ (k : ℕ). lastMatch w 0 (cond (eqb 0 w) 256 k) ns) (sym (length-nodes count s first))
+      ∙ ap (λ (k : ℕ). lastMatch w 0 (cond (eqb 0 w) noNode k) ns) (sym (length-nodes count s first))
       ∙ last-sought w ns (fresh-distinct ns f) (no-zero count s first r)

@@ -15,6 +15,7 @@ use Rattle.order.proofs.Nodes.{at-below}
 use Rattle.resolver.specs.Slots.{padded, rowOf, rowsOf, placesOf}
 use Rattle.resolver.specs.Groups.{entries}
 use Rattle.base.proofs.Stores.{sets-in, set-before}
+use Rattle.base.specs.Limits.{noNode, operandLimit, nodeLimit, slotLimit}
 
 -- ---- a row
 
@@ -25,7 +26,7 @@ length-padded (suc n) [] = ap suc (length-padded n [])
 length-padded (suc n) (x ∷ xs) = ap suc (length-padded n xs)
 
 -- what stands in it: something of the reference, or of none
-padded-at : (g : Option Ref → ℕ) → g none ≡ 256 → (n : ℕ) (rs : List Ref) (j : ℕ) → j < n → getD (padded n (map (λ r. g (some r)) rs)) j 0 ≡ g (getElem? rs j)
+padded-at : (g : Option Ref → ℕ) → g none ≡ noNode → (n : ℕ) (rs : List Ref) (j : ℕ) → j < n → getD (padded n (map (λ r. g (some r)) rs)) j 0 ≡ g (getElem? rs j)
 unfolding padded
 padded-at g z zero rs j h = absurd (omega arith)
 padded-at g z (suc n) [] zero h = sym z
@@ -33,17 +34,17 @@ padded-at g z (suc n) [] (suc j) h = padded-at g z n [] j (omega arith)
 padded-at g z (suc n) (r ∷ rs) zero h = refl
 padded-at g z (suc n) (r ∷ rs) (suc j) h = padded-at g z n rs j (omega arith)
 
-pub length-row : (ns : List Node) (x : Node) → length (rowOf ns x) ≡ 16
+pub length-row : (ns : List Node) (x : Node) → length (rowOf ns x) ≡ operandLimit
 unfolding rowOf
-length-row ns x = length-padded 16 (map (λ r. target ns (some r)) (reads x))
+length-row ns x = length-padded operandLimit (map (λ r. target ns (some r)) (reads x))
 
-row-at : (ns : List Node) (x : Node) (j : ℕ) → j < 16 → getD (rowOf ns x) j 0 ≡ target ns (getElem? (reads x) j)
+row-at : (ns : List Node) (x : Node) (j : ℕ) → j < operandLimit → getD (rowOf ns x) j 0 ≡ target ns (getElem? (reads x) j)
 unfolding rowOf
-row-at ns x j h = padded-at (target ns) refl 16 (reads x) j h
+row-at ns x j h = padded-at (target ns) refl operandLimit (reads x) j h
 
 -- ---- the rows
 
-pub length-rows : (ns xs : List Node) → length (rowsOf ns xs) ≡ 16 * length xs
+pub length-rows : (ns xs : List Node) → length (rowsOf ns xs) ≡ operandLimit * length xs
 unfolding rowsOf
 length-rows ns [] = refl
 length-rows ns (x ∷ xs) =
@@ -52,30 +53,30 @@ length-rows ns (x ∷ xs) =
     let c = length-rows ns xs in
     omega arith
 
-rows-at : (ns xs : List Node) (i j : ℕ) (x : Node) → getElem? xs i ≡ some x → j < 16 → getD (rowsOf ns xs) (16 * i + j) 0 ≡ getD (rowOf ns x) j 0
+rows-at : (ns xs : List Node) (i j : ℕ) (x : Node) → getElem? xs i ≡ some x → j < operandLimit → getD (rowsOf ns xs) (operandLimit * i + j) 0 ≡ getD (rowOf ns x) j 0
 unfolding rowsOf
 rows-at ns [] i j x e h = let z : _≡_ {A = ℕ} 0 1 = cc in absurd (omega arith)
 rows-at ns (y ∷ xs) zero j x e h =
-    let z : 16 * 0 + j ≡ j = omega arith in
+    let z : operandLimit * 0 + j ≡ j = omega arith in
     let q : y ≡ x = cc in
     ap (λ (k : ℕ). getD (rowOf ns y ++ rowsOf ns xs) k 0) z
     ∙ List·getD-append (rowOf ns y) (rowsOf ns xs) 0 j (omega (arith, length-row ns y))
     ∙ ap (λ (w : Node). getD (rowOf ns w) j 0) q
 rows-at ns (y ∷ xs) (suc i) j x e h =
-    let z : 16 * suc i + j ≡ length (rowOf ns y) + (16 * i + j) = omega (arith, length-row ns y) in
+    let z : operandLimit * suc i + j ≡ length (rowOf ns y) + (operandLimit * i + j) = omega (arith, length-row ns y) in
     ap (λ (k : ℕ). getD (rowOf ns y ++ rowsOf ns xs) k 0) z
-    ∙ getD-append-add (rowOf ns y) (rowsOf ns xs) (16 * i + j) 0
+    ∙ getD-append-add (rowOf ns y) (rowsOf ns xs) (operandLimit * i + j) 0
     ∙ rows-at ns xs i j x e h
 
 -- slot j of node i in the array
-pub row-slot : (ns : List Node) (ts : List ℕ) (i j : ℕ) (x : Node) → getElem? ns i ≡ some x → j < 16 → length ns ≤ 256 → length ts ≡ 4096
+pub row-slot : (ns : List Node) (ts : List ℕ) (i j : ℕ) (x : Node) → getElem? ns i ≡ some x → j < operandLimit → length ns ≤ nodeLimit → length ts ≡ slotLimit
     → slot (sets ts 0 (rowsOf ns ns)) i j ≡ target ns (getElem? (reads x) j)
 row-slot ns ts i j x e h few size =
     let l = length-rows ns ns in
     let b = at-below ns i x e in
-    let z : 16 * i + j ≡ 0 + (16 * i + j) = omega arith in
+    let z : operandLimit * i + j ≡ 0 + (operandLimit * i + j) = omega arith in
     ap (λ (k : ℕ). getD (sets ts 0 (rowsOf ns ns)) k 0) z
-    ∙ sets-in (rowsOf ns ns) ts 0 (16 * i + j) (omega arith) (omega arith)
+    ∙ sets-in (rowsOf ns ns) ts 0 (operandLimit * i + j) (omega arith) (omega arith)
     ∙ rows-at ns ns i j x e h
     ∙ row-at ns x j h
 
@@ -112,22 +113,22 @@ unfolding padded
 sets-over n [] l b h = refl
 sets-over zero (x ∷ xs) l b h = absurd (omega arith)
 sets-over (suc n) (x ∷ xs) l b h =
-    ap (λ (k : List ℕ). sets k (suc b) xs) (set-before (padded n []) (set l b 256) b (suc b) x (omega arith))
-    ∙ ap (λ (k : List ℕ). sets (sets k (suc b) (padded n [])) (suc b) xs) (set-set l b 256 x)
+    ap (λ (k : List ℕ). sets k (suc b) xs) (set-before (padded n []) (set l b noNode) b (suc b) x (omega arith))
+    ∙ ap (λ (k : List ℕ). sets (sets k (suc b) (padded n [])) (suc b) xs) (set-set l b noNode x)
     ∙ sets-over n xs (set l b x) (suc b) (omega arith)
 
-pub row-stored : (xs : List ℕ) (n m : ℕ) (ts clear out : List ℕ) (b : ℕ) → n ≤ 16 → clear ≡ sets ts b (padded 16 []) → out ≡ sets clear b (entries n xs m)
-    → out ≡ sets ts b (padded 16 (entries n xs m))
+pub row-stored : (xs : List ℕ) (n m : ℕ) (ts clear out : List ℕ) (b : ℕ) → n ≤ operandLimit → clear ≡ sets ts b (padded operandLimit []) → out ≡ sets clear b (entries n xs m)
+    → out ≡ sets ts b (padded operandLimit (entries n xs m))
 row-stored xs n m ts clear out b few ec eo =
-    eo ∙ ap (λ (k : List ℕ). sets k b (entries n xs m)) ec ∙ sets-over 16 (entries n xs m) ts b (omega (arith, few, length-entries n xs m))
+    eo ∙ ap (λ (k : List ℕ). sets k b (entries n xs m)) ec ∙ sets-over operandLimit (entries n xs m) ts b (omega (arith, few, length-entries n xs m))
 
-pub pad-next : (j : ℕ) → j < 16 → padded (16 - j) [] ≡ 256 ∷ padded (16 - (j + 1)) []
+pub pad-next : (j : ℕ) → j < operandLimit → padded (operandLimit - j) [] ≡ noNode ∷ padded (operandLimit - (j + 1)) []
 unfolding padded
-pad-next j h = let b : 16 - j ≡ suc (16 - (j + 1)) = omega arith in ap (λ (m : ℕ). padded m []) b
+pad-next j h = let b : operandLimit - j ≡ suc (operandLimit - (j + 1)) = omega arith in ap (λ (m : ℕ). padded m []) b
 
-pub pad-end : (j : ℕ) → 16 ≤ j → padded (16 - j) [] ≡ []
+pub pad-end : (j : ℕ) → operandLimit ≤ j → padded (operandLimit - j) [] ≡ []
 unfolding padded
-pad-end j h = let z : 16 - j ≡ 0 = omega arith in ap (λ (m : ℕ). padded m []) z
+pad-end j h = let z : operandLimit - j ≡ 0 = omega arith in ap (λ (m : ℕ). padded m []) z
 
 -- ---- the places
 

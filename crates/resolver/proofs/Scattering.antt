@@ -24,6 +24,8 @@ use Rattle.base.proofs.Stores.{sets-in}
 use Rattle.resolver.proofs.Storing.{Run, run-start, run-part, run-done}
 use Rattle.resolver.proofs.Rows.{length-row, length-rows, length-nodes}
 use Rattle.resolver.proofs.Walking.{Passed, pass-step, left-next, left-none, left-all, rows-next, rows-none}
+use Rattle.base.specs.Limits.{nodeLimit, operandLimit}
+use Rattle.base.proofs.Stands.{cons-head, cons-tail}
 
 -- ---- entries of an array
 
@@ -36,24 +38,18 @@ entries-are g (x ∷ xs) found k h =
     entries-are g xs found (k + 1) (λ r l. let z : k + 1 + r ≡ k + suc r = omega arith in ap (λ (j : ℕ). getD found j 0) z ∙ h (suc r) (omega arith)) in
     ap (λ (y : ℕ). y ∷ entries (length xs) found (k + 1)) a ∙ ap (λ (ys : List ℕ). g x ∷ ys) b
 
-head-is : {a b : ℕ} {xs ys : List ℕ} → a ∷ xs ≡ b ∷ ys → a ≡ b
-head-is e = cc
-
-tail-is : {a b : ℕ} {xs ys : List ℕ} → a ∷ xs ≡ b ∷ ys → xs ≡ ys
-tail-is e = cc
-
 entries-split : (g : ℕ → ℕ) (xs ys found : List ℕ) (m : ℕ) → entries (length (xs ++ ys)) found m ≡ map g (xs ++ ys)
     → (entries (length xs) found m ≡ map g xs) × (entries (length ys) found (m + length xs) ≡ map g ys)
 unfolding entries
 entries-split g [] ys found m h = (refl, ap (λ (k : ℕ). entries (length ys) found k) (add-zero m) ∙ h)
 entries-split g (x ∷ xs) ys found m h =
-    let (a, b) = entries-split g xs ys found (m + 1) (tail-is h) in
+    let (a, b) = entries-split g xs ys found (m + 1) (cons-tail h) in
     let z : m + suc (length xs) ≡ m + 1 + length xs = omega arith in
-    (ap (λ (y : ℕ). y ∷ entries (length xs) found (m + 1)) (head-is h) ∙ ap (λ (t : List ℕ). g x ∷ t) a, ap (λ (k : ℕ). entries (length ys) found k) z ∙ b)
+    (ap (λ (y : ℕ). y ∷ entries (length xs) found (m + 1)) (cons-head h) ∙ ap (λ (t : List ℕ). g x ∷ t) a, ap (λ (k : ℕ). entries (length ys) found k) z ∙ b)
 
 -- ---- from what was gathered and found
 
-pub found-start : (ns : List Node) (s : List ℕ) (at left : ℕ) (wanted₀ wanted found : List ℕ) (r : Group) → length wanted₀ ≡ 256 → Gathered s at left wanted₀ wanted r
+pub found-start : (ns : List Node) (s : List ℕ) (at left : ℕ) (wanted₀ wanted found : List ℕ) (r : Group) → length wanted₀ ≡ nodeLimit → Gathered s at left wanted₀ wanted r
     → FoundAll ns wanted (r .refs) found → Found ns s at (r .nodes) found 0
 found-start ns s at left wanted₀ wanted found r e h f =
     record {
@@ -83,15 +79,15 @@ targets-are ns (r ∷ rs) = ap (λ (xs : List ℕ). target ns (some r) ∷ xs) (
 ids-length : (s : List ℕ) (p : ℕ) (r : Reads) → ReadsOf s p r → length (idsOf (reads (nodeAt s p))) ≡ r .count
 ids-length s p r h = length-map (reads (nodeAt s p)) (λ (x : Ref). x .node) ∙ ap length (h .refs) ∙ refs-length (r .count) s (r .first)
 
-row-is : (ns : List Node) (x : Node) (xs : List ℕ) → xs ≡ map (sought ns) (idsOf (reads x)) → padded 16 xs ≡ rowOf ns x
+row-is : (ns : List Node) (x : Node) (xs : List ℕ) → xs ≡ map (sought ns) (idsOf (reads x)) → padded operandLimit xs ≡ rowOf ns x
 unfolding rowOf
-row-is ns x xs e = ap (padded 16) (e ∙ targets-are ns (reads x))
+row-is ns x xs e = ap (padded operandLimit) (e ∙ targets-are ns (reads x))
 
 module _ (ns : List Node) (s found : List ℕ) where
   -- what the first node has, and what the others have
   abbrev Split : ℕ → ℕ → ℕ → ℕ → Reads → Type 0
   Split n p p' m r =
-      (padded 16 (entries (r .count) found m) ≡ rowOf ns (nodeAt s p)) × (m + r .count ≤ 256) × Found ns s p' n found (m + r .count)
+      (padded operandLimit (entries (r .count) found m) ≡ rowOf ns (nodeAt s p)) × (m + r .count ≤ nodeLimit) × Found ns s p' n found (m + r .count)
 
   pub found-next : (count n p p' m : ℕ) (r : Reads) → Found ns s p (count - n) found m → n < count → ReadsOf s p r → p' ≡ nodeEnd s p → Split (count - (n + 1)) p p' m r
   unfolding named
@@ -122,7 +118,7 @@ module _ (ns : List Node) (s : List ℕ) (left at nodes : ℕ) (found targets₀
     pub pass : Passed s left p n
     pub here : p ≡ nodePlace s at n
     pub finds : Found ns s p (nodes - n) found m
-    pub run : Run (rowsOf ns (nodesAt nodes s at)) targets₀ (16 * i) targets (16 * (i + n)) (rowsOf ns (nodesAt (nodes - n) s p))
+    pub run : Run (rowsOf ns (nodesAt nodes s at)) targets₀ (operandLimit * i) targets (operandLimit * (i + n)) (rowsOf ns (nodesAt (nodes - n) s p))
 
   pub scatter-start : Passed s left at 0 → Found ns s at nodes found 0 → Scattering targets₀ at 0 0
   unfolding nodePlace
@@ -133,11 +129,11 @@ module _ (ns : List Node) (s : List ℕ) (left at nodes : ℕ) (found targets₀
         pass = p;
         here = refl;
         finds = subst (λ (n : ℕ). Found ns s at n found 0) z f;
-        run = run-start (rowsOf ns (nodesAt nodes s at)) targets₀ (16 * i) (16 * (i + 0)) (rowsOf ns (nodesAt (nodes - 0) s at)) (omega arith) (ap (rowsOf ns) (left-all s nodes at));
+        run = run-start (rowsOf ns (nodesAt nodes s at)) targets₀ (operandLimit * i) (operandLimit * (i + 0)) (rowsOf ns (nodesAt (nodes - 0) s at)) (omega arith) (ap (rowsOf ns) (left-all s nodes at));
       }
 
   pub scatter-step : (targets targets' : List ℕ) (p p' n m : ℕ) (r : Reads) → Scattering targets p n m → n < nodes → nodes ≤ left → ReadsOf s p r → p' ≡ nodeEnd s p
-      → targets' ≡ sets targets (16 * (i + n)) (padded 16 (entries (r .count) found m)) → Scattering targets' p' (n + 1) (m + r .count)
+      → targets' ≡ sets targets (operandLimit * (i + n)) (padded operandLimit (entries (r .count) found m)) → Scattering targets' p' (n + 1) (m + r .count)
   scatter-step targets targets' p p' n m r h l few f e et =
       let (row, fit, on) = found-next ns s found nodes n p p' m r (h .finds) l f e in
       let z = length-row ns (nodeAt s p) in
@@ -147,18 +143,18 @@ module _ (ns : List Node) (s : List ℕ) (left at nodes : ℕ) (found targets₀
         here = e ∙ ap (nodeEnd s) (h .here) ∙ sym (place-next s n at);
         finds = on;
         run =
-            run-part (rowsOf ns (nodesAt nodes s at)) targets₀ (16 * i) targets targets' (16 * (i + n)) (16 * (i + (n + 1))) (rowOf ns (nodeAt s p))
+            run-part (rowsOf ns (nodesAt nodes s at)) targets₀ (operandLimit * i) targets targets' (operandLimit * (i + n)) (operandLimit * (i + (n + 1))) (rowOf ns (nodeAt s p))
             (rowsOf ns (nodesAt (nodes - n) s p)) (rowsOf ns (nodesAt (nodes - (n + 1)) s p')) (h .run)
             (rows-next ns (nodesAt (nodes - n) s p) (nodesAt (nodes - (n + 1)) s p') (nodeAt s p) (left-next s nodes p p' n l e))
-            (omega (arith, z)) (et ∙ ap (sets targets (16 * (i + n))) row);
+            (omega (arith, z)) (et ∙ ap (sets targets (operandLimit * (i + n))) row);
       }
 
-  pub scatter-done : (targets : List ℕ) (p n m : ℕ) → Scattering targets p n m → nodes ≤ n → (p ≡ nodePlace s at nodes) × (targets ≡ sets targets₀ (16 * i) (rowsOf ns (nodesAt nodes s at)))
+  pub scatter-done : (targets : List ℕ) (p n m : ℕ) → Scattering targets p n m → nodes ≤ n → (p ≡ nodePlace s at nodes) × (targets ≡ sets targets₀ (operandLimit * i) (rowsOf ns (nodesAt nodes s at)))
   scatter-done targets p n m h l =
       let j = h .index in
       let z : n ≡ nodes = omega arith in (
         h .here ∙ ap (nodePlace s at) z,
-        run-done (rowsOf ns (nodesAt nodes s at)) targets₀ (16 * i) targets (16 * (i + n)) (rowsOf ns (nodesAt (nodes - n) s p)) (h .run)
+        run-done (rowsOf ns (nodesAt nodes s at)) targets₀ (operandLimit * i) targets (operandLimit * (i + n)) (rowsOf ns (nodesAt (nodes - n) s p)) (h .run)
             (rows-none ns (nodesAt (nodes - n) s p) (left-none s nodes p n l)),
       )
 
@@ -186,13 +182,13 @@ module _ (s : List ℕ) (first count : ℕ) (targets₀ : List ℕ) where
   -- the rows of the nodes before i are done
   pub record Resolving (targets : List ℕ) (at i : ℕ) : Type 0 where
     pub pass : Passed s count at i
-    pub run : Run (rowsOf ns ns) targets₀ 0 targets (16 * i) (rowsOf ns (nodesAt (count - i) s at))
+    pub run : Run (rowsOf ns ns) targets₀ 0 targets (operandLimit * i) (rowsOf ns (nodesAt (count - i) s at))
 
   pub resolve-start : Passed s count first 0 → Resolving targets₀ first 0
   resolve-start p =
       record {
         pass = p;
-        run = run-start (rowsOf ns ns) targets₀ 0 (16 * 0) (rowsOf ns (nodesAt (count - 0) s first)) refl (ap (rowsOf ns) (left-all s count first));
+        run = run-start (rowsOf ns ns) targets₀ 0 (operandLimit * 0) (rowsOf ns (nodesAt (count - 0) s first)) refl (ap (rowsOf ns) (left-all s count first));
       }
 
   pub resolve-step : (targets targets' : List ℕ) (at i : ℕ) (r : Reached) → Resolving targets at i → GroupDone s first count at i targets targets' r
@@ -201,7 +197,7 @@ module _ (s : List ℕ) (first count : ℕ) (targets₀ : List ℕ) where
       record {
         pass = subst (λ (p : ℕ). Passed s count p (r .index)) (sym (d .place)) (subst (Passed s count (nodePlace s at k)) whole (pass-many s count at i k (h .pass) (omega (arith, whole, most))));
         run =
-            run-part (rowsOf ns ns) targets₀ 0 targets targets' (16 * i) (16 * r .index) (rowsOf ns (nodesAt k s at)) (rowsOf ns (nodesAt (count - i) s at)) (rowsOf ns (nodesAt (count - r .index) s (r .at))) (h .run)
+            run-part (rowsOf ns ns) targets₀ 0 targets targets' (operandLimit * i) (operandLimit * r .index) (rowsOf ns (nodesAt k s at)) (rowsOf ns (nodesAt (count - i) s at)) (rowsOf ns (nodesAt (count - r .index) s (r .at))) (h .run)
             rows (omega (arith, whole, size)) (d .rows);
       }
     where
@@ -214,8 +210,8 @@ module _ (s : List ℕ) (first count : ℕ) (targets₀ : List ℕ) where
       whole : i + k ≡ r .index
       whole = let o = d .on in omega arith
 
-      size : length (rowsOf ns (nodesAt k s at)) ≡ 16 * k
-      size = length-rows ns (nodesAt k s at) ∙ ap (λ (n : ℕ). 16 * n) (length-nodes k s at)
+      size : length (rowsOf ns (nodesAt k s at)) ≡ operandLimit * k
+      size = length-rows ns (nodesAt k s at) ∙ ap (λ (n : ℕ). operandLimit * n) (length-nodes k s at)
 
       rows : rowsOf ns (nodesAt (count - i) s at) ≡ rowsOf ns (nodesAt k s at) ++ rowsOf ns (nodesAt (count - r .index) s (r .at))
       rows =
@@ -225,16 +221,16 @@ module _ (s : List ℕ) (first count : ℕ) (targets₀ : List ℕ) where
 
   pub resolve-done : (targets : List ℕ) (at i : ℕ) → Resolving targets at i → count ≤ i → targets ≡ sets targets₀ 0 (rowsOf ns ns)
   resolve-done targets at i h l =
-      run-done (rowsOf ns ns) targets₀ 0 targets (16 * i) (rowsOf ns (nodesAt (count - i) s at)) (h .run) (rows-none ns (nodesAt (count - i) s at) (left-none s count at i l))
+      run-done (rowsOf ns ns) targets₀ 0 targets (operandLimit * i) (rowsOf ns (nodesAt (count - i) s at)) (h .run) (rows-none ns (nodesAt (count - i) s at) (left-none s count at i l))
 
 -- the group's answer
 pub group-done : (s : List ℕ) (first count at i : ℕ) (p q : List ℕ) (nodes end : ℕ) → 0 < nodes → nodes ≤ count - i → i < count → end ≡ nodePlace s at nodes
-    → q ≡ sets p (16 * i) (rowsOf (nodesAt count s first) (nodesAt nodes s at)) → GroupDone s first count at i p q (record { at = end; index = i + nodes })
+    → q ≡ sets p (operandLimit * i) (rowsOf (nodesAt count s first) (nodesAt nodes s at)) → GroupDone s first count at i p q (record { at = end; index = i + nodes })
 group-done s first count at i p q nodes end a b c e f =
     let z : nodes ≡ i + nodes - i = omega arith in
     record {
       on = omega arith;
       most = omega arith;
       place = e ∙ ap (nodePlace s at) z;
-      rows = f ∙ ap (λ (n : ℕ). sets p (16 * i) (rowsOf (nodesAt count s first) (nodesAt n s at))) z;
+      rows = f ∙ ap (λ (n : ℕ). sets p (operandLimit * i) (rowsOf (nodesAt count s first) (nodesAt n s at))) z;
     }

@@ -13,6 +13,7 @@ use Rattle.order.specs.Resolve.{indexOf}
 use Rattle.resolver.specs.declared.Group.{Group}
 use Rattle.resolver.specs.declared.Reached.{Reached}
 use Rattle.resolver.specs.Slots.{rowsOf}
+use Rattle.base.specs.Limits.{nodeLimit, operandLimit, noNode}
 
 -- the ids that references name
 abbrev pub idsOf : List Ref → List ℕ
@@ -23,9 +24,9 @@ unfoldable pub named : List Node → List ℕ
 named [] = []
 named (n ∷ ns) = idsOf (reads n) ++ named ns
 
--- what an id finds: the index of its node, or 256 for 0
+-- what an id finds: the index of its node, or `noNode` for 0
 abbrev pub sought : List Node → ℕ → ℕ
-sought ns w = cond (eqb w 0) 256 (indexOf w ns)
+sought ns w = cond (eqb w 0) noNode (indexOf w ns)
 
 -- the n entries of an array from m on
 unfoldable pub entries : ℕ → List ℕ → ℕ → List ℕ
@@ -36,13 +37,13 @@ entries (suc n) xs m = getD xs m 0 ∷ entries n xs (m + 1)
 pub record Gathered (s : List ℕ) (at left : ℕ) (p q : List ℕ) (r : Group) : Type 0 where
   pub some : 0 < r .nodes
   pub most : r .nodes ≤ left
-  pub fits : r .refs ≤ 256
+  pub fits : r .refs ≤ nodeLimit
   pub size : r .refs ≡ length (named (nodesAt (r .nodes) s at))
   pub ids : q ≡ sets p 0 (named (nodesAt (r .nodes) s at))
 
 -- the first m entries, after a node of an id was met at the index i
 pub record Marked (wanted : List ℕ) (m id i : ℕ) (p q : List ℕ) : Type 0 where
-  pub size : length q ≡ 256
+  pub size : length q ≡ nodeLimit
   pub marks : (r : ℕ) → r < m → getD q r 0 ≡ cond (eqb id (getD wanted r 0)) i (getD p r 0)
 
 -- the first m entries are what the ids find
@@ -51,7 +52,7 @@ FoundAll ns wanted m q = (r : ℕ) → r < m → getD q r 0 ≡ sought ns (getD 
 
 -- from m on stands what the ids find that n nodes from `at` on name
 pub record Found (ns : List Node) (s : List ℕ) (at n : ℕ) (found : List ℕ) (m : ℕ) : Type 0 where
-  pub fits : m + length (named (nodesAt n s at)) ≤ 256
+  pub fits : m + length (named (nodesAt n s at)) ≤ nodeLimit
   pub holds : entries (length (named (nodesAt n s at))) found m ≡ map (sought ns) (named (nodesAt n s at))
 
 -- the rows from node i to the node reached are done
@@ -59,4 +60,4 @@ pub record GroupDone (s : List ℕ) (first count at i : ℕ) (p q : List ℕ) (r
   pub on : i < r .index
   pub most : r .index ≤ count
   pub place : r .at ≡ nodePlace s at (r .index - i)
-  pub rows : q ≡ sets p (16 * i) (rowsOf (nodesAt count s first) (nodesAt (r .index - i) s at))
+  pub rows : q ≡ sets p (operandLimit * i) (rowsOf (nodesAt count s first) (nodesAt (r .index - i) s at))

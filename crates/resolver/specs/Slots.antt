@@ -1,20 +1,21 @@
--- What the slots of a function's nodes hold, 16 for each node.
+-- What the slots of a function's nodes hold, `operandLimit` for each node.
 use Prim.Native.Nat.{ℕ, zero, suc}
 use mathlib.Core.List.{List, [], _∷_, _++_, map}
 use mathlib.Core.Option.{some}
 use Rattle.graph.specs.Graph.{Node}
 use Rattle.graph.specs.Look.{reads}
 use Rattle.order.specs.Resolve.{target}
+use Rattle.base.specs.Limits.{operandLimit, noNode}
 
--- the first n of some numbers, and 256 behind the last
+-- the first n of some numbers, and `noNode` behind the last
 unfoldable pub padded : ℕ → List ℕ → List ℕ
 padded zero xs = []
-padded (suc n) [] = 256 ∷ padded n []
+padded (suc n) [] = noNode ∷ padded n []
 padded (suc n) (x ∷ xs) = x ∷ padded n xs
 
--- the 16 slots of a node: for each reference the index of the node that it names; 256 for an input and behind the last reference
+-- the slots of a node: for each reference the index of the node that it names; `noNode` for an input and behind the last reference
 unfoldable pub rowOf : List Node → Node → List ℕ
-rowOf ns n = padded 16 (map (λ r. target ns (some r)) (reads n))
+rowOf ns n = padded operandLimit (map (λ r. target ns (some r)) (reads n))
 
 -- the rows of some nodes, one after another
 unfoldable pub rowsOf : List Node → List Node → List ℕ

@@ -14,31 +14,45 @@ use Rattle.checker.specs.Answers.{portOf}
 use Rattle.checker.proofs.callee_port.Statement.{statement}
 use Rattle.checker.proofs.callee_port.Tie as tie
 
+-- ---- places
+
+abbrev start-of-slice : tie.After-shared-slice-known → tie.Start
+start-of-slice c = c .before
+
+abbrev start-of-enum-told : tie.After-enum-told → tie.Start
+start-of-enum-told c = start-of-slice (c .before .before .before)
+
+abbrev start-of-find-function : tie.After-find-function → tie.Start
+start-of-find-function c = c .before .before
+
+abbrev start-of-known-told : tie.After-known-told → tie.Start
+start-of-known-told c = start-of-find-function (c .before .before .before)
+
 -- the function that was found
-callee : (d : tie.After-known-told) → let a = d .before .before .before .before .before .args in
+callee : (d : tie.After-known-told) → let a = start-of-known-told d .args in
     let g = d .before .found .given .0 in
     (g .0 < a .k) × (g .1 .0 ≡ functionPlace (version1 .header) (a .s .now) (g .0))
     × (findFunction (a .id) (earlier (version1 .header) (a .s .now) (a .k)) ≡ some (functionAt (a .s .now) (g .1 .0)))
 callee d =
-    let a = d .before .before .before .before .before .args in
+    let a = start-of-known-told d .args in
     let r = d .before .before .before .find-function in
     found-function (version1 .header) (a .s .now) (a .id) (a .k) _ _ (sym (r .ensures) ∙ d .before .found .given .1)
 
 fits : tie.Need-output-port-requires
 fits c κs =
-    let b = c .before .before .before .before .before in
+    let b = start-of-known-told c in
     subst (ReadsFunction (b .args .s .now)) (sym (callee c .1)) (b .pre .0 .reads _ (callee c .0))
 
 returns : tie.Need-returns
 returns c =
     let d = c .before in
-    let a = d .before .before .before .before .before .args in
+    let a = start-of-known-told d .args in
     c .output-port .ensures ∙ ap (λ (o : Option Function). portOf (getElem? (outputsOf o) (a .port))) (sym (callee d .2))
 
 returns-2 : tie.Need-returns-2
 returns-2 c =
     let r = c .before .before .find-function in
-    let a = c .before .before .before .before .args in
+    let a = start-of-enum-told c .args in
     ap (λ (o : Option Function). portOf (getElem? (outputsOf o) (a .port)))
     (sym (no-function (version1 .header) (a .s .now) (a .id) (a .k) (sym (r .ensures) ∙ c .enum-told .given .1)))
 

@@ -14,6 +14,7 @@ use Rattle.reader.proofs.Passed.{place-reads, place-next}
 use Rattle.checker.proofs.Calls.{each-fault, each-on, each-none, need-passed, need-failed}
 use Rattle.checker.proofs.calls_good.Statement.{statement}
 use Rattle.checker.proofs.calls_good.Tie as tie
+use Rattle.base.specs.Limits.{nodeLimit}
 
 abbrev test : List ℕ → ℕ → Node → Outcome (Unit {0})
 test s k n = callOk (earlier (version1 .header) s k) (n .place) (n .payload)
@@ -26,21 +27,38 @@ Inv-loop s starts k f places j₀ j =
 abbrev μ-loop : tie.MeasureT-loop
 μ-loop s starts k f places j₀ j = f .count - j
 
+-- ---- places
+
+abbrev start-of-slice : tie.After-shared-slice-known Inv-loop μ-loop → tie.Start Inv-loop μ-loop
+start-of-slice c = c .before
+
+abbrev start-of-then-1 : tie.Then1 Inv-loop μ-loop → tie.Start Inv-loop μ-loop
+start-of-then-1 c = start-of-slice (c .before .before .before)
+
+abbrev start-of-else-1 : tie.Else1 Inv-loop μ-loop → tie.Start Inv-loop μ-loop
+start-of-else-1 c = start-of-slice (c .before .before .before)
+
+abbrev then-1-of-wide32-arg : tie.After-wide32-arg Inv-loop μ-loop → tie.Then1 Inv-loop μ-loop
+then-1-of-wide32-arg c = c .before
+
+abbrev then-1-of-then-2 : tie.Then2 Inv-loop μ-loop → tie.Then1 Inv-loop μ-loop
+then-1-of-then-2 c = then-1-of-wide32-arg (c .before .before .before)
+
 abbrev start : tie.Then1 Inv-loop μ-loop → tie.Start Inv-loop μ-loop
-start d = d .before .before .before .before
+start d = start-of-then-1 d
 
 left : (d : tie.Then1 Inv-loop μ-loop) → 0 < start d .args .f .count - d .before .before .loop .j
 left d = omega (arith, d .if1 .taken)
 
-below : (d : tie.Then1 Inv-loop μ-loop) → d .before .before .loop .j < 256
+below : (d : tie.Then1 Inv-loop μ-loop) → d .before .before .loop .j < nodeLimit
 below d = omega (arith, d .if1 .taken, start d .pre .1)
 
 -- the place is the node's
-place : (w : tie.After-wide Inv-loop μ-loop) → let d = w .before .before in let a = start d .args in
-    w .wide .result ≡ nodePlace (a .s .now) (a .f .first) (d .before .before .loop .j)
-place w = let d = w .before .before in w .wide .ensures ∙ start d .pre .2 (d .before .before .loop .j) (d .if1 .taken)
+place : (w : tie.After-wide32 Inv-loop μ-loop) → let d = w .before .before in let a = start d .args in
+    w .wide32 .result ≡ nodePlace (a .s .now) (a .f .first) (d .before .before .loop .j)
+place w = let d = w .before .before in w .wide32 .ensures .0 ∙ start d .pre .2 (d .before .before .loop .j) (d .if1 .taken)
 
-here : (w : tie.After-wide Inv-loop μ-loop) → ReadsNode (start (w .before .before) .args .s .now) (w .wide .result)
+here : (w : tie.After-wide32 Inv-loop μ-loop) → ReadsNode (start (w .before .before) .args .s .now) (w .wide32 .result)
 here w =
     let d = w .before .before in
     let a = start d .args in
@@ -54,8 +72,8 @@ loop-holds c =
     (omega arith, ap (λ (n : ℕ). each (test (a .s .now) (a .k)) (nodesAt n (a .s .now) (a .f .first))) (sym z))
 
 -- the whole, from this node on
-rest : (w : tie.After-wide Inv-loop μ-loop) → let d = w .before .before in let a = start d .args in let l = d .before .before .loop in
-    each (test (a .s .now) (a .k)) (nodesAt (a .f .count) (a .s .now) (a .f .first)) ≡ each (test (a .s .now) (a .k)) (nodesAt (a .f .count - l .j) (a .s .now) (w .wide .result))
+rest : (w : tie.After-wide32 Inv-loop μ-loop) → let d = w .before .before in let a = start d .args in let l = d .before .before .loop in
+    each (test (a .s .now) (a .k)) (nodesAt (a .f .count) (a .s .now) (a .f .first)) ≡ each (test (a .s .now) (a .k)) (nodesAt (a .f .count - l .j) (a .s .now) (w .wide32 .result))
 rest w =
     let d = w .before .before in
     let a = start d .args in
@@ -73,11 +91,11 @@ loop-again c =
     let s = a .s .now in
     let n = a .f .count - l .j in
     let m : n - 1 ≡ a .f .count - (l .j + 1) = omega arith in
-    let e : nodeEnd s (w .wide .result) ≡ nodePlace s (a .f .first) (l .j + 1) = ap (nodeEnd s) (place w) ∙ sym (place-next s (l .j) (a .f .first)) in (
+    let e : nodeEnd s (w .wide32 .result) ≡ nodePlace s (a .f .first) (l .j + 1) = ap (nodeEnd s) (place w) ∙ sym (place-next s (l .j) (a .f .first)) in (
       omega (arith, d .if1 .taken),
       rest w
-          ∙ each-on (test s (a .k)) s n (w .wide .result) (left d) (need-passed _ _ 10 (w .wide .result) (g .call-good .ensures) (c .if2 .taken))
-          ∙ ap (λ (i : ℕ). each (test s (a .k)) (nodesAt i s (nodeEnd s (w .wide .result)))) m
+          ∙ each-on (test s (a .k)) s n (w .wide32 .result) (left d) (need-passed _ _ 10 (w .wide32 .result) (g .call-good .ensures) (c .if2 .taken))
+          ∙ ap (λ (i : ℕ). each (test s (a .k)) (nodesAt i s (nodeEnd s (w .wide32 .result)))) m
           ∙ ap (λ (p : ℕ). each (test s (a .k)) (nodesAt (a .f .count - (l .j + 1)) s p)) e,
     )
 
@@ -93,13 +111,13 @@ returns c =
     ap seen
     (sym
     (rest w
-    ∙ each-fault (test s (a .k)) s (a .f .count - l .j) (w .wide .result) 10 (w .wide .result) (left d)
-    (need-failed _ _ 10 (w .wide .result) (g .call-good .ensures) (c .if2 .left))))
+    ∙ each-fault (test s (a .k)) s (a .f .count - l .j) (w .wide32 .result) 10 (w .wide32 .result) (left d)
+    (need-failed _ _ 10 (w .wide32 .result) (g .call-good .ensures) (c .if2 .left))))
 
 returns-2 : tie.Need-returns-2 Inv-loop μ-loop
 returns-2 c =
     let l = c .before .before .loop in
-    let a = c .before .before .before .before .args in
+    let a = start-of-else-1 c .args in
     ap seen (sym (l .inv .1 ∙ each-none (test (a .s .now) (a .k)) (a .s .now) (a .f .count - l .j) _ (omega (arith, c .if1 .left))))
 
 pub calls-good-spec : {M : Type 1} → statement M
@@ -113,8 +131,8 @@ calls-good-spec =
     (λ c. omega (arith, below c))
     (λ c κs. search needs)
     (λ c κs. let b = start (c .before .before) in (here c, b .pre .3, b .pre .4))
-    (λ c. omega (arith, below (c .before .before .before .before)))
-    (λ c. omega (arith, c .before .before .before .before .if1 .taken))
+    (λ c. omega (arith, below (then-1-of-then-2 c)))
+    (λ c. omega (arith, then-1-of-then-2 c .if1 .taken))
     loop-again
     returns
     returns-2)

@@ -10,28 +10,45 @@ use Rattle.checker.proofs.Whole.{end-none, end-last}
 use Rattle.checker.proofs.function_end.Statement.{statement}
 use Rattle.checker.proofs.function_end.Tie as tie
 
+-- ---- places
+
+abbrev then-1-of-slice-2 : tie.After-shared-slice-known2 → tie.Then1
+then-1-of-slice-2 c = c .before
+
+abbrev then-1-of-wide-2 : tie.After-wide2 → tie.Then1
+then-1-of-wide-2 c = then-1-of-slice-2 (c .before .before .before)
+
+abbrev u16-at-of-then-1 : tie.Then1 → tie.After-u16-at
+u16-at-of-then-1 c = c .before
+
+abbrev u16-at-of-slice-3 : tie.After-shared-slice-known3 → tie.After-u16-at
+u16-at-of-slice-3 c = u16-at-of-then-1 (c .before .before .before)
+
+abbrev u16-at-of-wide-2 : tie.After-wide2 → tie.After-u16-at
+u16-at-of-wide-2 c = u16-at-of-slice-3 (c .before)
+
 holds : (b : tie.Start) → Holds (b .args .s .now) (b .args .at)
 holds b = function-holds (b .args .s .now) (b .args .at) (b .pre .0)
 
-abbrev start : tie.After-wide → tie.Start
-start w = w .before .before .before
+abbrev start : tie.After-u16-at → tie.Start
+start w = w .before .before
 
-count : (w : tie.After-wide) → w .wide .result ≡ nodeCount (start w .args .s .now) (start w .args .at)
-count w = w .wide .ensures ∙ w .before .u16-at .ensures
+count : (w : tie.After-u16-at) → w .u16-at .result ≡ nodeCount (start w .args .s .now) (start w .args .at)
+count w = w .u16-at .ensures .0
 
 -- ---- no nodes
 
 -- where the nodes begin
-first : (d : tie.After-size2) → let a = start (d .before .before .before .before .before) .args in
-    a .at + 6 + d .before .before .size .result + 4 * d .size2 .result ≡ nodesPlace (a .s .now) (a .at)
+first : (d : tie.After-wide2) → let a = start (u16-at-of-wide-2 d) .args in
+    a .at + 6 + d .before .before .wide .result + 4 * d .wide2 .result ≡ nodesPlace (a .s .now) (a .at)
 first d =
-    let a = start (d .before .before .before .before .before) .args in
-    ap (λ (n : ℕ). a .at + 6 + n + 4 * d .size2 .result) (d .before .before .size .ensures .0)
-    ∙ ap (λ (n : ℕ). a .at + 6 + byte (a .s .now) (a .at + 2) + 4 * n) (d .size2 .ensures .0)
+    let a = start (u16-at-of-wide-2 d) .args in
+    ap (λ (n : ℕ). a .at + 6 + n + 4 * d .wide2 .result) (d .before .before .wide .ensures .0)
+    ∙ ap (λ (n : ℕ). a .at + 6 + byte (a .s .now) (a .at + 2) + 4 * n) (d .wide2 .ensures .0)
 
 returns : tie.Need-returns
 returns c =
-    let t = c .before .before .before .before in
+    let t = then-1-of-wide-2 c in
     let w = t .before in
     let a = start w .args in
     first c ∙ end-none (a .s .now) (a .at) (sym (count w) ∙ t .if1 .taken)
@@ -44,16 +61,16 @@ some e =
     let d : nodeCount (start (e .before) .args .s .now) (start (e .before) .args .at) ≡ 0 → ⊥ = λ z. e .if1 .left (q ∙ z) in
     omega arith
 
-last : (c : tie.After-wide2) → let a = start (c .before .before .before) .args in
-    c .wide2 .result ≡ nodePlace (a .s .now) (nodesPlace (a .s .now) (a .at)) (nodeCount (a .s .now) (a .at) - 1)
+last : (c : tie.After-wide32) → let a = start (c .before .before .before) .args in
+    c .wide32 .result ≡ nodePlace (a .s .now) (nodesPlace (a .s .now) (a .at)) (nodeCount (a .s .now) (a .at) - 1)
 last c =
     let e = c .before .before in
     let w = e .before in
     let b = start w in
     let q = count w in
     let l = some e in
-    c .wide2 .ensures
-    ∙ b .pre .1 (w .wide .result - 1) (omega (arith, l, q))
+    c .wide32 .ensures .0
+    ∙ b .pre .1 (w .u16-at .result - 1) (omega (arith, l, q))
     ∙ ap (λ (n : ℕ). nodePlace (b .args .s .now) (nodesPlace (b .args .s .now) (b .args .at)) (n - 1)) q
 
 node-end-requires : tie.Need-node-end-requires
@@ -76,17 +93,16 @@ function-end-spec =
     (tie.spec
     (λ c. omega (arith, holds (c .before) .head))
     (λ c κs. omega (arith, holds (c .before) .head))
-    (λ c κs. search needs)
     (λ c. omega (arith, holds (start (c .before)) .head))
     (λ c. omega (arith, holds (start (c .before)) .head))
     (λ c. omega (arith, holds (start (c .before .before)) .head))
     (λ c κs. search needs)
-    (λ c. omega (arith, holds (start (c .before .before .before)) .inputs, c .size .ensures .0))
+    (λ c. omega (arith, holds (start (c .before .before .before)) .inputs, c .wide .ensures .0))
     (λ c. omega (arith, holds (start (c .before .before .before)) .head))
-    (λ c. omega (arith, holds (start (c .before .before .before .before)) .head))
+    (λ c. omega (arith, holds (start (u16-at-of-slice-3 c)) .head))
     (λ c κs. search needs)
     (λ c. search needs)
-    (λ c. omega (arith, holds (start (c .before .before .before .before .before)) .outputs, first c))
+    (λ c. omega (arith, holds (start (u16-at-of-wide-2 c)) .outputs, first c))
     (λ c. search needs)
     (λ c. search needs)
     (λ c. let l = holds (start (c .before)) .few in let q = count (c .before) in let m = some c in omega (arith, l, q, m))

@@ -10,6 +10,17 @@ use Rattle.checker.proofs.AtPorts.{input-port-at, input-port-none}
 use Rattle.checker.proofs.input_port.Statement.{statement}
 use Rattle.checker.proofs.input_port.Tie as tie
 
+-- ---- places
+
+abbrev start-of-slice : tie.After-shared-slice-known → tie.Start
+start-of-slice c = c .before
+
+abbrev start-of-wide : tie.After-wide → tie.Start
+start-of-wide c = start-of-slice (c .before .before .before)
+
+abbrev start-of-slice-3 : tie.After-shared-slice-known3 → tie.Start
+start-of-slice-3 c = start-of-wide (c .before)
+
 head : (d : tie.Start) → Holds (d .args .s .now) (d .args .at)
 head d = function-holds (d .args .s .now) (d .args .at) (d .pre)
 
@@ -18,7 +29,7 @@ returns c =
     let z = c .before in
     let t = z .before in
     let a = t .before .before .before .args in
-    ap (λ (n : ℕ). PortType.Is (byte (a .s .now) (a .at + 6 + n))) (z .size .ensures .0)
+    ap (λ (n : ℕ). PortType.Is (byte (a .s .now) (a .at + 6 + n))) (z .wide .ensures .0)
     ∙ ap portOf (sym (input-port-at (a .s .now) (a .at) (a .port) (t .if1 .taken)))
 
 returns-2 : tie.Need-returns-2
@@ -32,7 +43,7 @@ input-port-spec =
     (λ c. omega (arith, head (c .before .before) .head))
     (λ c. omega (arith, head (c .before .before .before) .head))
     (λ c κs. search needs)
-    (λ c. omega (arith, head (c .before .before .before .before) .inputs, c .before .if1 .taken, c .size .ensures .0))
-    (λ c. omega (arith, head (c .before .before .before .before .before) .inputs, c .before .before .if1 .taken, c .before .size .ensures .0))
+    (λ c. omega (arith, head (start-of-wide c) .inputs, c .before .if1 .taken, c .wide .ensures .0))
+    (λ c. omega (arith, head (start-of-slice-3 c) .inputs, c .before .before .if1 .taken, c .before .wide .ensures .0))
     returns
     returns-2)

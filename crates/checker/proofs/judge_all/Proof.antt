@@ -13,6 +13,7 @@ use Rattle.reader.specs.Records.{seen}
 use Rattle.checker.proofs.Whole.{seen-good, seen-fault, ReadsFrom, first-function, rest-functions, all-fault, all-on, start-none, start-more, place-more, early-more}
 use Rattle.checker.proofs.judge_all.Statement.{statement}
 use Rattle.checker.proofs.judge_all.Tie as tie
+use Rattle.base.specs.Limits.{functionLimit, nodeLimit, slotLimit}
 
 -- n functions are left, from `at` on
 record Left (s : List ℕ) (count k n at : ℕ) : Type 0 where
@@ -21,11 +22,22 @@ record Left (s : List ℕ) (count k n at : ℕ) : Type 0 where
 
 abbrev Inv-loop : tie.InvT-loop
 Inv-loop s count starts₀ places₀ targets₀ at₀ k₀ starts places targets at k =
-    (k ≤ count) × (at ≡ functionPlace (version1 .header) s k) × Started s starts k × Left s count k (count - k) at × (length starts ≡ 16) × (length places ≡ 256)
-    × (length targets ≡ 4096)
+    (k ≤ count) × (at ≡ functionPlace (version1 .header) s k) × Started s starts k × Left s count k (count - k) at × (length starts ≡ functionLimit) × (length places ≡ nodeLimit)
+    × (length targets ≡ slotLimit)
 
 abbrev μ-loop : tie.MeasureT-loop
 μ-loop s count starts₀ places₀ targets₀ at₀ k₀ starts places targets at k = count - k
+
+-- ---- places
+
+abbrev in-loop-of-starts : tie.After-starts Inv-loop μ-loop → tie.In-loop Inv-loop μ-loop
+in-loop-of-starts c = c .before
+
+abbrev in-loop-of-judge-function : tie.After-judge-function Inv-loop μ-loop → tie.In-loop Inv-loop μ-loop
+in-loop-of-judge-function c = in-loop-of-starts (c .before .before .before)
+
+abbrev in-loop-of-enum-told : tie.After-enum-told Inv-loop μ-loop → tie.In-loop Inv-loop μ-loop
+in-loop-of-enum-told c = in-loop-of-judge-function (c .before .before)
 
 left : (d : tie.In-loop Inv-loop μ-loop) → 0 < d .before .before .before .args .count - d .before .loop .k
 left d = omega (arith, d .loop-test .taken)
@@ -45,14 +57,14 @@ loop-holds c =
       start-none s _,
       subst (λ (n : ℕ). Left s (a .count) 0 n (version1 .header)) z (record { reads = b .pre .0; same = refl }),
       refl,
-      length-replicate {A = ℕ} 256 0,
-      length-replicate {A = ℕ} 4096 0,
+      length-replicate {A = ℕ} nodeLimit 0,
+      length-replicate {A = ℕ} slotLimit 0,
     )
 
 returns : tie.Need-returns Inv-loop μ-loop
 returns c =
     let g = c .before .before .before in
-    let d = g .before .before .before .before in
+    let d = in-loop-of-judge-function g in
     let l = d .before .loop in
     let a = d .before .before .before .args in
     let s = a .s .now in
@@ -66,7 +78,7 @@ loop-again : tie.Need-loop-again Inv-loop μ-loop
 loop-again c =
     let t = c .before .before in
     let g = t .before .before in
-    let d = g .before .before .before .before in
+    let d = in-loop-of-judge-function g in
     let l = d .before .loop in
     let b = d .before .before .before in
     let a = b .args in
@@ -102,7 +114,7 @@ returns-2 c =
 
 -- where the loop's body stood
 abbrev inside : tie.After-enum-told Inv-loop μ-loop → tie.In-loop Inv-loop μ-loop
-inside t = t .before .before .before .before .before .before
+inside t = in-loop-of-enum-told t
 
 pub judge-all-spec : {M : Type 1} → statement M
 judge-all-spec =

@@ -21,6 +21,54 @@ use Rattle.checker.proofs.Slotting.{few-nodes, nodes-read, same-nodes, 
 use Rattle.checker.proofs.Whole.{seen-good, seen-fault, not-good, judged-twice, judged-fresh, judged-calls, judged-outputs, judged-nodes, judged-loops, ready}
 use Rattle.checker.proofs.judge_function.Statement.{statement}
 use Rattle.checker.proofs.judge_function.Tie as tie
+use Rattle.base.specs.Limits.{nodeLimit}
+
+-- ---- places
+
+abbrev places-of-fresh-nodes-arg : tie.After-fresh-nodes-arg → tie.After-places
+places-of-fresh-nodes-arg c = c .before
+
+abbrev places-of-enum-told-3 : tie.After-enum-told3 → tie.After-places
+places-of-enum-told-3 c = places-of-fresh-nodes-arg (c .before .before .before)
+
+abbrev enum-told-3-of-calls-good-arg : tie.After-calls-good-arg → tie.After-enum-told3
+enum-told-3-of-calls-good-arg c = c .before
+
+abbrev enum-told-3-of-enum-told-5 : tie.After-enum-told5 → tie.After-enum-told3
+enum-told-3-of-enum-told-5 c = enum-told-3-of-calls-good-arg (c .before .before .before)
+
+abbrev start-of-u16-at : tie.After-u16-at → tie.Start
+start-of-u16-at c = c .before .before
+
+abbrev start-of-enum-told-2 : tie.After-enum-told2 → tie.Start
+start-of-enum-told-2 c = start-of-u16-at (c .before .before .before)
+
+abbrev enum-told-7-of-resolve : tie.After-resolve → tie.After-enum-told7
+enum-told-7-of-resolve c = c .before .before
+
+abbrev enum-told-7-of-nodes-good : tie.After-nodes-good → tie.After-enum-told7
+enum-told-7-of-nodes-good c = enum-told-7-of-resolve (c .before .before .before)
+
+abbrev enum-told-2-of-wide : tie.After-wide → tie.After-enum-told2
+enum-told-2-of-wide c = c .before .before
+
+abbrev enum-told-2-of-u16-at-2 : tie.After-u16-at2 → tie.After-enum-told2
+enum-told-2-of-u16-at-2 c = enum-told-2-of-wide (c .before .before .before)
+
+abbrev start-of-slice-2 : tie.After-shared-slice-known2 → tie.Start
+start-of-slice-2 c = start-of-enum-told-2 (c .before)
+
+abbrev start-of-wide : tie.After-wide → tie.Start
+start-of-wide c = start-of-enum-told-2 (c .before .before)
+
+abbrev start-of-slice-3 : tie.After-shared-slice-known3 → tie.Start
+start-of-slice-3 c = start-of-enum-told-2 (c .before .before .before)
+
+abbrev start-of-wide-2 : tie.After-wide2 → tie.Start
+start-of-wide-2 c = start-of-slice-2 (c .before .before .before)
+
+abbrev start-of-u16-at-2 : tie.After-u16-at2 → tie.Start
+start-of-u16-at-2 c = start-of-wide (c .before .before .before)
 
 holds : (b : tie.Start) → Holds (b .args .s .now) (b .args .place)
 holds b = function-holds (b .args .s .now) (b .args .place) (b .pre .2)
@@ -31,7 +79,7 @@ told : (f : tie.After-find-function) → let a = f .before .before .before .args
     f .find-function .result ≡ functionFound (u16 (a .s .now) (a .place)) (earlier (version1 .header) (a .s .now) (a .k))
 told f =
     let a = f .before .before .before .args in
-    f .find-function .ensures ∙ ap (λ (i : ℕ). functionFound i (earlier (version1 .header) (a .s .now) (a .k))) (f .before .u16-at .ensures)
+    f .find-function .ensures ∙ ap (λ (i : ℕ). functionFound i (earlier (version1 .header) (a .s .now) (a .k))) (f .before .u16-at .ensures .0)
 
 returns : tie.Need-returns
 unfolding functionAt
@@ -43,7 +91,7 @@ returns c =
       λ e. absurd (not-good _ _ e),
     )
 
-new : (t : tie.After-enum-told2) → let a = t .before .before .before .before .before .args in
+new : (t : tie.After-enum-told2) → let a = start-of-enum-told-2 t .args in
     findFunction (functionAt (a .s .now) (a .place) .id) (earlier (version1 .header) (a .s .now) (a .k)) ≡ none
 unfolding functionAt
 new t =
@@ -53,72 +101,72 @@ new t =
 
 -- ---- where its parts stand
 
-outputs : (z : tie.After-size2) → let a = z .before .before .before .before .before .before .before .before .before .args in
-    a .place + 6 + z .size2 .result ≡ outputsPlace (a .s .now) (a .place)
-outputs z = let a = z .before .before .before .before .before .before .before .before .before .args in ap (λ (n : ℕ). a .place + 6 + n) (z .size2 .ensures .0)
+outputs : (z : tie.After-wide2) → let a = start-of-wide-2 z .args in
+    a .place + 6 + z .wide2 .result ≡ outputsPlace (a .s .now) (a .place)
+outputs z = let a = start-of-wide-2 z .args in ap (λ (n : ℕ). a .place + 6 + n) (z .wide2 .ensures .0)
 
-first : (z : tie.After-size2) → let a = z .before .before .before .before .before .before .before .before .before .args in
-    a .place + 6 + z .size2 .result + 4 * z .before .before .size .result ≡ nodesPlace (a .s .now) (a .place)
+first : (z : tie.After-wide2) → let a = start-of-wide-2 z .args in
+    a .place + 6 + z .wide2 .result + 4 * z .before .before .wide .result ≡ nodesPlace (a .s .now) (a .place)
 first z =
-    let a = z .before .before .before .before .before .before .before .before .before .args in
-    ap (λ (n : ℕ). n + 4 * z .before .before .size .result) (outputs z) ∙ ap (λ (n : ℕ). outputsPlace (a .s .now) (a .place) + 4 * n) (z .before .before .size .ensures .0)
+    let a = start-of-wide-2 z .args in
+    ap (λ (n : ℕ). n + 4 * z .before .before .wide .result) (outputs z) ∙ ap (λ (n : ℕ). outputsPlace (a .s .now) (a .place) + 4 * n) (z .before .before .wide .ensures .0)
 
-count : (w : tie.After-wide) → let a = w .before .before .before .before .before .before .before .before .before .before .before .args in
-    w .wide .result ≡ nodeCount (a .s .now) (a .place)
-count w = w .wide .ensures ∙ w .before .u16-at2 .ensures
+count : (w : tie.After-u16-at2) → let a = start-of-u16-at-2 w .args in
+    w .u16-at2 .result ≡ nodeCount (a .s .now) (a .place)
+count w = w .u16-at2 .ensures .0
 
-abbrev start : tie.After-wide → tie.Start
-start w = w .before .before .before .before .before .before .before .before .before .before .before
+abbrev start : tie.After-u16-at2 → tie.Start
+start w = start-of-u16-at-2 w
 
-abbrev begin : tie.After-wide → ℕ
-begin w = start w .args .place + 6 + w .before .before .size2 .result + 4 * w .before .before .before .before .size .result
+abbrev begin : tie.After-u16-at2 → ℕ
+begin w = start w .args .place + 6 + w .before .wide2 .result + 4 * w .before .before .before .wide .result
 
-abbrev head : tie.After-wide → Head
-head w = record { place = start w .args .place; first = begin w; count = w .wide .result }
+abbrev head : tie.After-u16-at2 → Head
+head w = record { place = start w .args .place; first = begin w; count = w .u16-at2 .result }
 
-scene : (w : tie.After-wide) → Scene (start w .args .s .now) (start w .args .starts .now) (start w .args .k) (head w)
+scene : (w : tie.After-u16-at2) → Scene (start w .args .s .now) (start w .args .starts .now) (start w .args .k) (head w)
 scene w = record {
   started = start w .pre .0;
   few = start w .pre .1;
   reads = start w .pre .2;
-  first = first (w .before .before);
+  first = first (w .before);
   count = count w;
 }
 
-few : (w : tie.After-wide) → w .wide .result ≤ 256
+few : (w : tie.After-u16-at2) → w .u16-at2 .result ≤ nodeLimit
 few w = let a = start w .args in few-nodes (a .s .now) (a .starts .now) (a .k) (head w) (scene w)
 
-nodes : (w : tie.After-wide) → ReadsNodes (w .wide .result) (start w .args .s .now) (begin w)
+nodes : (w : tie.After-u16-at2) → ReadsNodes (w .u16-at2 .result) (start w .args .s .now) (begin w)
 nodes w = let a = start w .args in nodes-read (a .s .now) (a .starts .now) (a .k) (head w) (scene w)
 
-same : (w : tie.After-wide) → nodesAt (w .wide .result) (start w .args .s .now) (begin w) ≡ functionAt (start w .args .s .now) (start w .args .place) .nodes
+same : (w : tie.After-u16-at2) → nodesAt (w .u16-at2 .result) (start w .args .s .now) (begin w) ≡ functionAt (start w .args .s .now) (start w .args .place) .nodes
 same w = let a = start w .args in same-nodes (a .s .now) (a .starts .now) (a .k) (head w) (scene w)
 
-outs : (w : tie.After-wide) → let a = start w .args in
-    outputsAt (w .before .before .before .before .size .result) (a .s .now) (a .place + 6 + w .before .before .size2 .result) ≡ functionAt (a .s .now) (a .place) .outputs
+outs : (w : tie.After-u16-at2) → let a = start w .args in
+    outputsAt (w .before .before .before .wide .result) (a .s .now) (a .place + 6 + w .before .wide2 .result) ≡ functionAt (a .s .now) (a .place) .outputs
 unfolding functionAt
 outs w =
     let a = start w .args in
-    ap (λ (n : ℕ). outputsAt n (a .s .now) (a .place + 6 + w .before .before .size2 .result)) (w .before .before .before .before .size .ensures .0)
-    ∙ ap (outputsAt (byte (a .s .now) (a .place + 3)) (a .s .now)) (outputs (w .before .before))
+    ap (λ (n : ℕ). outputsAt n (a .s .now) (a .place + 6 + w .before .wide2 .result)) (w .before .before .before .wide .ensures .0)
+    ∙ ap (outputsAt (byte (a .s .now) (a .place + 3)) (a .s .now)) (outputs (w .before))
 
 -- ---- the arrays
 
-abbrev wide-of : tie.After-places → tie.After-wide
+abbrev wide-of : tie.After-places → tie.After-u16-at2
 wide-of p = p .before .before
 
 abbrev filled : tie.After-places → List ℕ
 filled p = p .places .last .1 .1 .1 .0
 
-placed : (p : tie.After-places) → let w = wide-of p in PlacesAre (start w .args .s .now) (begin w) (w .wide .result) (filled p)
+placed : (p : tie.After-places) → let w = wide-of p in PlacesAre (start w .args .s .now) (begin w) (w .u16-at2 .result) (filled p)
 placed p =
     let w = wide-of p in
-    places-are (start w .args .s .now) (begin w) (w .wide .result) (start w .args .places .now) (filled p) (p .places .ensures) (start w .pre .4) (few w)
+    places-are (start w .args .s .now) (begin w) (w .u16-at2 .result) (start w .args .places .now) (filled p) (p .places .ensures) (start w .pre .4) (few w)
 
 -- ---- what the checks say of the function
 
 abbrev places-of : tie.After-enum-told3 → tie.After-places
-places-of t = t .before .before .before .before
+places-of t = places-of-enum-told-3 t
 
 fresh-is : (c : tie.After-fresh-nodes) → let a = start (wide-of (c .before .before)) .args in
     c .fresh-nodes .result ≡ seen (fresh [] (functionAt (a .s .now) (a .place) .nodes))
@@ -126,13 +174,13 @@ fresh-is c = c .fresh-nodes .ensures ∙ ap (λ (ns : List Node). seen (fresh []
 
 -- each from the one before it
 abbrev told3 : tie.After-enum-told5 → tie.After-enum-told3
-told3 t = t .before .before .before .before
+told3 t = enum-told-3-of-enum-told-5 t
 
 abbrev told5 : tie.After-enum-told7 → tie.After-enum-told5
 told5 t = t .before .before .before
 
 abbrev told7 : tie.After-nodes-good → tie.After-enum-told7
-told7 r = r .before .before .before .before .before
+told7 r = enum-told-7-of-nodes-good r
 
 calls-is : (c : tie.After-calls-good) → let a = start (wide-of (places-of (c .before .before))) .args in
     c .calls-good .result ≡ seen (callsChecked (a .s .now) (a .k) (functionAt (a .s .now) (a .place)))
@@ -165,14 +213,14 @@ nodes-ok t = seen-good _ (sym (t .enum-told9 .given .1) ∙ t .before .before .n
 
 -- the slots
 rows-at : (v : tie.After-resolve) → let w = wide-of (places-of (told3 (told5 (v .before .before)))) in let a = start w .args in
-    RowsAre (a .s .now) (a .place) (w .wide .result) (v .resolve .last .1 .1 .1 .0)
+    RowsAre (a .s .now) (a .place) (w .u16-at2 .result) (v .resolve .last .1 .1 .1 .0)
 rows-at v =
     let w = wide-of (places-of (told3 (told5 (v .before .before)))) in
     let a = start w .args in
     rows-are (a .s .now) (a .starts .now) (a .k) (head w) (scene w) (a .targets .now) (v .resolve .last .1 .1 .1 .0) (v .resolve .ensures) (start w .pre .5)
 
 rows : (r : tie.After-nodes-good) → let w = wide-of (places-of (told3 (told5 (told7 r)))) in let a = start w .args in
-    RowsAre (a .s .now) (a .place) (w .wide .result) (r .before .before .before .resolve .last .1 .1 .1 .0)
+    RowsAre (a .s .now) (a .place) (w .u16-at2 .result) (r .before .before .before .resolve .last .1 .1 .1 .0)
 rows r = rows-at (r .before .before .before)
 
 -- ---- the first fault
@@ -184,7 +232,7 @@ returns-2 c =
     let a = start w .args in
     let g = c .enum-told4 .given in (
       g .1
-          ∙ ap seen (sym (judged-fresh (earlier (version1 .header) (a .s .now) (a .k)) (functionAt (a .s .now) (a .place)) (new (w .before .before .before .before .before .before)) _ _
+          ∙ ap seen (sym (judged-fresh (earlier (version1 .header) (a .s .now) (a .k)) (functionAt (a .s .now) (a .place)) (new (enum-told-2-of-u16-at-2 w)) _ _
           (seen-fault _ _ _ (sym (g .1) ∙ fresh-is r)))),
       λ e. absurd (not-good _ _ (sym (g .1) ∙ e)),
     )
@@ -197,7 +245,7 @@ returns-3 c =
     let a = start w .args in
     let g = c .enum-told6 .given in (
       g .1
-          ∙ ap seen (sym (judged-calls (earlier (version1 .header) (a .s .now) (a .k)) (functionAt (a .s .now) (a .place)) (new (w .before .before .before .before .before .before))
+          ∙ ap seen (sym (judged-calls (earlier (version1 .header) (a .s .now) (a .k)) (functionAt (a .s .now) (a .place)) (new (enum-told-2-of-u16-at-2 w))
           (fresh-ok t3) _ _ (seen-fault _ _ _ (sym (g .1) ∙ calls-is r)))),
       λ e. absurd (not-good _ _ (sym (g .1) ∙ e)),
     )
@@ -211,7 +259,7 @@ returns-4 c =
     let a = start w .args in
     let g = c .enum-told8 .given in (
       g .1
-          ∙ ap seen (sym (judged-outputs (earlier (version1 .header) (a .s .now) (a .k)) (functionAt (a .s .now) (a .place)) (new (w .before .before .before .before .before .before))
+          ∙ ap seen (sym (judged-outputs (earlier (version1 .header) (a .s .now) (a .k)) (functionAt (a .s .now) (a .place)) (new (enum-told-2-of-u16-at-2 w))
           (fresh-ok t3) (calls-ok t5) _ _ (seen-fault _ _ _ (sym (g .1) ∙ outputs-is r)))),
       λ e. absurd (not-good _ _ (sym (g .1) ∙ e)),
     )
@@ -226,7 +274,7 @@ returns-5 c =
     let a = start w .args in
     let g = c .enum-told10 .given in (
       g .1
-          ∙ ap seen (sym (judged-nodes (earlier (version1 .header) (a .s .now) (a .k)) (functionAt (a .s .now) (a .place)) (new (w .before .before .before .before .before .before))
+          ∙ ap seen (sym (judged-nodes (earlier (version1 .header) (a .s .now) (a .k)) (functionAt (a .s .now) (a .place)) (new (enum-told-2-of-u16-at-2 w))
           (fresh-ok t3) (calls-ok t5) (outputs-ok t7) _ _ (seen-fault _ _ _ (sym (g .1) ∙ r .nodes-good .ensures)))),
       λ e. absurd (not-good _ _ (sym (g .1) ∙ e)),
     )
@@ -242,8 +290,8 @@ loop-free-requires c κs =
     let t3 = told3 t5 in
     let w = wide-of (places-of t3) in
     let a = start w .args in
-    let small : Bytes (a .s .now) = λ i. omega (arith, w .before .before .before .before .before .before .before .before .before .before .shared-slice-known .given i) in
-    ready (a .s .now) small (a .k) (head w) _ (start w .pre .2) (first (w .before .before)) (count w) (new (w .before .before .before .before .before .before)) (fresh-ok t3) (calls-ok t5)
+    let small : Bytes (a .s .now) = λ i. omega (arith, w .before .before .shared-slice-known3 .given i) in
+    ready (a .s .now) small (a .k) (head w) _ (start w .pre .2) (first (w .before)) (count w) (new (enum-told-2-of-u16-at-2 w)) (fresh-ok t3) (calls-ok t5)
     (outputs-ok t7) (nodes-ok t9) (rows r)
 
 returns-6 : tie.Need-returns-6
@@ -257,13 +305,13 @@ returns-6 c =
     let w = wide-of p in
     let a = start w .args in (
       c .loop-free .ensures
-          ∙ ap seen (sym (judged-loops (earlier (version1 .header) (a .s .now) (a .k)) (functionAt (a .s .now) (a .place)) (new (w .before .before .before .before .before .before))
+          ∙ ap seen (sym (judged-loops (earlier (version1 .header) (a .s .now) (a .k)) (functionAt (a .s .now) (a .place)) (new (enum-told-2-of-u16-at-2 w))
           (fresh-ok t3) (calls-ok t5) (outputs-ok t7) (nodes-ok t9))),
       λ e. record {
-        few = places-length (a .s .now) (begin w) (w .wide .result) (a .places .now) (filled p) (p .places .ensures) (start w .pre .4);
+        few = places-length (a .s .now) (begin w) (w .u16-at2 .result) (a .places .now) (filled p) (p .places .ensures) (start w .pre .4);
         size = rows r .size;
         places = subst (λ (n : ℕ). PlacesAre (a .s .now) (nodesPlace (a .s .now) (a .place)) n (filled p)) (count w)
-            (subst (λ (x : ℕ). PlacesAre (a .s .now) x (w .wide .result) (filled p)) (first (w .before .before)) (placed p));
+            (subst (λ (x : ℕ). PlacesAre (a .s .now) x (w .u16-at2 .result) (filled p)) (first (w .before)) (placed p));
       },
     )
 
@@ -276,19 +324,18 @@ judge-function-spec =
     (λ c. search needs)
     returns
     (λ c. search needs)
-    (λ c. omega (arith, holds (c .before .before .before .before .before) .head))
-    (λ c. omega (arith, holds (c .before .before .before .before .before .before) .head))
+    (λ c. omega (arith, holds (start-of-enum-told-2 c) .head))
+    (λ c. omega (arith, holds (start-of-slice-2 c) .head))
     (λ c κs. search needs)
-    (λ c. omega (arith, holds (c .before .before .before .before .before .before .before) .head))
-    (λ c. omega (arith, holds (c .before .before .before .before .before .before .before) .head))
-    (λ c. omega (arith, holds (c .before .before .before .before .before .before .before .before) .head))
+    (λ c. omega (arith, holds (start-of-wide c) .head))
+    (λ c. omega (arith, holds (start-of-wide c) .head))
+    (λ c. omega (arith, holds (start-of-slice-3 c) .head))
     (λ c κs. search needs)
-    (λ c. omega (arith, holds (c .before .before .before .before .before .before .before .before .before) .inputs, outputs c))
-    (λ c. omega (arith, c .before .before .size .ensures .1))
-    (λ c. omega (arith, holds (c .before .before .before .before .before .before .before .before .before) .outputs, first c))
-    (λ c. omega (arith, holds (c .before .before .before .before .before .before .before .before .before) .head))
-    (λ c κs. omega (arith, holds (c .before .before .before .before .before .before .before .before .before) .head))
-    (λ c κs. search needs)
+    (λ c. omega (arith, holds (start-of-wide-2 c) .inputs, outputs c))
+    (λ c. omega (arith, c .before .before .wide .ensures .1))
+    (λ c. omega (arith, holds (start-of-wide-2 c) .outputs, first c))
+    (λ c. omega (arith, holds (start-of-wide-2 c) .head))
+    (λ c κs. omega (arith, holds (start-of-wide-2 c) .head))
     (λ c κs. let w = c .before in (nodes w, few w, start w .pre .3, start w .pre .4))
     (λ c κs. let p = c .before in (nodes (wide-of p), few (wide-of p), placed p))
     (λ c. search needs)
@@ -298,7 +345,7 @@ judge-function-spec =
     (λ c. search needs)
     (λ c. search needs)
     returns-3
-    (λ c κs. let w = wide-of (places-of (told3 c)) in (scene w, omega (arith, holds (start w) .outputs, first (w .before .before))))
+    (λ c κs. let w = wide-of (places-of (told3 c)) in (scene w, omega (arith, holds (start w) .outputs, first (w .before))))
     (λ c. search needs)
     (λ c. search needs)
     returns-4

@@ -24,47 +24,74 @@ use Rattle.checker.proofs.Wiring.{absent-node, constant-node, reference
 use Rattle.checker.proofs.Slotting.{few-nodes, nodes-read, row-is}
 use Rattle.checker.proofs.node_good.Statement.{statement}
 use Rattle.checker.proofs.node_good.Tie as tie
+use Rattle.base.specs.Limits.{nodeLimit, operandLimit, portLimit}
 
-abbrev start : tie.After-wide → tie.Start
+-- ---- places
+
+abbrev wide32-of-ports-of : tie.After-ports-of → tie.After-wide32
+wide32-of-ports-of c = c .before .before
+
+abbrev wide32-of-enum-told-4 : tie.After-enum-told4 → tie.After-wide32
+wide32-of-enum-told-4 c = wide32-of-ports-of (c .before .before .before)
+
+abbrev enum-told-4-of-find-function : tie.After-find-function → tie.After-enum-told4
+enum-told-4-of-find-function c = c .before .before
+
+abbrev enum-told-4-of-known-told : tie.After-known-told → tie.After-enum-told4
+enum-told-4-of-known-told c = enum-told-4-of-find-function (c .before .before .before)
+
+abbrev enum-told-4-of-slice-4 : tie.After-shared-slice-known4 → tie.After-enum-told4
+enum-told-4-of-slice-4 c = enum-told-4-of-known-told (c .before)
+
+abbrev wide32-of-slice-2 : tie.After-shared-slice-known2 → tie.After-wide32
+wide32-of-slice-2 c = c .before
+
+abbrev wide32-of-match-keys-3 : tie.At-match-keys3 → tie.After-wide32
+wide32-of-match-keys-3 c = wide32-of-slice-2 (c .before .before .before)
+
+abbrev wide32-of-own-2 : tie.After-own2 → tie.After-wide32
+wide32-of-own-2 c = wide32-of-match-keys-3 (c .before .before .before)
+
+abbrev start : tie.After-wide32 → tie.Start
 start w = w .before .before .before
 
-small : (b : tie.Start) → b .args .i < 256
+small : (b : tie.Start) → b .args .i < nodeLimit
 small b = let h = few-nodes (b .args .s .now) (b .args .starts .now) (b .args .k) (b .args .f) (b .pre .0) in omega (arith, b .pre .3, h)
 
 -- ---- the node
 
-place : (w : tie.After-wide) → let a = start w .args in w .wide .result ≡ nodePlace (a .s .now) (a .f .first) (a .i)
-place w = w .wide .ensures ∙ start w .pre .1 (start w .args .i) (start w .pre .3)
+place : (w : tie.After-wide32) → let a = start w .args in w .wide32 .result ≡ nodePlace (a .s .now) (a .f .first) (a .i)
+place w = w .wide32 .ensures .0 ∙ start w .pre .1 (start w .args .i) (start w .pre .3)
 
-here : (w : tie.After-wide) → ReadsNode (start w .args .s .now) (w .wide .result)
+here : (w : tie.After-wide32) → ReadsNode (start w .args .s .now) (w .wide32 .result)
 here w =
     let b = start w in
     let a = b .args in
     subst (ReadsNode (a .s .now)) (sym (place w))
     (place-reads (a .s .now) (a .f .count) (a .i) (a .f .first) (b .pre .3) (nodes-read (a .s .now) (a .starts .now) (a .k) (a .f) (b .pre .0)))
 
-head : (w : tie.After-wide) → w .wide .result + 4 ≤ length (start w .args .s .now)
-head w = head-fits (start w .args .s .now) (w .wide .result) (here w)
+head : (w : tie.After-wide32) → w .wide32 .result + 4 ≤ length (start w .args .s .now)
+head w = head-fits (start w .args .s .now) (w .wide32 .result) (here w)
 
-ends : (w : tie.After-wide) → nodeEnd (start w .args .s .now) (w .wide .result) ≤ length (start w .args .s .now)
-ends w = end-fits (start w .args .s .now) (w .wide .result) (here w)
+ends : (w : tie.After-wide32) → nodeEnd (start w .args .s .now) (w .wide32 .result) ≤ length (start w .args .s .now)
+ends w = end-fits (start w .args .s .now) (w .wide32 .result) (here w)
 
 -- its call passed 10
-good : (w : tie.After-wide) → let a = start w .args in
-    callOk (earlier (version1 .header) (a .s .now) (a .k)) (w .wide .result) (nodeAt (a .s .now) (w .wide .result) .payload) ≡ ok tt
+good : (w : tie.After-wide32) → let a = start w .args in
+    callOk (earlier (version1 .header) (a .s .now) (a .k)) (w .wide32 .result) (nodeAt (a .s .now) (w .wide32 .result) .payload) ≡ ok tt
 good w =
     let a = start w .args in
     subst (λ (p : ℕ). callOk (earlier (version1 .header) (a .s .now) (a .k)) p (nodeAt (a .s .now) p .payload) ≡ ok tt) (sym (place w)) (start w .pre .4)
 
 -- an answer on the node at the place is one on node i
-answer : (w : tie.After-wide) (r : Seen) → let a = start w .args in
-    r ≡ seen (nodeChecked (a .s .now) (a .k) (a .f .place) (nodeAt (a .s .now) (w .wide .result)))
+answer : (w : tie.After-wide32) (r : Seen) → let a = start w .args in
+    r ≡ seen (nodeChecked (a .s .now) (a .k) (a .f .place) (nodeAt (a .s .now) (w .wide32 .result)))
     → r ≡ seen (nodeChecked (a .s .now) (a .k) (a .f .place) (nodeAt (a .s .now) (nodePlace (a .s .now) (a .f .first) (a .i))))
 answer w r e = let a = start w .args in e ∙ ap (λ (p : ℕ). seen (nodeChecked (a .s .now) (a .k) (a .f .place) (nodeAt (a .s .now) p))) (place w)
 
 -- its slots
-row : (w : tie.After-wide) (m begin : ℕ) → let a = start w .args in
-    m ≤ 16 → reads (nodeAt (a .s .now) (w .wide .result)) ≡ references m (a .s .now) begin → RowIs (a .s .now) (a .f .place) begin m (a .i) (a .targets .now)
+row : (w : tie.After-wide32) (m begin : ℕ) → let a = start w .args in
+    m ≤ operandLimit → reads (nodeAt (a .s .now) (w .wide32 .result)) ≡ references m (a .s .now) begin → RowIs (a .s .now) (a .f .place) begin m (a .i) (a .targets .now)
 row w m begin l e =
     let b = start w in
     let a = b .args in
@@ -72,8 +99,8 @@ row w m begin l e =
     row-is s (a .f .place) begin m (a .i) (a .f .count) (a .targets .now) (b .pre .2) (b .pre .3) l
     (ap (λ (p : ℕ). reads (nodeAt s p)) (ap (λ (x : ℕ). nodePlace s x (a .i)) (sym (b .pre .0 .first)) ∙ sym (place w)) ∙ e)
 
-form : (d : tie.After-ports-of) (h : Form) → d .ports-of .result .form ≡ h → let w = d .before .before in formOf (kindAt (start w .args .s .now) (w .wide .result)) ≡ h
-form d h e = let w = d .before .before in form-is (start w .args .s .now) (w .wide .result) (d .ports-of .result) (d .ports-of .ensures) h e
+form : (d : tie.After-ports-of) (h : Form) → d .ports-of .result .form ≡ h → let w = d .before .before in formOf (kindAt (start w .args .s .now) (w .wide32 .result)) ≡ h
+form d h e = let w = d .before .before in form-is (start w .args .s .now) (w .wide32 .result) (d .ports-of .result) (d .ports-of .ensures) h e
 
 -- ---- no references
 
@@ -82,28 +109,28 @@ returns c =
     let d = c .before .before .before in
     let w = d .before .before in
     let a = start w .args in
-    answer w Seen.Good (ap seen (sym (absent-node (a .s .now) (a .k) (a .f .place) (w .wide .result) (form d _ (c .enum-told .given .1)))))
+    answer w Seen.Good (ap seen (sym (absent-node (a .s .now) (a .k) (a .f .place) (w .wide32 .result) (form d _ (c .enum-told .given .1)))))
 
 returns-2 : tie.Need-returns-2
 returns-2 c =
     let d = c .before .before .before in
     let w = d .before .before in
     let a = start w .args in
-    answer w Seen.Good (ap seen (sym (constant-node (a .s .now) (a .k) (a .f .place) (w .wide .result) (form d _ (c .enum-told2 .given .1)))))
+    answer w Seen.Good (ap seen (sym (constant-node (a .s .now) (a .k) (a .f .place) (w .wide32 .result) (form d _ (c .enum-told2 .given .1)))))
 
 -- ---- operands
 
-few : (d : tie.After-ports-of) → d .ports-of .result .operands ≤ 16
+few : (d : tie.After-ports-of) → d .ports-of .result .operands ≤ operandLimit
 few d =
     let w = d .before .before in
-    subst (λ (r : Ports). r .operands ≤ 16) (sym (d .ports-of .ensures)) (operands-few (byte (start w .args .s .now) (w .wide .result + 2)))
+    subst (λ (r : Ports). r .operands ≤ operandLimit) (sym (d .ports-of .ensures)) (operands-few (byte (start w .args .s .now) (w .wide32 .result + 2)))
 
 operands : (t : tie.After-enum-told3) → let d = t .before .before .before in let w = d .before .before in
-    w .wide .result + 4 + 3 * d .ports-of .result .operands ≤ length (start w .args .s .now)
+    w .wide32 .result + 4 + 3 * d .ports-of .result .operands ≤ length (start w .args .s .now)
 operands t =
     let d = t .before .before .before in
     let w = d .before .before in
-    let e = end-references (start w .args .s .now) (w .wide .result) (d .ports-of .result) (d .ports-of .ensures) (t .enum-told3 .given .1) in
+    let e = end-references (start w .args .s .now) (w .wide32 .result) (d .ports-of .result) (d .ports-of .ensures) (t .enum-told3 .given .1) in
     omega (arith, e, ends w)
 
 fits : tie.Need-references-good-requires
@@ -114,16 +141,16 @@ fits c κs =
     let b = start w in
     let a = b .args in
     let s = a .s .now in
-    let e = c .size .ensures .0 in
-    let n = references-node s (a .k) (a .f .place) (w .wide .result) (d .ports-of .result) (d .ports-of .ensures) (form d _ (t .enum-told3 .given .1)) in
-    let l : c .size .result ≤ 16 = omega (arith, few d, e) in (
+    let e = c .wide .ensures .0 in
+    let n = references-node s (a .k) (a .f .place) (w .wide32 .result) (d .ports-of .result) (d .ports-of .ensures) (form d _ (t .enum-told3 .given .1)) in
+    let l : c .wide .result ≤ operandLimit = omega (arith, few d, e) in (
       b .pre .0,
       b .pre .1,
       tt,
       omega (arith, operands t, e),
       l,
       small b,
-      row w (c .size .result) (w .wide .result + 4) l (n .1 ∙ ap (λ (m : ℕ). references m s (w .wide .result + 4)) (sym e)),
+      row w (c .wide .result) (w .wide32 .result + 4) l (n .1 ∙ ap (λ (m : ℕ). references m s (w .wide32 .result + 4)) (sym e)),
     )
 
 returns-3 : tie.Need-returns-3
@@ -136,97 +163,97 @@ returns-3 c =
     let w = d .before .before in
     let a = start w .args in
     let s = a .s .now in
-    let at = w .wide .result in
+    let at = w .wide32 .result in
     let rowOf = d .ports-of .result in
     let n = references-node s (a .k) (a .f .place) at rowOf (d .ports-of .ensures) (form d _ (t .enum-told3 .given .1)) in
     let check : ℕ → ℕ → ℕ → Seen = λ m x y. seen (referencesChecked s (a .k) (a .f .place) (types m x y) (references m s (at + 4))) in
     answer w _
     (c .references-good .ensures
-    ∙ ap (λ (m : ℕ). check m (o1 .own .result) (o2 .own2 .result)) (z .size .ensures .0)
+    ∙ ap (λ (m : ℕ). check m (o1 .own .result) (o2 .own2 .result)) (z .wide .ensures .0)
     ∙ ap (λ (x : ℕ). check (rowOf .operands) x (o2 .own2 .result)) (o1 .own .ensures)
     ∙ ap (λ (y : ℕ). check (rowOf .operands) (own (byte s (at + 3)) (rowOf .first)) y) (o2 .own2 .ensures)
     ∙ ap seen (sym (n .0)))
 
 -- ---- arguments
 
-abbrev wide-of : tie.After-enum-told4 → tie.After-wide
-wide-of t = t .before .before .before .before .before
+abbrev wide-of : tie.After-enum-told4 → tie.After-wide32
+wide-of t = wide32-of-enum-told-4 t
 
-calls : (t : tie.After-enum-told4) → formOf (kindAt (start (wide-of t) .args .s .now) (wide-of t .wide .result)) ≡ Form.Call
+calls : (t : tie.After-enum-told4) → formOf (kindAt (start (wide-of t) .args .s .now) (wide-of t .wide32 .result)) ≡ Form.Call
 calls t = form (t .before .before .before) _ (t .enum-told4 .given .1)
 
-room : (t : tie.After-enum-told4) → let s = start (wide-of t) .args .s .now in let at = wide-of t .wide .result in
-    (at + 4 + 3 ≤ length s) × (byte s (at + 4 + 2) ≤ 8)
-room t = callee-fits (start (wide-of t) .args .s .now) (wide-of t .wide .result) (here (wide-of t)) (calls t)
+room : (t : tie.After-enum-told4) → let s = start (wide-of t) .args .s .now in let at = wide-of t .wide32 .result in
+    (at + 4 + 3 ≤ length s) × (byte s (at + 4 + 2) ≤ portLimit)
+room t = callee-fits (start (wide-of t) .args .s .now) (wide-of t .wide32 .result) (here (wide-of t)) (calls t)
 
 told : (f : tie.After-find-function) → let w = wide-of (f .before .before) in let a = start w .args in
-    f .find-function .result ≡ functionFound (u16 (a .s .now) (w .wide .result + 4)) (earlier (version1 .header) (a .s .now) (a .k))
+    f .find-function .result ≡ functionFound (u16 (a .s .now) (w .wide32 .result + 4)) (earlier (version1 .header) (a .s .now) (a .k))
 told f =
     let a = start (wide-of (f .before .before)) .args in
-    f .find-function .ensures ∙ ap (λ (i : ℕ). functionFound i (earlier (version1 .header) (a .s .now) (a .k))) (f .before .u16-at .ensures)
+    f .find-function .ensures ∙ ap (λ (i : ℕ). functionFound i (earlier (version1 .header) (a .s .now) (a .k))) (f .before .u16-at .ensures .0)
 
 -- the function that was found
-callee : (d : tie.After-known-told) → let w = wide-of (d .before .before .before .before .before) in let a = start w .args in
+callee : (d : tie.After-known-told) → let w = wide-of (enum-told-4-of-known-told d) in let a = start w .args in
     let g = d .before .found .given .0 in
     (g .0 < a .k) × (g .1 .0 ≡ functionPlace (version1 .header) (a .s .now) (g .0))
-    × (findFunction (u16 (a .s .now) (w .wide .result + 4)) (earlier (version1 .header) (a .s .now) (a .k)) ≡ some (functionAt (a .s .now) (g .1 .0)))
+    × (findFunction (u16 (a .s .now) (w .wide32 .result + 4)) (earlier (version1 .header) (a .s .now) (a .k)) ≡ some (functionAt (a .s .now) (g .1 .0)))
 callee d =
     let f = d .before .before .before in
     let w = wide-of (f .before .before) in
     let a = start w .args in
-    found-function (version1 .header) (a .s .now) (u16 (a .s .now) (w .wide .result + 4)) (a .k) _ _ (sym (told f) ∙ d .before .found .given .1)
+    found-function (version1 .header) (a .s .now) (u16 (a .s .now) (w .wide32 .result + 4)) (a .k) _ _ (sym (told f) ∙ d .before .found .given .1)
 
 -- its inputs fit, and are as many as the arguments
-inputs : (d : tie.After-known-told) → let w = wide-of (d .before .before .before .before .before) in let s = start w .args .s .now in
-    d .before .found .given .0 .1 .0 + 6 + byte s (w .wide .result + 4 + 2) ≤ length s
+inputs : (d : tie.After-known-told) → let w = wide-of (enum-told-4-of-known-told d) in let s = start w .args .s .now in
+    d .before .found .given .0 .1 .0 + 6 + byte s (w .wide32 .result + 4 + 2) ≤ length s
 inputs d =
-    let t = d .before .before .before .before .before in
+    let t = enum-told-4-of-known-told d in
     let w = wide-of t in
     let b = start w in
     let a = b .args in
     let s = a .s .now in
     let p = d .before .found .given .0 .1 .0 in
     let h = function-holds s p (subst (ReadsFunction s) (sym (callee d .1)) (b .pre .0 .started .reads _ (callee d .0))) .inputs in
-    let e = call-count s (a .k) (a .f .place) (w .wide .result) (calls t) (good w) p (callee d .2) in
+    let e = call-count s (a .k) (a .f .place) (w .wide32 .result) (calls t) (good w) p (callee d .2) in
     omega (arith, h, e)
 
 fits-2 : tie.Need-references-good-requires-2
 fits-2 c κs =
     let d = c .before .before in
-    let t = d .before .before .before .before .before in
+    let t = enum-told-4-of-known-told d in
     let r = t .before .before .before in
     let w = wide-of t in
     let b = start w in
     let a = b .args in
     let s = a .s .now in
-    let at = w .wide .result in
-    let e = c .size2 .ensures .0 in
+    let at = w .wide32 .result in
+    let e = c .wide2 .ensures .0 in
     let q = end-call s at (r .ports-of .result) (r .ports-of .ensures) (t .enum-told4 .given .1) in
     let n = call-node s (a .k) (a .f .place) at (calls t) (good w) (d .before .found .given .0 .1 .0) (callee d .2) in
-    let l : c .size2 .result ≤ 16 = omega (arith, room t .1, e) in (
+    let l : c .wide2 .result ≤ operandLimit = omega (arith, room t .1, e) in (
       b .pre .0,
       b .pre .1,
       omega (arith, inputs d, e),
       omega (arith, q, ends w, e),
       l,
       small b,
-      row w (c .size2 .result) (at + 4 + 3) l (n .1 ∙ ap (λ (m : ℕ). references m s (at + 4 + 3)) (sym e)),
+      row w (c .wide2 .result) (at + 4 + 3) l (n .1 ∙ ap (λ (m : ℕ). references m s (at + 4 + 3)) (sym e)),
     )
 
 returns-4 : tie.Need-returns-4
 returns-4 c =
     let z = c .before in
     let d = z .before .before in
-    let t = d .before .before .before .before .before in
+    let t = enum-told-4-of-known-told d in
     let w = wide-of t in
     let a = start w .args in
     let s = a .s .now in
-    let at = w .wide .result in
+    let at = w .wide32 .result in
     let p = d .before .found .given .0 .1 .0 in
     let n = call-node s (a .k) (a .f .place) at (calls t) (good w) p (callee d .2) in
     answer w _
     (c .references-good2 .ensures
-    ∙ ap (λ (m : ℕ). seen (referencesChecked s (a .k) (a .f .place) (inputsAt m s (p + 6)) (references m s (at + 4 + 3)))) (z .size2 .ensures .0)
+    ∙ ap (λ (m : ℕ). seen (referencesChecked s (a .k) (a .f .place) (inputsAt m s (p + 6)) (references m s (at + 4 + 3)))) (z .wide2 .ensures .0)
     ∙ ap seen (sym (n .0)))
 
 returns-5 : tie.Need-returns-5
@@ -236,8 +263,8 @@ returns-5 c =
     let w = wide-of t in
     let a = start w .args in
     absurd
-    (call-found (a .s .now) (a .k) (a .f .place) (w .wide .result) (calls t) (good w)
-    (no-function (version1 .header) (a .s .now) (u16 (a .s .now) (w .wide .result + 4)) (a .k) (sym (told f) ∙ c .enum-told5 .given .1)))
+    (call-found (a .s .now) (a .k) (a .f .place) (w .wide32 .result) (calls t) (good w)
+    (no-function (version1 .header) (a .s .now) (u16 (a .s .now) (w .wide32 .result + 4)) (a .k) (sym (told f) ∙ c .enum-told5 .given .1)))
 
 pub node-good-spec : {M : Type 1} → statement M
 node-good-spec =
@@ -256,7 +283,7 @@ node-good-spec =
     (λ c. search needs)
     (λ c κs. search needs)
     (λ c κs. search needs)
-    (λ c. omega (arith, head (c .before .before .before .before .before .before .before)))
+    (λ c. omega (arith, head (wide32-of-own-2 c)))
     (λ c κs. search needs)
     fits
     (λ c. search needs)
@@ -264,11 +291,11 @@ node-good-spec =
     (λ c κs. omega (arith, room c .0))
     (λ c κs. let b = start (wide-of (c .before)) in (b .pre .0 .started, b .pre .0 .few))
     (λ c. search needs)
-    (λ c. omega (arith, room (c .before .before .before .before .before) .0))
-    (λ c. omega (arith, room (c .before .before .before .before .before) .0))
-    (λ c. omega (arith, room (c .before .before .before .before .before) .0))
-    (λ c. omega (arith, room (c .before .before .before .before .before) .0))
-    (λ c. omega (arith, room (c .before .before .before .before .before .before) .0))
+    (λ c. omega (arith, room (enum-told-4-of-known-told c) .0))
+    (λ c. omega (arith, room (enum-told-4-of-known-told c) .0))
+    (λ c. omega (arith, room (enum-told-4-of-known-told c) .0))
+    (λ c. omega (arith, room (enum-told-4-of-known-told c) .0))
+    (λ c. omega (arith, room (enum-told-4-of-slice-4 c) .0))
     (λ c κs. search needs)
     fits-2
     (λ c. search needs)

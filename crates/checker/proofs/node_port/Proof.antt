@@ -17,6 +17,20 @@ use Rattle.checker.proofs.AtPorts.{absent-gives, constant-gives, refere
 use Rattle.checker.proofs.node_port.Statement.{statement}
 use Rattle.checker.proofs.node_port.Tie as tie
 
+-- ---- places
+
+abbrev start-of-slice : tie.After-shared-slice-known → tie.Start
+start-of-slice c = c .before
+
+abbrev start-of-slice-3 : tie.After-shared-slice-known3 → tie.Start
+start-of-slice-3 c = start-of-slice (c .before .before .before)
+
+abbrev start-of-enum-told-4 : tie.After-enum-told4 → tie.Start
+start-of-enum-told-4 c = start-of-slice-3 (c .before .before)
+
+abbrev start-of-u16-at : tie.After-u16-at → tie.Start
+start-of-u16-at c = start-of-slice-3 (c .before .before .before)
+
 head : (b : tie.Start) → b .args .at + 4 ≤ length (b .args .s .now)
 head b = head-fits (b .args .s .now) (b .args .at) (b .pre .0)
 
@@ -50,19 +64,19 @@ returns-3 c =
     ∙ ap (λ (ts : List ℕ). portOf (getElem? ts (a .port)))
     (sym (references-give (a .s .now) (a .at) (earlier (version1 .header) (a .s .now) (a .k)) (d .ports-of .result) (d .ports-of .ensures) (form d _ (t .enum-told3 .given .1))))
 
-calls : (c : tie.After-enum-told4) → let a = c .before .before .before .before .before .before .args in formOf (kindAt (a .s .now) (a .at)) ≡ Form.Call
+calls : (c : tie.After-enum-told4) → let a = start-of-enum-told-4 c .args in formOf (kindAt (a .s .now) (a .at)) ≡ Form.Call
 calls c = form (c .before .before .before) _ (c .enum-told4 .given .1)
 
-fits : (c : tie.After-enum-told4) → let a = c .before .before .before .before .before .before .args in a .at + 4 + 3 ≤ length (a .s .now)
-fits c = let b = c .before .before .before .before .before .before in callee-fits (b .args .s .now) (b .args .at) (b .pre .0) (calls c) .0
+fits : (c : tie.After-enum-told4) → let a = start-of-enum-told-4 c .args in a .at + 4 + 3 ≤ length (a .s .now)
+fits c = let b = start-of-enum-told-4 c in callee-fits (b .args .s .now) (b .args .at) (b .pre .0) (calls c) .0
 
 returns-4 : tie.Need-returns-4
 returns-4 c =
     let t = c .before .before in
-    let a = t .before .before .before .before .before .before .args in
+    let a = start-of-enum-told-4 t .args in
     let s = a .s .now in
     c .callee-port .ensures
-    ∙ ap (λ (i : ℕ). portOf (getElem? (outputsOf (findFunction i (earlier (version1 .header) s (a .k)))) (a .port))) (c .before .u16-at .ensures)
+    ∙ ap (λ (i : ℕ). portOf (getElem? (outputsOf (findFunction i (earlier (version1 .header) s (a .k)))) (a .port))) (c .before .u16-at .ensures .0)
     ∙ ap (λ (ts : List ℕ). portOf (getElem? ts (a .port))) (sym (call-gives s (a .at) (earlier (version1 .header) s (a .k)) (calls t)))
 
 pub node-port-spec : {M : Type 1} → statement M
@@ -73,7 +87,7 @@ node-port-spec =
     (λ c. omega (arith, head (c .before .before)))
     (λ c κs. search needs)
     (λ c. omega (arith, head (c .before .before .before)))
-    (λ c. omega (arith, head (c .before .before .before .before)))
+    (λ c. omega (arith, head (start-of-slice-3 c)))
     (λ c. search needs)
     (λ c κs. search needs)
     (λ c. search needs)
@@ -83,7 +97,7 @@ node-port-spec =
     (λ c. search needs)
     (λ c. omega (arith, fits c))
     (λ c κs. omega (arith, fits c))
-    (λ c κs. (c .before .before .before .before .before .before .before .pre .1, c .before .before .before .before .before .before .before .pre .2))
+    (λ c κs. (start-of-u16-at c .pre .1, start-of-u16-at c .pre .2))
     returns
     returns-2
     returns-3

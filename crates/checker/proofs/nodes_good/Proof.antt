@@ -32,8 +32,19 @@ Inv-loop s starts k f places targets i₀ i = (i ≤ f .count) × Left s k (f .p
 abbrev μ-loop : tie.MeasureT-loop
 μ-loop s starts k f places targets i₀ i = f .count - i
 
+-- ---- places
+
+abbrev start-of-slice : tie.After-shared-slice-known Inv-loop μ-loop → tie.Start Inv-loop μ-loop
+start-of-slice c = c .before
+
+abbrev start-of-then-1 : tie.Then1 Inv-loop μ-loop → tie.Start Inv-loop μ-loop
+start-of-then-1 c = start-of-slice (c .before .before .before)
+
+abbrev start-of-else-1 : tie.Else1 Inv-loop μ-loop → tie.Start Inv-loop μ-loop
+start-of-else-1 c = start-of-slice (c .before .before .before)
+
 abbrev start : tie.Then1 Inv-loop μ-loop → tie.Start Inv-loop μ-loop
-start d = d .before .before .before .before
+start d = start-of-then-1 d
 
 left : (d : tie.Then1 Inv-loop μ-loop) → 0 < start d .args .f .count - d .before .before .loop .i
 left d = omega (arith, d .if1 .taken)
@@ -106,7 +117,7 @@ loop-again c =
 returns-2 : tie.Need-returns-2 Inv-loop μ-loop
 returns-2 c =
     let l = c .before .before .loop in
-    let a = c .before .before .before .before .args in
+    let a = start-of-else-1 c .args in
     let s = a .s .now in
     ap seen (sym (l .inv .1 .same ∙ each-none (nodeChecked s (a .k) (a .f .place)) s (a .f .count - l .i) _ (omega (arith, c .if1 .left))))
 

@@ -19,6 +19,38 @@ Inv-loop s starts k f begin n at₀ left₀ at left =
 abbrev μ-loop : tie.MeasureT-loop
 μ-loop s starts k f begin n at₀ left₀ at left = left
 
+-- ---- places
+
+abbrev at-loop-of-in-loop : tie.In-loop Inv-loop μ-loop → tie.At-loop Inv-loop μ-loop
+at-loop-of-in-loop c = c .before
+
+abbrev at-loop-of-enum-told : tie.After-enum-told Inv-loop μ-loop → tie.At-loop Inv-loop μ-loop
+at-loop-of-enum-told c = at-loop-of-in-loop (c .before .before .before)
+
+abbrev in-loop-of-match-keys-1 : tie.At-match-keys1 Inv-loop μ-loop → tie.In-loop Inv-loop μ-loop
+in-loop-of-match-keys-1 c = c .before .before
+
+abbrev in-loop-of-slice-2 : tie.After-shared-slice-known2 Inv-loop μ-loop → tie.In-loop Inv-loop μ-loop
+in-loop-of-slice-2 c = in-loop-of-match-keys-1 (c .before .before .before)
+
+abbrev at-loop-of-match-keys-1 : tie.At-match-keys1 Inv-loop μ-loop → tie.At-loop Inv-loop μ-loop
+at-loop-of-match-keys-1 c = c .before .before .before
+
+abbrev at-loop-of-slice-2 : tie.After-shared-slice-known2 Inv-loop μ-loop → tie.At-loop Inv-loop μ-loop
+at-loop-of-slice-2 c = at-loop-of-match-keys-1 (c .before .before .before)
+
+abbrev in-loop-of-then-1 : tie.Then1 Inv-loop μ-loop → tie.In-loop Inv-loop μ-loop
+in-loop-of-then-1 c = in-loop-of-slice-2 (c .before)
+
+abbrev in-loop-of-else-1 : tie.Else1 Inv-loop μ-loop → tie.In-loop Inv-loop μ-loop
+in-loop-of-else-1 c = in-loop-of-slice-2 (c .before)
+
+abbrev at-loop-of-then-1 : tie.Then1 Inv-loop μ-loop → tie.At-loop Inv-loop μ-loop
+at-loop-of-then-1 c = at-loop-of-slice-2 (c .before)
+
+abbrev at-loop-of-else-1 : tie.Else1 Inv-loop μ-loop → tie.At-loop Inv-loop μ-loop
+at-loop-of-else-1 c = at-loop-of-slice-2 (c .before)
+
 returns : tie.Need-returns Inv-loop μ-loop
 returns c =
     let r = c .before .before in
@@ -74,13 +106,13 @@ outputs-good-spec =
     (λ c κs. (c .before .before .before .pre .0, omega (arith, c .before .loop .inv .0, c .loop-test .taken)))
     (λ c. search needs)
     (λ c. search needs)
-    (λ c. omega (arith, c .before .before .before .before .loop .inv .0, c .before .before .before .loop-test .taken))
+    (λ c. omega (arith, at-loop-of-enum-told c .loop .inv .0, c .before .before .before .loop-test .taken))
     returns
-    (λ c. omega (arith, c .before .before .before .before .before .before .loop .inv .0, c .before .before .before .before .before .loop-test .taken))
-    (λ c. omega (arith, c .before .before .before .before .before .before .before .loop .inv .0, c .before .before .before .before .before .before .loop-test .taken))
+    (λ c. omega (arith, at-loop-of-slice-2 c .loop .inv .0, in-loop-of-slice-2 c .loop-test .taken))
+    (λ c. omega (arith, at-loop-of-then-1 c .loop .inv .0, in-loop-of-then-1 c .loop-test .taken))
     returns-2
-    (λ c. omega (arith, c .before .before .before .before .before .before .before .loop .inv .0, c .before .before .before .before .before .before .loop-test .taken))
-    (λ c. omega (arith, c .before .before .before .before .before .before .loop-test .taken))
-    (λ c. omega (arith, c .before .before .before .before .before .before .loop-test .taken))
+    (λ c. omega (arith, at-loop-of-else-1 c .loop .inv .0, in-loop-of-else-1 c .loop-test .taken))
+    (λ c. omega (arith, in-loop-of-else-1 c .loop-test .taken))
+    (λ c. omega (arith, in-loop-of-else-1 c .loop-test .taken))
     loop-again
     returns-3)

@@ -12,6 +12,7 @@ use Rattle.checker.specs.Answers.{wantsList, referencesChecked}
 use Rattle.checker.proofs.Wiring.{lost, mistyped, welltyped, wants-length, references-fault, references-on, references-none}
 use Rattle.checker.proofs.references_good.Statement.{statement}
 use Rattle.checker.proofs.references_good.Tie as tie
+use Rattle.base.specs.Limits.{slotLimit, operandLimit}
 
 -- what is left says what the whole says
 abbrev Inv-loop : tie.InvT-loop
@@ -23,6 +24,17 @@ Inv-loop s starts k f places targets want begin n i at₀ j₀ at j =
 abbrev μ-loop : tie.MeasureT-loop
 μ-loop s starts k f places targets want begin n i at₀ j₀ at j = n - j
 
+-- ---- places
+
+abbrev in-loop-of-slot-port : tie.After-slot-port Inv-loop μ-loop → tie.In-loop Inv-loop μ-loop
+in-loop-of-slot-port c = c .before .before .before
+
+abbrev in-loop-of-known-told : tie.After-known-told Inv-loop μ-loop → tie.In-loop Inv-loop μ-loop
+in-loop-of-known-told c = in-loop-of-slot-port (c .before .before .before)
+
+abbrev in-loop-of-else-1 : tie.Else1 Inv-loop μ-loop → tie.In-loop Inv-loop μ-loop
+in-loop-of-else-1 c = in-loop-of-known-told (c .before .before)
+
 left : (d : tie.In-loop Inv-loop μ-loop) → 0 < d .before .before .before .args .n - d .before .loop .j
 left d = omega (arith, d .loop-test .taken)
 
@@ -30,7 +42,7 @@ wanted : (d : tie.In-loop Inv-loop μ-loop) → let a = d .before .before .befor
 wanted d = let a = d .before .before .before .args in omega (arith, d .loop-test .taken, wants-length (a .s .now) (a .n) (a .want))
 
 -- the slot is one of node i's
-below : (d : tie.In-loop Inv-loop μ-loop) → 16 * d .before .before .before .args .i + d .before .loop .j < 4096
+below : (d : tie.In-loop Inv-loop μ-loop) → operandLimit * d .before .before .before .args .i + d .before .loop .j < slotLimit
 below d = omega (arith, d .loop-test .taken, d .before .before .before .pre .4, d .before .before .before .pre .5)
 
 loop-holds : tie.Need-loop-holds Inv-loop μ-loop
@@ -51,7 +63,7 @@ slot-port-requires c κs =
       b .pre .0,
       b .pre .1,
       omega (arith, l .inv .1, d .loop-test .taken, b .pre .3),
-      c .wide .ensures
+      c .wide16 .ensures .0
           ∙ b .pre .6 (l .j) (d .loop-test .taken)
           ∙ ap (λ (x : ℕ). target (functionAt s (b .args .f .place) .nodes) (some (reference s x))) (sym (l .inv .1)),
     )
@@ -109,7 +121,7 @@ returns-3 c =
 
 -- where the loop's body stood
 abbrev inside : tie.Else1 Inv-loop μ-loop → tie.In-loop Inv-loop μ-loop
-inside c = c .before .before .before .before .before .before .before .before
+inside c = in-loop-of-else-1 c
 
 pub references-good-spec : {M : Type 1} → statement M
 references-good-spec =
@@ -127,7 +139,7 @@ references-good-spec =
     (λ c. search needs)
     (λ c. search needs)
     returns
-    (λ c κs. let d = c .before .before .before .before .before .before in (d .loop-test .taken, d .before .before .before .pre .2))
+    (λ c κs. let d = in-loop-of-known-told c in (d .loop-test .taken, d .before .before .before .pre .2))
     returns-2
     (λ c. let d = inside c in omega (arith, d .loop-test .taken, d .before .loop .inv .1, d .before .before .before .pre .3))
     (λ c. let d = inside c in omega (arith, d .loop-test .taken, d .before .before .before .pre .4))

@@ -58,7 +58,7 @@ single c =
     rw (e, b) (fresh-at (d .args .t .now) (suc (d .args .k)) (d .pre .0 .0) (d .args .k) (omega arith))
 
 places-requires : tie.Need-places-requires
-places-requires c κs = let (x, z) = nodes (c .before) in (z, x, c .before .before .before .before .before .before .pre .0 .0 .short, length-replicate {A = ℕ} 256 0)
+places-requires c κs = let (x, z) = nodes (c .before) in (z, x, (let l = c .before .before .before .before .before .before .pre .0 .0 .short in omega arith), length-replicate {A = ℕ} 256 0)
 
 resolve-requires : tie.Need-resolve-requires
 resolve-requires c κs = let (x, z) = nodes (c .before .before .before) in (z, x, length-replicate {A = ℕ} 4096 0, single (c .before .before .before))

@@ -68,10 +68,10 @@ low c =
     (c .before .before .before .before .before .pre .0 .2) (c .before .before .before .before .before .pre .0 .3) x y (c .before .before .before .before .before .pre .1 .0 .2) (l .order) (l .spots) (l .laid) (l .here) (l .d) (l .m) st (omega arith) (c .wide16 .result) (c .wide16 .ensures .0)
 
 -- the node at hand
-fits : (c : tie.After-wide162 Inv-loop μ-loop) →
+fits : (c : tie.After-wide32 Inv-loop μ-loop) →
     let a = c .before .before .before .before .before .before .before .args in
     let s = a .t .now in
-    let p = c .wide162 .result in
+    let p = c .wide32 .result in
     NodeFit s p × (length (reads (nodeAt s p)) ≤ 16) × (c .before .before .before .before .before .loop .here + length (reads (nodeAt s p)) ≤ spotRoom) × (c .before .before .before .before .before .loop .d + addsWords s (a .k) (nodeAt s p) ≤ 8192)
 fits c =
     let a = c .before .before .before .before .before .before .before .args in
@@ -81,17 +81,17 @@ fits c =
     let t = c .before .before .before .before .loop-test .taken in
     let e = c .before .before .before .before .before .before .before .pre .0 .1 in
     node-fits (a .t .now) (a .k) (a .spot) acc (a .outs .now) (a .targets .now) (a .places .now) (a .index .now) (a .order .now) (a .spots .now)
-    (c .before .before .before .before .before .before .before .pre .0 .2) (c .before .before .before .before .before .before .before .pre .0 .3) x y (c .before .before .before .before .before .before .before .pre .1 .0 .2) (l .order) (l .spots) (l .laid) (l .here) (l .d) (l .m) st (omega arith) (c .before .before .wide16 .result) (c .wide162 .result) (c .before .before .wide16 .ensures .0) (c .wide162 .ensures .0)
+    (c .before .before .before .before .before .before .before .pre .0 .2) (c .before .before .before .before .before .before .before .pre .0 .3) x y (c .before .before .before .before .before .before .before .pre .1 .0 .2) (l .order) (l .spots) (l .laid) (l .here) (l .d) (l .m) st (omega arith) (c .before .before .wide16 .result) (c .wide32 .result) (c .before .before .wide16 .ensures .0) (c .wide32 .ensures .0)
 
 -- its references
-count : (c : tie.After-reads-at Inv-loop μ-loop) → c .reads-at .result .count ≡ length (reads (nodeAt (c .before .before .before .before .before .before .before .before .args .t .now) (c .before .wide162 .result)))
+count : (c : tie.After-reads-at Inv-loop μ-loop) → c .reads-at .result .count ≡ length (reads (nodeAt (c .before .before .before .before .before .before .before .before .args .t .now) (c .before .wide32 .result)))
 count c = sym (ap length (c .reads-at .ensures .refs) ∙ refs-length (c .reads-at .result .count) (c .before .before .before .before .before .before .before .before .args .t .now) (c .reads-at .result .first))
 
 mul-wide16 : tie.Need-mul-wide16 Inv-loop μ-loop
 mul-wide16 c = let (x, y, z, f, k16) = lent (c .before .before .before) in let t = c .loop-test .taken in let e = c .before .before .before .pre .0 .1 in omega arith
 
-mul-wide16-2 : tie.Need-mul-wide16-2 Inv-loop μ-loop
-mul-wide16-2 c = let l = low (c) in let (x, y, z, f, k16) = lent (c .before .before .before .before .before) in omega arith
+mul-wide32 : tie.Need-mul-wide32 Inv-loop μ-loop
+mul-wide32 c = let l = low (c) in let (x, y, z, f, k16) = lent (c .before .before .before .before .before) in omega arith
 
 mul-order-2 : tie.Need-mul-order-2 Inv-loop μ-loop
 mul-order-2 c = let (x, y, z, f, k16) = lent (c .before .before .before .before .before .before .before) in let t = c .before .before .before .before .loop-test .taken in let e = c .before .before .before .before .before .before .before .pre .0 .1 in omega arith
@@ -99,8 +99,8 @@ mul-order-2 c = let (x, y, z, f, k16) = lent (c .before .before .before .before 
 element-copy-out-wide16 : tie.Need-element-copy-out-wide16 Inv-loop μ-loop
 element-copy-out-wide16 c = let (x, y, z, f, k16) = lent (c .before .before .before) in let t = c .loop-test .taken in let e = c .before .before .before .pre .0 .1 in omega arith
 
-element-copy-out-wide16-2 : tie.Need-element-copy-out-wide16-2 Inv-loop μ-loop
-element-copy-out-wide16-2 c = let l = low (c) in let (x, y, z, f, k16) = lent (c .before .before .before .before .before) in omega arith
+element-copy-out-wide32 : tie.Need-element-copy-out-wide32 Inv-loop μ-loop
+element-copy-out-wide32 c = let l = low (c) in let (x, y, z, f, k16) = lent (c .before .before .before .before .before) in omega arith
 
 mul-order : tie.Need-mul-order Inv-loop μ-loop
 mul-order c = let (x, y, z, f, k16) = lent (c .before .before .before .before .before .before .before) in omega arith
@@ -154,7 +154,7 @@ loop-again c =
     let e = c .before .before .before .before .before .before .before .before .before .before .before .before .before .before .pre .0 .1 in (
       acc,
       advance (a .t .now) (a .k) (a .spot) acc (a .outs .now) (a .targets .now) (a .places .now) (a .index .now) (a .order .now) (a .spots .now)
-          (c .before .before .before .before .before .before .before .before .before .before .before .before .before .before .pre .0 .2) (c .before .before .before .before .before .before .before .before .before .before .before .before .before .before .pre .0 .3) x y (c .before .before .before .before .before .before .before .before .before .before .before .before .before .before .pre .1 .0 .2) (l .order) (l .spots) (l .laid) (l .here) (l .d) (l .m) st (omega arith) (c .before .before .before .before .before .before .before .before .before .wide16 .result) (c .before .before .before .before .before .before .before .wide162 .result) (c .before .before .before .before .before .before .before .before .before .wide16 .ensures .0) (c .before .before .before .before .before .before .before .wide162 .ensures .0)
+          (c .before .before .before .before .before .before .before .before .before .before .before .before .before .before .pre .0 .2) (c .before .before .before .before .before .before .before .before .before .before .before .before .before .before .pre .0 .3) x y (c .before .before .before .before .before .before .before .before .before .before .before .before .before .before .pre .1 .0 .2) (l .order) (l .spots) (l .laid) (l .here) (l .d) (l .m) st (omega arith) (c .before .before .before .before .before .before .before .before .before .wide16 .result) (c .before .before .before .before .before .before .before .wide32 .result) (c .before .before .before .before .before .before .before .before .before .wide16 .ensures .0) (c .before .before .before .before .before .before .before .wide32 .ensures .0)
           (c .before .before .before .before .before .before .reads-at .result) (c .before .before .before .before .before .before .reads-at .ensures) _ _ _ _ _ refl (c .before .before .before .lay-reads .ensures) (c .lay-node .ensures .0) (c .lay-node .ensures .1) refl,
     )
 
@@ -171,6 +171,6 @@ returns c =
 pub lay-nodes-spec : {M : Type 1} → statement M
 lay-nodes-spec =
     tie.close
-    (tie.spec Inv-loop μ-loop loop-holds mul-wide16 element-copy-out-wide16 (λ c κs. search needs) mul-wide16-2 element-copy-out-wide16-2
-    (λ c κs. search needs) (λ c. search needs) mul-order add-order mul-order-2 element-write-order reads-at-requires lay-reads-requires
+    (tie.spec Inv-loop μ-loop loop-holds mul-wide16 element-copy-out-wide16 (λ c κs. search needs) mul-wide32 element-copy-out-wide32
+    (λ c κs. search needs) (λ c. let h = fits c .0 .near in omega arith) mul-order add-order mul-order-2 element-write-order reads-at-requires lay-reads-requires
     lay-node-requires add-here add-m (λ c. search needs) loop-again returns)

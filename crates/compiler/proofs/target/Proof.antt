@@ -51,5 +51,5 @@ returns-3 c =
 pub target-spec : {M : Type 1} → statement M
 target-spec =
     tie.close
-    (tie.spec (λ c κs. search needs) returns (λ c. search needs) find-node-requires (λ c. search needs) cast-result (λ c. search needs)
+    (tie.spec (λ c κs. search needs) returns find-node-requires (λ c. search needs) cast-result (λ c. search needs)
     (λ c. search needs) returns-2 returns-3)

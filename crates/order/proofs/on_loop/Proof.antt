@@ -6,12 +6,36 @@ use Prim.Native.Nat.{ℕ, _-_, _<_}
 use native.Mathlib.Omega.{arith}
 use Rattle.order.specs.Walk.{walk, visitFrom}
 use Rattle.order.proofs.Reached.{Walking, nothing-room, walking-start, at-head, walking-step, walking-back, walking-done}
+use Rattle.base.specs.Limits.{nodeLimit, operandLimit}
 
 abbrev Inv-loop : tie.InvT-loop
 Inv-loop targets n i seen₀ queue₀ tail₀ head₀ seen queue tail head = Walking targets n i head (walk seen queue tail)
 
 abbrev μ-loop : tie.MeasureT-loop
-μ-loop targets n i seen₀ queue₀ tail₀ head₀ seen queue tail head = 256 - head
+μ-loop targets n i seen₀ queue₀ tail₀ head₀ seen queue tail head = nodeLimit - head
+
+-- ---- places
+
+abbrev wide16-of-else-1 : tie.Else1 Inv-loop μ-loop → tie.After-wide16 Inv-loop μ-loop
+wide16-of-else-1 c = c .before
+
+abbrev wide16-of-visit-all-2 : tie.After-visit-all2 Inv-loop μ-loop → tie.After-wide16 Inv-loop μ-loop
+wide16-of-visit-all-2 c = wide16-of-else-1 (c .before .before .before)
+
+abbrev start-of-queue : tie.After-queue Inv-loop μ-loop → tie.Start Inv-loop μ-loop
+start-of-queue c = c .before .before
+
+abbrev start-of-in-loop : tie.In-loop Inv-loop μ-loop → tie.Start Inv-loop μ-loop
+start-of-in-loop c = start-of-queue (c .before .before .before)
+
+abbrev start-of-loop : tie.After-loop Inv-loop μ-loop → tie.Start Inv-loop μ-loop
+start-of-loop c = start-of-queue (c .before .before .before)
+
+abbrev in-loop-of-else-1 : tie.Else1 Inv-loop μ-loop → tie.In-loop Inv-loop μ-loop
+in-loop-of-else-1 c = c .before .before
+
+abbrev in-loop-of-visit-all-2 : tie.After-visit-all2 Inv-loop μ-loop → tie.In-loop Inv-loop μ-loop
+in-loop-of-visit-all-2 c = in-loop-of-else-1 (c .before .before .before)
 
 visit-all-requires : tie.Need-visit-all-requires Inv-loop μ-loop
 visit-all-requires c κs = let p = c .before .before .pre in (p .0, omega arith, nothing-room)
@@ -23,22 +47,22 @@ loop-holds c =
     (walk (c .visit-all .last .1 .1 .1 .0) (c .visit-all .last .1 .1 .1 .1 .0) (c .visit-all .result)) (c .visit-all .ensures)
 
 -- the queue ends at most where the array does
-short : (c : tie.In-loop Inv-loop μ-loop) → c .before .loop .head < 256
+short : (c : tie.In-loop Inv-loop μ-loop) → c .before .loop .head < nodeLimit
 short c = let l = c .before .loop in let e = l .inv .good .room .rest in omega (arith, c .loop-test .taken)
 
 -- the node at the queue's head
-narrow : (c : tie.After-wide Inv-loop μ-loop) → c .wide .result < 256
+narrow : (c : tie.After-wide16 Inv-loop μ-loop) → c .wide16 .result < nodeLimit
 narrow c =
     let d = c .before in
-    let s = d .before .before .before .before .before in
+    let s = start-of-in-loop d in
     let l = d .before .loop in
-    subst (λ (k : ℕ). k < 256) (sym (c .wide .ensures))
+    subst (λ (k : ℕ). k < nodeLimit) (sym (c .wide16 .ensures .0))
     (at-head (s .args .targets .now) (s .args .n) (s .pre .0) (s .args .i) (l .head) (walk (l .seen) (l .queue) (l .tail)) (l .inv) (d .loop-test .taken))
 
 returns : tie.Need-returns Inv-loop μ-loop
 returns c =
     let d = c .before .before in
-    let s = d .before .before .before .before .before in
+    let s = start-of-in-loop d in
     let l = d .before .loop in
     sym (walking-back (s .args .targets .now) (s .args .n) (s .pre .0) (s .args .i) (l .head) (walk (l .seen) (l .queue) (l .tail)) (l .inv) (c .if1 .taken))
 
@@ -46,22 +70,22 @@ visit-all-requires-2 : tie.Need-visit-all-requires-2 Inv-loop μ-loop
 visit-all-requires-2 c κs =
     let w = c .before .before .before in
     let d = w .before in
-    (d .before .before .before .before .before .pre .0, narrow w, d .before .loop .inv .good .room)
+    (start-of-in-loop d .pre .0, narrow w, d .before .loop .inv .good .room)
 
 loop-again : tie.Need-loop-again Inv-loop μ-loop
 loop-again c =
-    let w = c .before .before .before .before in
+    let w = wide16-of-visit-all-2 c in
     let d = w .before in
-    let s = d .before .before .before .before .before in
+    let s = start-of-in-loop d in
     let l = d .before .loop in
     walking-step (s .args .targets .now) (s .args .n) (s .pre .0) (s .args .i) (l .head) (walk (l .seen) (l .queue) (l .tail))
     (walk (c .visit-all2 .last .1 .1 .1 .0) (c .visit-all2 .last .1 .1 .1 .1 .0) (c .visit-all2 .result)) (l .inv) (d .loop-test .taken)
     (c .visit-all2 .ensures
-    ∙ ap (λ (k : ℕ). visitFrom (s .args .targets .now) (s .args .n) k 0 16 (walk (l .seen) (l .queue) (l .tail))) (w .wide .ensures))
+    ∙ ap (λ (k : ℕ). visitFrom (s .args .targets .now) (s .args .n) k 0 operandLimit (walk (l .seen) (l .queue) (l .tail))) (w .wide16 .ensures .0))
 
 returns-2 : tie.Need-returns-2 Inv-loop μ-loop
 returns-2 c =
-    let s = c .before .before .before .before .before in
+    let s = start-of-loop c in
     let l = c .before .loop in
     walking-done (s .args .targets .now) (s .args .n) (s .pre .0) (s .args .i) (l .head) (walk (l .seen) (l .queue) (l .tail)) (l .inv) (c .loop-test .left)
 
@@ -69,5 +93,5 @@ pub on-loop-spec : {M : Type 1} → statement M
 on-loop-spec =
     tie.close
     (tie.spec Inv-loop μ-loop visit-all-requires loop-holds (λ c. let h = short c in omega arith) (λ c. short c) (λ c κs. search needs)
-    (λ c. let h = narrow c in omega arith) returns visit-all-requires-2 (λ c. let h = short (c .before .before .before .before .before) in omega arith)
-    (λ c. let h = short (c .before .before .before .before .before) in omega arith) loop-again (λ c. search needs) returns-2)
+    (λ c. let h = narrow c in omega arith) returns visit-all-requires-2 (λ c. let h = short (in-loop-of-visit-all-2 c) in omega arith)
+    (λ c. let h = short (in-loop-of-visit-all-2 c) in omega arith) loop-again (λ c. search needs) returns-2)

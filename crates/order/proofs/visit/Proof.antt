@@ -9,25 +9,25 @@ element-write-queue : tie.Need-element-write-queue
 element-write-queue c =
     let d = c .before .before .before in
     let a = d .before .args in
-    has-place (walk (a .seen .now) (a .queue .now) (a .tail)) (d .wide .result) (d .before .pre .1) (omega arith) (c .if2 .left)
+    has-place (walk (a .seen .now) (a .queue .now) (a .tail)) (d .wide16 .result) (d .before .pre .1) (omega arith) (c .if2 .left)
 
 returns : tie.Need-returns
 returns c =
     let d = c .before .before .before in
     let a = d .before .args in
-    visit-seen (a .n) (d .wide .result) (a .target) (walk (a .seen .now) (a .queue .now) (a .tail)) (d .wide .ensures) (c .before .before .if1 .taken) (c .if2 .taken)
+    visit-seen (a .n) (d .wide16 .result) (a .target) (walk (a .seen .now) (a .queue .now) (a .tail)) (d .wide16 .ensures .0) (c .before .before .if1 .taken) (c .if2 .taken)
 
 returns-2 : tie.Need-returns-2
 returns-2 c =
     let d = c .before .before .before in
     let a = d .before .args in
-    visit-new (a .n) (d .wide .result) (a .target) (walk (a .seen .now) (a .queue .now) (a .tail)) (d .wide .ensures) (c .before .before .if1 .taken) (c .if2 .left)
+    visit-new (a .n) (d .wide16 .result) (a .target) (walk (a .seen .now) (a .queue .now) (a .tail)) (d .wide16 .ensures .0) (c .before .before .if1 .taken) (c .if2 .left)
 
 returns-3 : tie.Need-returns-3
 returns-3 c =
     let d = c .before in
     let a = d .before .args in
-    visit-none (a .n) (d .wide .result) (a .target) (walk (a .seen .now) (a .queue .now) (a .tail)) (d .wide .ensures) (c .if1 .left)
+    visit-none (a .n) (d .wide16 .result) (a .target) (walk (a .seen .now) (a .queue .now) (a .tail)) (d .wide16 .ensures .0) (c .if1 .left)
 
 pub visit-spec : {M : Type 1} → statement M
 visit-spec =

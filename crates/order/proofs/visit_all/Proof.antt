@@ -6,13 +6,22 @@ use Prim.Native.Nat.{_-_, _≤_, _<_}
 use native.Mathlib.Omega.{arith}
 use Rattle.order.specs.Walk.{walk, visitFrom, Room}
 use Rattle.order.proofs.Reached.{visiting-step, from-end}
+use Rattle.base.specs.Limits.{operandLimit}
 
 abbrev Inv-loop : tie.InvT-loop
 Inv-loop targets n i seen₀ queue₀ tail s₀ end₀ seen queue s end =
-    (s ≤ 16) × Room (walk seen queue end) × (visitFrom targets n i 0 16 (walk seen₀ queue₀ tail) ≡ visitFrom targets n i s (16 - s) (walk seen queue end))
+    (s ≤ operandLimit) × Room (walk seen queue end) × (visitFrom targets n i 0 operandLimit (walk seen₀ queue₀ tail) ≡ visitFrom targets n i s (operandLimit - s) (walk seen queue end))
 
 abbrev μ-loop : tie.MeasureT-loop
-μ-loop targets n i seen₀ queue₀ tail s₀ end₀ seen queue s end = 16 - s
+μ-loop targets n i seen₀ queue₀ tail s₀ end₀ seen queue s end = operandLimit - s
+
+-- ---- places
+
+abbrev in-loop-of-visit-arg : tie.After-visit-arg Inv-loop μ-loop → tie.In-loop Inv-loop μ-loop
+in-loop-of-visit-arg c = c .before
+
+abbrev in-loop-of-visit : tie.After-visit Inv-loop μ-loop → tie.In-loop Inv-loop μ-loop
+in-loop-of-visit c = in-loop-of-visit-arg (c .before .before .before)
 
 loop-holds : tie.Need-loop-holds Inv-loop μ-loop
 loop-holds c = (omega arith, c .pre .2, refl)
@@ -22,10 +31,10 @@ visit-requires c κs = let d = c .before .before .before in (d .before .before .
 
 loop-again : tie.Need-loop-again Inv-loop μ-loop
 loop-again c =
-    let d = c .before .before .before .before in
+    let d = in-loop-of-visit c in
     let a = d .before .before .args in
     let l = d .before .loop in
-    let h : l .s < 16 = omega arith in
+    let h : l .s < operandLimit = omega arith in
     visiting-step (a .targets .now) (a .n) (d .before .before .pre .0) (a .i) (walk (a .seen .now) (a .queue .now) (a .tail))
     (walk (l .seen) (l .queue) (l .end)) (walk (c .visit .last .1 .1 .0) (c .visit .last .1 .1 .1 .0) (c .visit .result)) (l .s) (l .inv)
     h (c .visit .ensures)

@@ -9,48 +9,69 @@ use native.Mathlib.Omega.{arith}
 use Rattle.order.specs.Indices.{firstOf, slot, settled, marked}
 use Rattle.order.proofs.Range.{first-hit, first-miss, first-end}
 use Rattle.order.proofs.Descent.{waits-at, waits-nowhere}
+use Rattle.base.specs.Limits.{operandLimit}
 
 -- slot j waits for a node
 abbrev unsettled : List ℕ → ℕ → List Bool → ℕ → ℕ → Bool
 unsettled ts n taken i j = not (settled n (marked taken) (slot ts i j))
 
 abbrev Inv-loop : tie.InvT-loop
-Inv-loop targets n taken i j₀ j = (j ≤ 16) × (firstOf (unsettled targets n taken i) 0 16 ≡ firstOf (unsettled targets n taken i) j (16 - j))
+Inv-loop targets n taken i j₀ j = (j ≤ operandLimit) × (firstOf (unsettled targets n taken i) 0 operandLimit ≡ firstOf (unsettled targets n taken i) j (operandLimit - j))
 
 abbrev μ-loop : tie.MeasureT-loop
-μ-loop targets n taken i j₀ j = 16 - j
+μ-loop targets n taken i j₀ j = operandLimit - j
+
+-- ---- places
+
+abbrev at-loop-of-in-loop : tie.In-loop Inv-loop μ-loop → tie.At-loop Inv-loop μ-loop
+at-loop-of-in-loop c = c .before
+
+abbrev at-loop-of-settled : tie.After-settled Inv-loop μ-loop → tie.At-loop Inv-loop μ-loop
+at-loop-of-settled c = at-loop-of-in-loop (c .before .before .before)
+
+abbrev start-of-at-loop : tie.At-loop Inv-loop μ-loop → tie.Start Inv-loop μ-loop
+start-of-at-loop c = c .before
+
+abbrev start-of-wide16 : tie.After-wide16 Inv-loop μ-loop → tie.Start Inv-loop μ-loop
+start-of-wide16 c = start-of-at-loop (c .before .before .before)
+
+abbrev start-of-settled : tie.After-settled Inv-loop μ-loop → tie.Start Inv-loop μ-loop
+start-of-settled c = start-of-wide16 (c .before)
+
+abbrev at-loop-of-then-1 : tie.Then1 Inv-loop μ-loop → tie.At-loop Inv-loop μ-loop
+at-loop-of-then-1 c = at-loop-of-settled (c .before)
 
 loop-holds : tie.Need-loop-holds Inv-loop μ-loop
 loop-holds c = (omega arith, refl)
 
 -- what `settled` answered is so of the slot
-answered : (c : tie.After-settled Inv-loop μ-loop) → let a = c .before .before .before .before .before .args in
-    unsettled (a .targets .now) (a .n) (a .taken .now) (a .i) (c .before .before .before .before .loop .j) ≡ not (c .settled .result)
+answered : (c : tie.After-settled Inv-loop μ-loop) → let a = start-of-settled c .args in
+    unsettled (a .targets .now) (a .n) (a .taken .now) (a .i) (at-loop-of-settled c .loop .j) ≡ not (c .settled .result)
 answered c =
-    let a = c .before .before .before .before .before .args in
-    ap (λ (v : ℕ). not (settled (a .n) (marked (a .taken .now)) v)) (sym (c .before .wide .ensures)) ∙ ap not (sym (c .settled .ensures))
+    let a = start-of-settled c .args in
+    ap (λ (v : ℕ). not (settled (a .n) (marked (a .taken .now)) v)) (sym (c .before .wide16 .ensures .0)) ∙ ap not (sym (c .settled .ensures))
 
 loop-again : tie.Need-loop-again Inv-loop μ-loop
 loop-again c =
-    let l = c .before .before .before .before .before .loop in
-    let h : l .j < 16 = omega arith in
-    (search needs, l .inv .1 ∙ first-miss _ 16 (l .j) h (answered (c .before) ∙ ap not (c .if1 .taken)))
+    let l = at-loop-of-then-1 c .loop in
+    let h : l .j < operandLimit = omega arith in
+    (search needs, l .inv .1 ∙ first-miss _ operandLimit (l .j) h (answered (c .before) ∙ ap not (c .if1 .taken)))
 
 returns : tie.Need-returns Inv-loop μ-loop
 returns c =
     let d = c .before .before in
-    let a = d .before .before .before .before .args in
+    let a = start-of-wide16 d .args in
     let l = d .before .before .before .loop in
-    let h : l .j < 16 = omega arith in
-    d .wide .ensures
+    let h : l .j < operandLimit = omega arith in
+    d .wide16 .ensures .0
     ∙ waits-at (a .targets .now) (a .n) (marked (a .taken .now)) (a .i) (l .j) h
-    (l .inv .1 ∙ first-hit _ 16 (l .j) h (answered (c .before) ∙ ap not (c .if1 .left)))
+    (l .inv .1 ∙ first-hit _ operandLimit (l .j) h (answered (c .before) ∙ ap not (c .if1 .left)))
 
 returns-2 : tie.Need-returns-2 Inv-loop μ-loop
 returns-2 c =
     let a = c .before .before .args in
     let l = c .before .loop in
-    waits-nowhere (a .targets .now) (a .n) (marked (a .taken .now)) (a .i) (l .j) (c .loop-test .left) (l .inv .1 ∙ first-end _ 16 (l .j) (c .loop-test .left))
+    waits-nowhere (a .targets .now) (a .n) (marked (a .taken .now)) (a .i) (l .j) (c .loop-test .left) (l .inv .1 ∙ first-end _ operandLimit (l .j) (c .loop-test .left))
 
 pub waits-spec : {M : Type 1} → statement M
 waits-spec =

@@ -17,17 +17,25 @@ Inv-loop s starts k id i₀ i = (i ≤ k) × (functionFound id (earlier (version
 abbrev μ-loop : tie.MeasureT-loop
 μ-loop s starts k id i₀ i = i
 
+-- ---- places
+
+abbrev start-of-slice : tie.After-shared-slice-known Inv-loop μ-loop → tie.Start Inv-loop μ-loop
+start-of-slice c = c .before
+
+abbrev start-of-at : tie.After-at Inv-loop μ-loop → tie.Start Inv-loop μ-loop
+start-of-at c = start-of-slice (c .before .before .before)
+
 -- the place of the function before
-place : (d : tie.After-at Inv-loop μ-loop) → let b = d .before .before .before .before in
+place : (d : tie.After-at Inv-loop μ-loop) → let b = start-of-at d in
     let i = d .before .before .loop .i in
     getD (b .args .starts .now) (i - 1) 0 ≡ functionPlace (version1 .header) (b .args .s .now) (i - 1)
 place d =
-    let b = d .before .before .before .before in
+    let b = start-of-at d in
     b .pre .0 .places (d .before .before .loop .i - 1) (omega arith)
 
 fits : tie.Need-u16-at-requires Inv-loop μ-loop
 fits c κs =
-    let b = c .before .before .before .before in
+    let b = start-of-at c in
     let i = c .before .before .loop .i in
     let s = b .args .s .now in
     let h = function-fits s (functionPlace (version1 .header) s (i - 1)) (b .pre .0 .reads (i - 1) (omega arith)) in
@@ -36,20 +44,20 @@ fits c κs =
 returns : tie.Need-returns Inv-loop μ-loop
 returns c =
     let d = c .before .before in
-    let b = d .before .before .before .before in
+    let b = start-of-at d in
     let l = d .before .before .loop in
     sym
     (l .inv .1
-    ∙ function-hit (version1 .header) (b .args .s .now) (b .args .id) (l .i) _ (d .before .loop-test .taken) (place d) (sym (c .before .u16-at .ensures) ∙ c .if1 .taken))
+    ∙ function-hit (version1 .header) (b .args .s .now) (b .args .id) (l .i) _ (d .before .loop-test .taken) (place d) (sym (c .before .u16-at .ensures .0) ∙ c .if1 .taken))
 
 loop-again : tie.Need-loop-again Inv-loop μ-loop
 loop-again c =
     let d = c .before .before in
-    let b = d .before .before .before .before in
+    let b = start-of-at d in
     let l = d .before .before .loop in (
       omega arith,
       l .inv .1
-          ∙ function-miss (version1 .header) (b .args .s .now) (b .args .id) (l .i) _ (d .before .loop-test .taken) (place d) (λ w. c .if1 .left (c .before .u16-at .ensures ∙ w)),
+          ∙ function-miss (version1 .header) (b .args .s .now) (b .args .id) (l .i) _ (d .before .loop-test .taken) (place d) (λ w. c .if1 .left (c .before .u16-at .ensures .0 ∙ w)),
     )
 
 returns-2 : tie.Need-returns-2 Inv-loop μ-loop

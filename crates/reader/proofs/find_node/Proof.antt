@@ -20,16 +20,36 @@ Inv-loop s first count id rs at₀ i₀ at i =
 abbrev μ-loop : tie.MeasureT-loop
 μ-loop s first count id rs at₀ i₀ at i = count - i
 
+-- ---- places
+
+abbrev start-of-slice : tie.After-shared-slice-known Inv-loop μ-loop → tie.Start Inv-loop μ-loop
+start-of-slice c = c .before
+
+abbrev start-of-in-loop : tie.In-loop Inv-loop μ-loop → tie.Start Inv-loop μ-loop
+start-of-in-loop c = start-of-slice (c .before .before .before)
+
+abbrev in-loop-of-u16-at : tie.After-u16-at Inv-loop μ-loop → tie.In-loop Inv-loop μ-loop
+in-loop-of-u16-at c = c .before
+
+abbrev in-loop-of-wide : tie.After-wide Inv-loop μ-loop → tie.In-loop Inv-loop μ-loop
+in-loop-of-wide c = in-loop-of-u16-at (c .before .before .before)
+
+abbrev start-of-loop : tie.After-loop Inv-loop μ-loop → tie.Start Inv-loop μ-loop
+start-of-loop c = start-of-slice (c .before .before .before)
+
+abbrev in-loop-of-end-by : tie.After-end-by Inv-loop μ-loop → tie.In-loop Inv-loop μ-loop
+in-loop-of-end-by c = in-loop-of-wide (c .before)
+
 -- one is left
-left : (d : tie.In-loop Inv-loop μ-loop) → 0 < d .before .before .before .before .args .count - d .before .loop .i
+left : (d : tie.In-loop Inv-loop μ-loop) → 0 < start-of-in-loop d .args .count - d .before .loop .i
 left d = omega arith
 
 -- the node here was read
-here : (d : tie.In-loop Inv-loop μ-loop) → ReadsNode (d .before .before .before .before .args .s .now) (d .before .loop .at)
-here d = let l = d .before .loop in let a = d .before .before .before .before .args in first-reads (a .s .now) (a .count - l .i) (l .at) (left d) (l .inv .1)
+here : (d : tie.In-loop Inv-loop μ-loop) → ReadsNode (start-of-in-loop d .args .s .now) (d .before .loop .at)
+here d = let l = d .before .loop in let a = start-of-in-loop d .args in first-reads (a .s .now) (a .count - l .i) (l .at) (left d) (l .inv .1)
 
-head : (d : tie.In-loop Inv-loop μ-loop) → d .before .loop .at + 4 ≤ length (d .before .before .before .before .args .s .now)
-head d = head-fits (d .before .before .before .before .args .s .now) (d .before .loop .at) (here d)
+head : (d : tie.In-loop Inv-loop μ-loop) → d .before .loop .at + 4 ≤ length (start-of-in-loop d .args .s .now)
+head d = head-fits (start-of-in-loop d .args .s .now) (d .before .loop .at) (here d)
 
 loop-holds : tie.Need-loop-holds Inv-loop μ-loop
 loop-holds c =
@@ -44,35 +64,35 @@ returns : tie.Need-returns Inv-loop μ-loop
 returns c =
     let d = c .before .before in
     let l = d .before .loop in
-    let a = d .before .before .before .before .args in
-    sym (l .inv .2 ∙ node-hit (a .s .now) (a .id) (a .count - l .i) (l .at) (l .i) (left d) (sym (c .before .u16-at .ensures) ∙ c .if1 .taken))
+    let a = start-of-in-loop d .args in
+    sym (l .inv .2 ∙ node-hit (a .s .now) (a .id) (a .count - l .i) (l .at) (l .i) (left d) (sym (c .before .u16-at .ensures .0) ∙ c .if1 .taken))
 
 -- the kind is one of the list
-below : (c : tie.After-size Inv-loop μ-loop) → c .size .result < 25
+below : (c : tie.After-wide Inv-loop μ-loop) → c .wide .result < 25
 below c =
-    let d = c .before .before .before .before in
-    let k = kind-below (d .before .before .before .before .args .s .now) (d .before .loop .at) (here d) in
-    let e = c .size .ensures .0 in
+    let d = in-loop-of-wide c in
+    let k = kind-below (start-of-in-loop d .args .s .now) (d .before .loop .at) (here d) in
+    let e = c .wide .ensures .0 in
     omega (arith, k, e)
 
 end-by-requires : tie.Need-end-by-requires Inv-loop μ-loop
 end-by-requires c κs =
     let z = c in
-    let d = z .before .before .before .before in
-    let a = d .before .before .before .before .args in
+    let d = in-loop-of-wide z in
+    let a = start-of-in-loop d .args in
     let p = d .before .before .node-sizes in (
       here d,
-      ap (λ (ns : List ℕ). getD ns (z .size .result) 0) (p .ensures)
-          ∙ ap (λ (k : ℕ). getD nodeSizes k 0) (z .size .ensures .0)
+      ap (λ (ns : List ℕ). getD ns (z .wide .result) 0) (p .ensures)
+          ∙ ap (λ (k : ℕ). getD nodeSizes k 0) (z .wide .ensures .0)
           ∙ size-of (byte (a .s .now) (d .before .loop .at + 2)) (kind-below (a .s .now) (d .before .loop .at) (here d)),
     )
 
 loop-again : tie.Need-loop-again Inv-loop μ-loop
 loop-again c =
     let z = c .before in
-    let d = z .before .before .before .before in
+    let d = in-loop-of-wide z in
     let l = d .before .loop in
-    let a = d .before .before .before .before .args in
+    let a = start-of-in-loop d .args in
     let s = a .s .now in
     let m : a .count - l .i - 1 ≡ a .count - (l .i + 1) = omega arith in
     let e = sym (c .end-by .ensures) in (
@@ -80,7 +100,7 @@ loop-again c =
       subst (λ (n : ℕ). ReadsNodes n s (c .end-by .result)) m
           (subst (λ (p : ℕ). ReadsNodes (a .count - l .i - 1) s p) e (rest-reads s (a .count - l .i) (l .at) (left d) (l .inv .1))),
       l .inv .2
-          ∙ node-miss s (a .id) (a .count - l .i) (l .at) (l .i) (left d) (λ w. z .before .before .if1 .left (z .before .before .before .u16-at .ensures ∙ w))
+          ∙ node-miss s (a .id) (a .count - l .i) (l .at) (l .i) (left d) (λ w. z .before .before .if1 .left (z .before .before .before .u16-at .ensures .0 ∙ w))
           ∙ ap (λ (p : ℕ). nodeFound (l .i + 1) (a .id) (nodesAt (a .count - l .i - 1) s p)) e
           ∙ ap (λ (n : ℕ). nodeFound (l .i + 1) (a .id) (nodesAt n s (c .end-by .result))) m,
     )
@@ -89,7 +109,7 @@ returns-2 : tie.Need-returns-2 Inv-loop μ-loop
 unfolding nodesAt
 returns-2 c =
     let l = c .before .loop in
-    let a = c .before .before .before .before .args in
+    let a = start-of-loop c .args in
     let z : a .count - l .i ≡ 0 = omega arith in
     sym (rw z at (l .inv .2))
 
@@ -108,7 +128,7 @@ find-node-spec =
     (λ c κs. search needs)
     (λ c. omega (arith, below c))
     end-by-requires
-    (λ c. omega (arith, c .before .before .before .before .before .loop-test .taken))
-    (λ c. omega (arith, c .before .before .before .before .before .loop-test .taken))
+    (λ c. omega (arith, in-loop-of-end-by c .loop-test .taken))
+    (λ c. omega (arith, in-loop-of-end-by c .loop-test .taken))
     loop-again
     returns-2)

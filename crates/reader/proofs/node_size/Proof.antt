@@ -7,4 +7,4 @@ use Rattle.reader.proofs.node_size.Statement.{statement}
 use Rattle.reader.proofs.node_size.Tie as tie
 
 pub node-size-spec : {M : Type 1} → statement M
-node-size-spec = tie.close (tie.spec (λ c κs. search needs) (λ c. search needs) (λ c. ap (λ (k : ℕ). getD nodeSizes k 0) (c .size .ensures .0)))
+node-size-spec = tie.close (tie.spec (λ c κs. search needs) (λ c. search needs) (λ c. ap (λ (k : ℕ). getD nodeSizes k 0) (c .wide .ensures .0)))

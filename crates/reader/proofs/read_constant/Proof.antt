@@ -20,6 +20,20 @@ use Rattle.reader.proofs.Rows.{constant-width}
 use Rattle.reader.proofs.read_constant.Statement.{statement}
 use Rattle.reader.proofs.read_constant.Tie as tie
 
+-- ---- places
+
+abbrev width-of-read-record : tie.After-read-record → tie.After-width
+width-of-read-record c = c .before
+
+abbrev width-of-known-told : tie.After-known-told → tie.After-width
+width-of-known-told c = width-of-read-record (c .before .before .before)
+
+abbrev start-of-read-record : tie.After-read-record → tie.Start
+start-of-read-record c = c .before .before .before
+
+abbrev start-of-known-told : tie.After-known-told → tie.Start
+start-of-known-told c = start-of-read-record (c .before .before .before)
+
 -- the words of the row's type are the kind's
 words : (d : tie.After-width) → d .width .result ≡ constantWords (kindOf (d .before .before .args .kind))
 words d =
@@ -30,11 +44,11 @@ words d =
     ∙ sym (constant-width (a .kind) (ap (λ (r : Ports). r .form) (sym (p .0)) ∙ p .1))
 
 -- the record fits
-room : (d : tie.After-known-told) → let a = d .before .before .before .before .before .before .args in
-    let n = d .before .before .before .before .width .result in
+room : (d : tie.After-known-told) → let a = start-of-known-told d .args in
+    let n = width-of-known-told d .width .result in
     (a .at + 8 * n ≤ length (a .s .now)) × (d .before .end .given .0 .0 ≡ a .at + 8 * n)
 room d =
-    let a = d .before .before .before .before .before .before .args in
+    let a = start-of-known-told d .args in
     let r = d .before .before .before .read-record in
     ends (a .s .now) (a .at) _ (r .result) (d .before .end .given .0 .0) (r .ensures) (d .before .end .given .1)
 
@@ -49,14 +63,14 @@ returns c =
 fits : tie.Need-constant-at-requires
 fits c κs =
     let d = c .before .before in
-    let w = d .before .before .before .before in
+    let w = width-of-known-told d in
     let a = w .before .before .args in
     subst (λ (n : ℕ). a .at + 8 * n ≤ length (a .s .now)) (w .width .ensures .0) (room d .0)
 
 returns-2 : tie.Need-returns-2
 returns-2 c =
     let d = c .before .before in
-    let w = d .before .before .before .before in
+    let w = width-of-known-told d in
     let a = w .before .before .args in
     ap (payloadRead (kindOf (a .kind)) (a .at))
     (sym (constant-infinite (a .s .now) (a .at) (kindOf (a .kind)) (w .width .result) (words w) (room d .0) (sym (c .before .all-finite .ensures) ∙ not-true _ (c .if1 .taken))))
@@ -65,7 +79,7 @@ returns-3 : tie.Need-returns-3
 returns-3 c =
     let f = c .before .before in
     let d = f .before in
-    let w = d .before .before .before .before in
+    let w = width-of-known-told d in
     let a = w .before .before .args in
     ap (λ (v : Value). PayloadRead.Is (Payloads.Payload.Constant v) (d .before .end .given .0 .0))
     (c .constant-at .ensures

@@ -12,6 +12,20 @@ use Rattle.reader.specs.Records.{payloadRead}
 use Rattle.reader.proofs.read_payload.Statement.{statement}
 use Rattle.reader.proofs.read_payload.Tie as tie
 
+-- ---- places
+
+abbrev start-of-slice : tie.After-shared-slice-known → tie.Start
+start-of-slice c = c .before
+
+abbrev start-of-read-constant : tie.After-read-constant → tie.Start
+start-of-read-constant c = start-of-slice (c .before .before .before)
+
+abbrev start-of-read-references : tie.After-read-references → tie.Start
+start-of-read-references c = start-of-slice (c .before .before .before)
+
+abbrev start-of-read-call : tie.After-read-call → tie.Start
+start-of-read-call c = start-of-slice (c .before .before .before)
+
 -- what the payload's reading gives where the row's form is h
 by : (s : List ℕ) (at kind : ℕ) (row : Ports) (h : Form) → row ≡ portsOf (kindOf kind) → row .form ≡ h
     → payloadRead (kindOf kind) at (payload h (kindOf kind) s at) ≡ payloadRead (kindOf kind) at (payload (formOf (kindOf kind)) (kindOf kind) s at)
@@ -22,19 +36,19 @@ returns c = let d = c .before .before .before in let a = d .args in by (a .s .no
 
 returns-2 : tie.Need-returns-2
 returns-2 c =
-    let d = c .before .before .before .before in
+    let d = start-of-read-constant c in
     let a = d .args in
     c .read-constant .ensures ∙ by (a .s .now) (a .at) (a .kind) (a .row) _ (d .pre) (c .before .enum-told2 .given .1)
 
 returns-3 : tie.Need-returns-3
 returns-3 c =
-    let d = c .before .before .before .before in
+    let d = start-of-read-references c in
     let a = d .args in
     c .read-references .ensures ∙ by (a .s .now) (a .at) (a .kind) (a .row) _ (d .pre) (c .before .enum-told3 .given .1)
 
 returns-4 : tie.Need-returns-4
 returns-4 c =
-    let d = c .before .before .before .before in
+    let d = start-of-read-call c in
     let a = d .args in
     c .read-call .ensures ∙ by (a .s .now) (a .at) (a .kind) (a .row) _ (d .pre) (c .before .enum-told4 .given .1)
 

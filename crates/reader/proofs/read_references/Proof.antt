@@ -11,9 +11,23 @@ use Rattle.reader.proofs.Payloads.{refs-short, refs-good}
 use Rattle.reader.proofs.read_references.Statement.{statement}
 use Rattle.reader.proofs.read_references.Tie as tie
 
+-- ---- places
+
+abbrev start-of-struct-known : tie.After-struct-known → tie.Start
+start-of-struct-known c = c .before .before
+
+abbrev start-of-enum-told : tie.After-enum-told → tie.Start
+start-of-enum-told c = start-of-struct-known (c .before .before .before)
+
+abbrev start-of-read-record : tie.After-read-record → tie.Start
+start-of-read-record c = c .before .before .before
+
+abbrev start-of-known-told : tie.After-known-told → tie.Start
+start-of-known-told c = start-of-read-record (c .before .before .before)
+
 returns : tie.Need-returns
 returns c =
-    let d = c .before .before .before .before .before in
+    let d = start-of-enum-told c in
     let a = d .args in
     let r = c .before .before .read-record in
     ap (payloadRead (kindOf (a .kind)) (a .at))
@@ -21,7 +35,7 @@ returns c =
 
 returns-2 : tie.Need-returns-2
 returns-2 c =
-    let d = c .before .before .before .before .before .before in
+    let d = start-of-known-told c in
     let a = d .args in
     let r = c .before .before .before .read-record in
     let (h, e) = ends (a .s .now) (a .at) _ (r .result) (c .before .end .given .0 .0) (r .ensures) (c .before .end .given .1) in

@@ -16,6 +16,14 @@ Inv-loop s first n wanted₀ m q₀ j₀ wanted q j =
 abbrev μ-loop : tie.MeasureT-loop
 μ-loop s first n wanted₀ m q₀ j₀ wanted q j = n - j
 
+-- ---- places
+
+abbrev start-of-slice : tie.After-shared-slice-known Inv-loop μ-loop → tie.Start Inv-loop μ-loop
+start-of-slice c = c .before
+
+abbrev start-of-u16-at : tie.After-u16-at Inv-loop μ-loop → tie.Start Inv-loop μ-loop
+start-of-u16-at c = start-of-slice (c .before .before .before)
+
 loop-holds : tie.Need-loop-holds Inv-loop μ-loop
 loop-holds c =
     let a = c .before .args in
@@ -35,7 +43,7 @@ loop-again c =
       omega arith,
       omega arith,
       run-step (idsOf (references (a .n) s (a .first))) (a .wanted .now) (a .m) (l .wanted) (a .m + l .j) (a .m + (l .j + 1)) (c .u16-at .result)
-          (idsOf (references (a .n - l .j) s (l .q))) rest (l .inv .2) (ids-next s (a .n) (l .j) (l .q) (d .loop-test .taken) ∙ ap (λ (x : ℕ). x ∷ rest) (sym (c .u16-at .ensures))) (omega arith),
+          (idsOf (references (a .n - l .j) s (l .q))) rest (l .inv .2) (ids-next s (a .n) (l .j) (l .q) (d .loop-test .taken) ∙ ap (λ (x : ℕ). x ∷ rest) (sym (c .u16-at .ensures .0))) (omega arith),
     )
 
 returns : tie.Need-returns Inv-loop μ-loop
@@ -54,11 +62,12 @@ gather-node-spec =
     μ-loop
     loop-holds
     (λ c κs. omega (arith, c .loop-test .taken, c .before .loop .inv .1, c .before .before .before .pre .0))
-    (λ c. omega (arith, c .before .loop-test .taken, c .before .before .before .before .pre .1))
-    (λ c. omega (arith, c .before .loop-test .taken, c .before .before .before .before .pre .1))
-    (λ c. omega (arith, c .before .loop-test .taken, c .before .before .before .before .pre .1))
-    (λ c. omega (arith, c .before .loop-test .taken, c .before .before .loop .inv .1, c .before .before .before .before .pre .0))
-    (λ c. omega (arith, c .before .loop-test .taken, c .before .before .before .before .pre .1))
+    (λ c. omega (arith, c .u16-at .ensures .1))
+    (λ c. omega (arith, c .before .loop-test .taken, start-of-u16-at c .pre .1))
+    (λ c. omega (arith, c .before .loop-test .taken, start-of-u16-at c .pre .1))
+    (λ c. omega (arith, c .before .loop-test .taken, start-of-u16-at c .pre .1))
+    (λ c. omega (arith, c .before .loop-test .taken, c .before .before .loop .inv .1, start-of-u16-at c .pre .0))
+    (λ c. omega (arith, c .before .loop-test .taken, start-of-u16-at c .pre .1))
     (λ c. omega (arith, c .before .loop-test .taken))
     loop-again
     returns)

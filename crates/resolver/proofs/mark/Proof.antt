@@ -4,6 +4,7 @@ use native.Mathlib.Omega.{arith}
 use Rattle.resolver.proofs.Matching.{Marking, mark-start, mark-step, mark-done}
 use Rattle.resolver.proofs.mark.Statement.{statement}
 use Rattle.resolver.proofs.mark.Tie as tie
+use Rattle.base.specs.Limits.{nodeLimit}
 
 abbrev Inv-loop : tie.InvT-loop
 Inv-loop wanted found₀ m id i r₀ found r = Marking wanted m id i found₀ found r
@@ -14,7 +15,7 @@ abbrev μ-loop : tie.MeasureT-loop
 loop-holds : tie.Need-loop-holds Inv-loop μ-loop
 loop-holds c = let a = c .args in mark-start (a .wanted .now) (a .m) (a .id) (a .i) (a .found .now) (c .pre .1)
 
-below : (d : tie.In-loop Inv-loop μ-loop) → d .before .loop .r < 256
+below : (d : tie.In-loop Inv-loop μ-loop) → d .before .loop .r < nodeLimit
 below d = omega (arith, d .loop-test .taken, d .before .before .pre .0)
 
 loop-again : tie.Need-loop-again Inv-loop μ-loop

@@ -19,6 +19,17 @@ Inv-loop s first count places₀ sizes at₀ i₀ places at i =
 abbrev μ-loop : tie.MeasureT-loop
 μ-loop s first count places₀ sizes at₀ i₀ places at i = count - i
 
+-- ---- places
+
+abbrev start-of-slice : tie.After-shared-slice-known Inv-loop μ-loop → tie.Start Inv-loop μ-loop
+start-of-slice c = c .before
+
+abbrev start-of-in-loop : tie.In-loop Inv-loop μ-loop → tie.Start Inv-loop μ-loop
+start-of-in-loop c = start-of-slice (c .before .before .before)
+
+abbrev start-of-loop : tie.After-loop Inv-loop μ-loop → tie.Start Inv-loop μ-loop
+start-of-loop c = start-of-slice (c .before .before .before)
+
 loop-holds : tie.Need-loop-holds Inv-loop μ-loop
 loop-holds c =
     let b = c .before .before in
@@ -29,22 +40,22 @@ loop-holds c =
     )
 
 -- the node here was read
-here : (d : tie.In-loop Inv-loop μ-loop) → ReadsNode (d .before .before .before .before .args .s .now) (d .before .loop .at)
-here d = let a = d .before .before .before .before .args in let l = d .before .loop in pass-here (a .s .now) (a .count) (l .at) (l .i) (l .inv .0) (d .loop-test .taken)
+here : (d : tie.In-loop Inv-loop μ-loop) → ReadsNode (start-of-in-loop d .args .s .now) (d .before .loop .at)
+here d = let a = start-of-in-loop d .args in let l = d .before .loop in pass-here (a .s .now) (a .count) (l .at) (l .i) (l .inv .0) (d .loop-test .taken)
 
-head : (d : tie.In-loop Inv-loop μ-loop) → d .before .loop .at + 4 ≤ length (d .before .before .before .before .args .s .now)
-head d = head-fits (d .before .before .before .before .args .s .now) (d .before .loop .at) (here d)
+head : (d : tie.In-loop Inv-loop μ-loop) → d .before .loop .at + 4 ≤ length (start-of-in-loop d .args .s .now)
+head d = head-fits (start-of-in-loop d .args .s .now) (d .before .loop .at) (here d)
 
 end-by-requires : tie.Need-end-by-requires Inv-loop μ-loop
 end-by-requires c κs =
     let d = c .before .before in
-    let a = d .before .before .before .before .args in
+    let a = start-of-in-loop d .args in
     (here d, size-here (a .s .now) (d .before .loop .at) (c .wide .result) (here d) (c .wide .ensures .0) (d .before .before .node-sizes .result) (d .before .before .node-sizes .ensures))
 
 loop-again : tie.Need-loop-again Inv-loop μ-loop
 loop-again c =
     let d = c .before .before .before in
-    let a = d .before .before .before .before .args in
+    let a = start-of-in-loop d .args in
     let s = a .s .now in
     let l = d .before .loop in
     let r = c .end-by .result in (
@@ -56,7 +67,7 @@ loop-again c =
 
 returns : tie.Need-returns Inv-loop μ-loop
 returns c =
-    let a = c .before .before .before .before .args in
+    let a = start-of-loop c .args in
     let s = a .s .now in
     let l = c .before .loop in
     run-done (placesOf (nodesAt (a .count) s (a .first))) (a .places .now) 0 (l .places) (l .i) (placesOf (nodesAt (a .count - l .i) s (l .at))) (l .inv .1) (ap placesOf (left-none s (a .count) (l .at) (l .i) (c .loop-test .left)))
@@ -69,13 +80,13 @@ places-spec =
     μ-loop
     (λ c κs. search needs)
     loop-holds
-    (λ c. omega (arith, head c, c .before .before .before .before .pre .2))
+    (λ c. omega (arith, head c, start-of-in-loop c .pre .2))
     (λ c. search needs)
-    (λ c. omega (arith, c .loop-test .taken, c .before .before .before .before .pre .1))
+    (λ c. omega (arith, c .loop-test .taken, start-of-in-loop c .pre .1))
     (λ c. omega (arith, head c))
     (λ c. omega (arith, head (c .before)))
     (λ c κs. search needs)
-    (λ c. let d = c .before .before in kind-few (d .before .before .before .before .args .s .now) (d .before .loop .at) (c .wide .result) (here d) (c .wide .ensures .0))
+    (λ c. let d = c .before .before in kind-few (start-of-in-loop d .args .s .now) (d .before .loop .at) (c .wide .result) (here d) (c .wide .ensures .0))
     end-by-requires
     (λ c. omega (arith, c .before .before .before .loop-test .taken))
     (λ c. omega (arith, c .before .before .before .loop-test .taken))

@@ -5,32 +5,41 @@ use Rattle.resolver.proofs.Storing.{Run, run-start, run-step, run-done}
 use Rattle.resolver.proofs.Rows.{entries-all, entries-next, entries-none, row-stored}
 use Rattle.resolver.proofs.put_row.Statement.{statement}
 use Rattle.resolver.proofs.put_row.Tie as tie
+use Rattle.base.specs.Limits.{operandLimit, slotLimit}
 
 abbrev Inv-loop : tie.InvT-loop
 Inv-loop found m n targets₀ i j₀ targets j =
-    (j ≤ n) × Run (entries n found m) targets₀ (16 * i) targets (16 * i + j) (entries (n - j) found (m + j))
+    (j ≤ n) × Run (entries n found m) targets₀ (operandLimit * i) targets (operandLimit * i + j) (entries (n - j) found (m + j))
 
 abbrev μ-loop : tie.MeasureT-loop
 μ-loop found m n targets₀ i j₀ targets j = n - j
+
+-- ---- places
+
+abbrev start-of-clear-row-arg : tie.After-clear-row-arg Inv-loop μ-loop → tie.Start Inv-loop μ-loop
+start-of-clear-row-arg c = c .before
+
+abbrev start-of-in-loop : tie.In-loop Inv-loop μ-loop → tie.Start Inv-loop μ-loop
+start-of-in-loop c = start-of-clear-row-arg (c .before .before .before)
 
 loop-holds : tie.Need-loop-holds Inv-loop μ-loop
 loop-holds c =
     let a = c .before .before .args in
     let f = a .found .now in
-    (omega arith, run-start (entries (a .n) f (a .m)) _ (16 * a .i) (16 * a .i + 0) (entries (a .n - 0) f (a .m + 0)) (omega arith) (entries-all f (a .n) (a .m)))
+    (omega arith, run-start (entries (a .n) f (a .m)) _ (operandLimit * a .i) (operandLimit * a .i + 0) (entries (a .n - 0) f (a .m + 0)) (omega arith) (entries-all f (a .n) (a .m)))
 
 -- the slot of the loop's index
-inside : (d : tie.In-loop Inv-loop μ-loop) → 16 * d .before .before .before .before .args .i + d .before .loop .j < 4096
-inside d = let b = d .before .before .before .before in omega (arith, d .loop-test .taken, b .pre .1, b .pre .2)
+inside : (d : tie.In-loop Inv-loop μ-loop) → operandLimit * start-of-in-loop d .args .i + d .before .loop .j < slotLimit
+inside d = let b = start-of-in-loop d in omega (arith, d .loop-test .taken, b .pre .1, b .pre .2)
 
 loop-again : tie.Need-loop-again Inv-loop μ-loop
 loop-again c =
     let d = c .before in
-    let a = d .before .before .before .before .args in
+    let a = start-of-in-loop d .args in
     let f = a .found .now in
     let l = d .before .loop in (
       omega arith,
-      run-step (entries (a .n) f (a .m)) _ (16 * a .i) (l .targets) (16 * a .i + l .j) (16 * a .i + (l .j + 1)) _
+      run-step (entries (a .n) f (a .m)) _ (operandLimit * a .i) (l .targets) (operandLimit * a .i + l .j) (operandLimit * a .i + (l .j + 1)) _
           (entries (a .n - l .j) f (a .m + l .j)) (entries (a .n - (l .j + 1)) f (a .m + (l .j + 1))) (l .inv .1) (entries-next f (a .n) (l .j) (a .m) (d .loop-test .taken)) (omega arith),
     )
 
@@ -41,8 +50,8 @@ returns c =
     let a = b .args in
     let f = a .found .now in
     let l = c .before .loop in
-    row-stored f (a .n) (a .m) (a .targets .now) _ (l .targets) (16 * a .i) (b .pre .1) (k .clear-row .ensures)
-    (run-done (entries (a .n) f (a .m)) _ (16 * a .i) (l .targets) (16 * a .i + l .j) (entries (a .n - l .j) f (a .m + l .j)) (l .inv .1) (entries-none f (a .n) (l .j) (a .m) (c .loop-test .left)))
+    row-stored f (a .n) (a .m) (a .targets .now) _ (l .targets) (operandLimit * a .i) (b .pre .1) (k .clear-row .ensures)
+    (run-done (entries (a .n) f (a .m)) _ (operandLimit * a .i) (l .targets) (operandLimit * a .i + l .j) (entries (a .n - l .j) f (a .m + l .j)) (l .inv .1) (entries-none f (a .n) (l .j) (a .m) (c .loop-test .left)))
 
 pub put-row-spec : {M : Type 1} → statement M
 put-row-spec =
@@ -52,9 +61,9 @@ put-row-spec =
     μ-loop
     (λ c κs. c .before .pre .2)
     loop-holds
-    (λ c. omega (arith, c .loop-test .taken, c .before .before .before .before .pre .0))
-    (λ c. omega (arith, c .loop-test .taken, c .before .before .before .before .pre .0))
-    (λ c. omega (arith, c .loop-test .taken, c .before .before .before .before .pre .0))
+    (λ c. omega (arith, c .loop-test .taken, start-of-in-loop c .pre .0))
+    (λ c. omega (arith, c .loop-test .taken, start-of-in-loop c .pre .0))
+    (λ c. omega (arith, c .loop-test .taken, start-of-in-loop c .pre .0))
     (λ c. omega (arith, inside (c .before)))
     (λ c. omega (arith, inside (c .before)))
     (λ c. omega (arith, inside (c .before)))

@@ -8,6 +8,14 @@ use Rattle.resolver.proofs.Referring.{call-reads, other-reads}
 use Rattle.resolver.proofs.reads_by.Statement.{statement}
 use Rattle.resolver.proofs.reads_by.Tie as tie
 
+-- ---- places
+
+abbrev start-of-slice : tie.After-shared-slice-known → tie.Start
+start-of-slice c = c .before
+
+abbrev start-of-wide : tie.After-wide → tie.Start
+start-of-wide c = start-of-slice (c .before .before .before)
+
 -- the call's own bytes fit
 fits : (c : tie.Then1) → let a = c .before .before .args in a .at + 4 + 3 ≤ length (a .s .now)
 fits c =
@@ -17,7 +25,7 @@ fits c =
 
 returns : tie.Need-returns
 returns c =
-    let b = c .before .before .before .before in
+    let b = start-of-wide c in
     let a = b .args in
     call-reads (a .s .now) (a .at) (b .pre .0) (a .bytes) (b .pre .1) (c .before .before .if1 .taken) (c .wide .result) (c .wide .ensures .0)
 

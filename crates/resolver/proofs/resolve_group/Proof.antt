@@ -6,6 +6,15 @@ use Rattle.reader.specs.Layout.{nodesAt}
 use Rattle.resolver.proofs.Scattering.{found-start, group-done}
 use Rattle.resolver.proofs.resolve_group.Statement.{statement}
 use Rattle.resolver.proofs.resolve_group.Tie as tie
+use Rattle.base.specs.Limits.{nodeLimit}
+
+-- ---- places
+
+abbrev gather-of-find-all : tie.After-find-all → tie.After-gather
+gather-of-find-all c = c .before .before .before
+
+abbrev gather-of-scatter : tie.After-scatter → tie.After-gather
+gather-of-scatter c = gather-of-find-all (c .before .before .before)
 
 gather-requires : tie.Need-gather-requires
 gather-requires c κs = let b = c .before .before in (b .pre .1 .0, omega (arith, b .pre .1 .1))
@@ -24,11 +33,11 @@ scatter-requires c κs =
     let a = b .args in
     let s = a .s .now in
     let e = g .gather .ensures in
-    ((b .pre .1 .0, omega (arith, e .most, b .pre .1 .1), b .pre .0 .1), found-start (nodesAt (a .count) s (a .first)) s (a .at) (a .count - a .i) _ _ _ (g .gather .result) (length-replicate {A = ℕ} 256 0) e (f .find-all .ensures))
+    ((b .pre .1 .0, omega (arith, e .most, b .pre .1 .1), b .pre .0 .1), found-start (nodesAt (a .count) s (a .first)) s (a .at) (a .count - a .i) _ _ _ (g .gather .result) (length-replicate {A = ℕ} nodeLimit 0) e (f .find-all .ensures))
 
 returns : tie.Need-returns
 returns c =
-    let g = c .before .before .before .before .before .before in
+    let g = gather-of-scatter c in
     let b = g .before .before .before in
     let a = b .args in
     let e = g .gather .ensures in
@@ -44,7 +53,7 @@ resolve-group-spec =
     find-all-requires
     scatter-requires
     (λ c.
-    let g = c .before .before .before .before .before .before in
+    let g = gather-of-scatter c in
     let b = g .before .before .before in
     omega (arith, g .gather .ensures .most, b .pre .1 .1, b .pre .0 .1))
     returns)
