@@ -76,7 +76,7 @@ fit-up (i ∷ is) next stop (a, f) = let h : nextWord next i ≤ stop = fit-up i
 
 -- ---- an instruction
 
-instruction-length : (i : Instruction) → length (instructionCode i) ≡ 2 + 2 * length (i .operands) + 8 * length (i .constants)
+pub instruction-length : (i : Instruction) → length (instructionCode i) ≡ 2 + 2 * length (i .operands) + 8 * length (i .constants)
 instruction-length i =
     let a : length (allBytes 2 (i .operands)) ≡ 2 * length (i .operands) = all-length 2 (i .operands) in
     let b : length (allBytes 8 (i .constants)) ≡ 8 * length (i .constants) = all-length 8 (i .constants) in

@@ -239,7 +239,7 @@ module _ (s : List ℕ) (id : ℕ) where
       let m : suc n - 1 ≡ n = omega arith in
       rw (ne-eqb (u16 s at) id e, m)
 
-length-earlier : (begin : ℕ) (s : List ℕ) (k : ℕ) → length (earlier begin s k) ≡ k
+pub length-earlier : (begin : ℕ) (s : List ℕ) (k : ℕ) → length (earlier begin s k) ≡ k
 unfolding earlier
 length-earlier begin s zero = refl
 length-earlier begin s (suc k) = ap suc (length-earlier begin s k)
