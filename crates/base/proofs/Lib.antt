@@ -1,5 +1,6 @@
 pub mod Bools
 pub mod Lists
+pub mod Numbers
 pub mod Outcomes
 pub mod Stands
 pub mod Stores

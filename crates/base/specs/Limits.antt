@@ -1,5 +1,7 @@
 -- Limits, each by one name.
-use Prim.Native.Nat.{ℕ, _*_}
+use Prim.Native.Nat.{ℕ, _+_, _*_, _/_}
+use mathlib.Core.Bool.{Bool, _&&_}
+use lib.Dec.{leb}
 
 -- functions of a table
 abbrev pub functionLimit : ℕ
@@ -28,9 +30,28 @@ operationLimit = 4096
 abbrev pub wordLimit : ℕ
 wordLimit = 8192
 
+-- both sums of a function are within the limits
+abbrev pub withinLimits : ℕ → ℕ → Bool
+withinLimits operations words = leb operations operationLimit && leb words wordLimit
+
+-- words of a value: a matrix has the most
+abbrev pub valueLimit : ℕ
+valueLimit = 16
+
+-- bytes of one instruction, and of all instructions of a function that can be compiled
+abbrev pub instructionLimit : ℕ
+instructionLimit = 2 + 2 * operandLimit + 8 * valueLimit
+
+abbrev pub codeLimit : ℕ
+codeLimit = operationLimit * instructionLimit
+
+-- references of a table's nodes
+abbrev pub referenceLimit : ℕ
+referenceLimit = 65536 * operandLimit / (4 + 3 * operandLimit) + 1
+
 -- words of all inputs, and of all outputs
 abbrev pub portWordLimit : ℕ
-portWordLimit = 128
+portWordLimit = portLimit * valueLimit
 
 -- an index that no node has
 abbrev pub noNode : ℕ

@@ -3,6 +3,7 @@ ghost use mathlib.Core.Path.{_≡_};
 ghost use Prim.Native.Nat.{_+_, _<_, _≤_, _^_};
 ghost use lib.ListN.{length};
 ghost use lib.Seq.{sets};
+ghost use Rattle.base.specs.Limits.{withinLimits};
 ghost use Rattle.base.specs.Bytes.{byte, u16, u64, bytesOf};
 
 // ---- limits, each in one place; `specs/Limits.antt` has the same
@@ -21,10 +22,30 @@ pub const SLOT_LIMIT: usize = NODE_LIMIT * OPERAND_LIMIT;
 pub const OPERATION_LIMIT: usize = 4096;
 
 pub const WORD_LIMIT: usize = 8192;
+// Words of a value: a matrix has the most.
+pub const VALUE_LIMIT: usize = 16;
+// Bytes of one instruction, with the most operands and a matrix as its constant, and of all instructions of a function
+// that can be compiled.
+pub const INSTRUCTION_LIMIT: usize = 2 + 2 * OPERAND_LIMIT + 8 * VALUE_LIMIT;
+
+pub const CODE_LIMIT: usize = OPERATION_LIMIT * INSTRUCTION_LIMIT;
+// References of a table's nodes: they are densest in nodes with the most operands, 16 in 52 of less than 65,536 bytes.
+pub const REFERENCE_LIMIT: usize = 65536 * OPERAND_LIMIT / (4 + 3 * OPERAND_LIMIT) + 1;
 // Words of all inputs, and of all outputs.
-pub const PORT_WORD_LIMIT: usize = 128;
+pub const PORT_WORD_LIMIT: usize = PORT_LIMIT * VALUE_LIMIT;
 // No node: an index that no node has.
 pub const NO_NODE: u16 = 0xFFFF;
+
+// Whether a function with these sums can be compiled.
+pub fn within_limits(operations: usize, words: usize) -> bool
+    ensures { λ r. ⌜ r ≡ withinLimits operations words ⌝ }
+{
+    if operations <= OPERATION_LIMIT {
+        words <= WORD_LIMIT
+    } else {
+        false
+    }
+}
 
 // ---- wider numbers: a cast inside a larger expression asks for a proof that it fits, a call does not
 

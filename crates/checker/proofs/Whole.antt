@@ -46,7 +46,7 @@ pub nodes-count : (s : List ℕ) (f : ℕ) → length (functionAt s f .nodes) �
 unfolding functionAt
 nodes-count s f = length-nodes (nodeCount s f) s (nodesPlace s f)
 
-node-at : (n : ℕ) (s : List ℕ) (at i : ℕ) → i < n → getElem? (nodesAt n s at) i ≡ some (nodeAt s (nodePlace s at i))
+pub node-at : (n : ℕ) (s : List ℕ) (at i : ℕ) → i < n → getElem? (nodesAt n s at) i ≡ some (nodeAt s (nodePlace s at i))
 unfolding nodesAt nodePlace
 node-at zero s at i h = absurd (not-suc-le-zero h)
 node-at (suc n) s at zero h = refl

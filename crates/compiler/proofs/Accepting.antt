@@ -2,10 +2,12 @@
 use Prim.Native.Nat.{ℕ, zero, suc, _+_, _≤_, _<_}
 use mathlib.Core.Path.{_≡_, refl, sym, ap, subst}
 use mathlib.Core.List.{List, [], reverse}
-use mathlib.Core.Logic.{_⊎_, inl, inr, ⊎-elim}
+use mathlib.Core.Logic.{⊎-elim}
 use native.Mathlib.Omega.{arith}
 use lib.Dec.{leb}
 use borrow.Author.Tests.{leb-true}
+use Rattle.base.specs.Limits.{nodeLimit}
+use Rattle.base.proofs.Numbers.{lt-or-eq}
 use Rattle.base.specs.Lists.{Each}
 use Rattle.base.specs.Outcome.{ok, _>>_, Part}
 use Rattle.base.specs.Bytes.{byte}
@@ -21,8 +23,8 @@ use Rattle.reader.specs.Find.{ReadsNodes, ReadsFunction}
 use Rattle.reader.proofs.Passed.{function-holds}
 use Rattle.sums.specs.Position.{placeOf, functionIn, before, Fit}
 use Rattle.sums.proofs.Accepted.{at-places, function-fit}
-use Rattle.compiler.specs.Spotting.{Accepted}
-use Rattle.compiler.proofs.Spots.{Single, accepted-single}
+use Rattle.compiler.specs.Locating.{Accepted}
+use Rattle.compiler.proofs.Locations.{Single, accepted-single}
 
 module _ (s : List ℕ) (k : ℕ) (acc : Accepted s k) where
   parts : (gs : List Function) × (p : Part (List Function)) × (byte s 5 ≤ 16) × (functions (version1 .nodeLimit) (byte s 5) s 8 ≡ ok p)
@@ -53,12 +55,7 @@ module _ (s : List ℕ) (k : ℕ) (acc : Accepted s k) where
   sound-down : (n j : ℕ) → j ≤ n → AllSound (before s n) → AllSound (before s j)
   unfolding earlier
   sound-down zero j l h = let z : j ≡ 0 = omega arith in subst (λ (a : ℕ). AllSound (before s a)) (sym z) h
-  sound-down (suc n) j l h = ⊎-elim (λ a. sound-down n j a (h .1)) (λ e. subst (λ (a : ℕ). AllSound (before s a)) (sym e) h) (cmp j n l)
-    where
-      cmp : (j n : ℕ) → j ≤ suc n → (j ≤ n) ⊎ (j ≡ suc n)
-      cmp zero n l = inl (omega arith)
-      cmp (suc j) zero l = inr (omega arith)
-      cmp (suc j) (suc n) l = ⊎-elim (λ a. inl (omega arith)) (λ e. inr (omega arith)) (cmp j n (omega arith))
+  sound-down (suc n) j l h = ⊎-elim (λ a. sound-down n j (omega arith) (h .1)) (λ e. subst (λ (a : ℕ). AllSound (before s a)) (sym e) h) (lt-or-eq j (suc n) (omega arith))
 
   pub sound-to : (j : ℕ) → j ≤ k → AllSound (before s j)
   sound-to j l = let n = acc .most in sound-down (byte s 5) j (omega arith) (acc .sound)
@@ -66,17 +63,8 @@ module _ (s : List ℕ) (k : ℕ) (acc : Accepted s k) where
   single-down : (n j : ℕ) → j < n → Each (λ f. Single (f .nodes)) (before s n) → Single (functionIn s j .nodes)
   unfolding earlier
   single-down zero j l h = absurd (omega arith)
-  single-down (suc n) j l h = pickOne (cmp j n) (λ m. single-down n j m (h .1))
-    where
-      cmp : (j n : ℕ) → (j ≡ n) ⊎ (j ≡ n → ⊥)
-      cmp zero zero = inl refl
-      cmp zero (suc n) = inr (λ e. omega arith)
-      cmp (suc j) zero = inr (λ e. omega arith)
-      cmp (suc j) (suc n) = ⊎-elim (λ e. inl (ap suc e)) (λ d. inr (λ e. d (omega arith))) (cmp j n)
-
-      pickOne : (j ≡ n) ⊎ (j ≡ n → ⊥) → (j < n → Single (functionIn s j .nodes)) → Single (functionIn s j .nodes)
-      pickOne (inl e) ih = subst (λ (a : ℕ). Single (functionIn s a .nodes)) (sym e) (h .0)
-      pickOne (inr d) ih = ih (omega arith)
+  single-down (suc n) j l h =
+      ⊎-elim (λ m. single-down n j m (h .1)) (λ e. subst (λ (a : ℕ). Single (functionIn s a .nodes)) (sym e) (h .0)) (lt-or-eq j n l)
 
   pub single-at : (j : ℕ) → j < k → Single (functionIn s j .nodes)
   single-at j l = let n = acc .most in single-down (byte s 5) j (omega arith) (accepted-single s (acc .small) (before s (byte s 5)) (acc .read))

@@ -9,6 +9,10 @@ use lib.Dec.{eqb}
 use lib.ListN.{length}
 use lib.Seq.{sets}
 use borrow.Author.Tests.{eqb-true, le-leb, lt-leb}
+use Rattle.base.specs.Limits.{operationLimit, wordLimit}
+use Rattle.sums.proofs.Choosing.{chosen-one}
+use Rattle.sums.proofs.CodeLimits.{function-few}
+use Rattle.reader.proofs.Passed.{length-earlier}
 use Rattle.ports.specs.Kinds.{kindOf}
 use Rattle.ports.specs.Ports.{widths, constantWords, constantIn, formOf, portsOf}
 use Rattle.ports.specs.declared.Form.{Form}
@@ -33,7 +37,7 @@ use Rattle.lowering.specs.Answers.{compiled}
 use Rattle.sums.specs.CodeSums.{nodeBytes, functionBytes, bytesOfFunction}
 use Rattle.sums.specs.Position.{placeOf, functionIn, before, positionOf}
 use Rattle.sums.specs.Capped.{operationsAt, wordsAt, instructionsAt, bytesAt}
-use Rattle.compiler.specs.Spotting.{Accepted}
+use Rattle.compiler.specs.Locating.{Accepted}
 use Rattle.sums.specs.Answers.{typesBy}
 use Rattle.compiler.specs.Whole.{codeAt}
 use Rattle.sums.proofs.Rows.{narrow}
@@ -44,44 +48,9 @@ use Rattle.compiler.proofs.Accepting.{few, sound-to}
 
 -- ---- instructions and bytes are bounded by the operations
 
-sum-bound : (g h : Node → ℕ) → ((n : Node) → g n ≤ 162 * h n) → (ns : List Node) → sum g ns ≤ 162 * sum h ns
-sum-bound g h f [] = omega arith
-sum-bound g h f (n ∷ ns) = let a = f n in let b = sum-bound g h f ns in omega arith
-
-constant-narrow : (k : ℕ) → constantWords (kindOf k) ≤ 16
-constant-narrow k = byForm (formOf (kindOf k))
-  where
-    byForm : (f : Form) → constantIn f (portsOf (kindOf k) .words) ≤ 16
-    byForm Absent = omega arith
-    byForm Constant = narrow k .words
-    byForm References = omega arith
-    byForm Call = omega arith
-
-node-bytes-low : (callee ops : ℕ → ℕ) → ((c : ℕ) → callee c ≤ 162 * ops c) → (n : Node) (p : Payload) → nodeBytes callee n p ≤ 162 * nodeOperations ops p
-node-bytes-low callee ops h n (consts ws) = let a = narrow (n .kind) .operands in let b = constant-narrow (n .kind) in omega arith
-node-bytes-low callee ops h n (refs rs) = let a = narrow (n .kind) .operands in let b = constant-narrow (n .kind) in omega arith
-node-bytes-low callee ops h n (calls c rs) = let a = h c in omega arith
-
-function-bytes-low : (early : List Function) (f : Function) → ((d : ℕ) → bytesOfFunction early d ≤ 162 * operationsOf early d)
-    → functionBytes (bytesOfFunction early) f ≤ 162 * functionOperations (operationsOf early) f
-function-bytes-low early f h =
-    sum-bound (λ n. nodeBytes (bytesOfFunction early) n (n .payload)) (λ n. nodeOperations (operationsOf early) (n .payload))
-    (λ n. node-bytes-low (bytesOfFunction early) (operationsOf early) h n (n .payload)) (f .nodes)
-
-bytes-low : (early : List Function) (c : ℕ) → bytesOfFunction early c ≤ 162 * operationsOf early c
-unfolding bytesOfFunction operationsOf
-bytes-low [] c = omega arith
-bytes-low (f ∷ early) c = pickOne (eqb (f .id) c) (function-bytes-low early f (bytes-low early)) (bytes-low early c)
-  where
-    pickOne : (b : Bool) → functionBytes (bytesOfFunction early) f ≤ 162 * functionOperations (operationsOf early) f → bytesOfFunction early c ≤ 162 * operationsOf early c
-        → cond b (functionBytes (bytesOfFunction early) f) (bytesOfFunction early c) ≤ 162 * cond b (functionOperations (operationsOf early) f) (operationsOf early c)
-    pickOne true x y = x
-    pickOne false x y = y
-
--- of the function at a position
 pub bytes-at-low : (s : List ℕ) (k : ℕ) → bytesAt s k ≤ 162 * operationsAt s k
 unfolding bytesAt operationsAt
-bytes-at-low s k = function-bytes-low (before s k) (functionIn s k) (bytes-low (before s k))
+bytes-at-low s k = function-few (before s k) (functionIn s k)
 
 pub instructions-at-low : (s : List ℕ) (k : ℕ) → instructionsAt s k ≤ operationsAt s k
 unfolding instructionsAt operationsAt
@@ -96,15 +65,11 @@ module _ (s : List ℕ) (c : ℕ) where
   chosen-nil : (d : ℕ) → chosen d [] ≡ none
   chosen-nil d = refl
 
-  chosen-one : (m d : ℕ) → chosen d (before s (suc m)) ≡ cond (eqb (u16 s (placeOf s m)) d) (some (choice m)) (chosen d (before s m))
-  unfolding earlier functionAt
-  chosen-one m d = refl
-
   chosen-at : (n : ℕ) → n ≤ 16 → positionOf s n c < n → chosen c (before s n) ≡ some (choice (positionOf s n c))
-  chosen-at n b h = at-position s (λ fs d. chosen d fs) (λ m. some (choice m)) none chosen-nil chosen-one n c b h
+  chosen-at n b h = at-position s (λ fs d. chosen d fs) (λ m. some (choice m)) none chosen-nil (chosen-one s) n c b h
 
   chosen-none : (n : ℕ) → n ≤ positionOf s n c → chosen c (before s n) ≡ none
-  chosen-none n h = no-position s (λ fs d. chosen d fs) (λ m. some (choice m)) none chosen-nil chosen-one n c h
+  chosen-none n h = no-position s (λ fs d. chosen d fs) (λ m. some (choice m)) none chosen-nil (chosen-one s) n c h
 
 -- ---- the answers
 
@@ -127,28 +92,28 @@ module _ (s : List ℕ) (n c k : ℕ) (code : List ℕ) (acc : Accepted s n) (en
     unfolding operationsAt wordsAt
     sums = (refl, refl)
 
-    pub refuses-15 : 4096 < operationsAt s k → compiled s c code ≡ fault 15 0
+    pub refuses-15 : operationLimit < operationsAt s k → compiled s c code ≡ fault 15 0
     unfolding compiled _>>=_ _>>_ need
-    refuses-15 h = let e = sums .0 in rw (read, picked, lt-leb (functionOperations (operationsOf (before s k)) f) 4096 (omega arith)) refl
+    refuses-15 h = let e = sums .0 in rw (read, picked, lt-leb (functionOperations (operationsOf (before s k)) f) operationLimit (omega arith)) refl
 
-    module _ (h15 : operationsAt s k ≤ 4096) where
-      pub refuses-16 : 8192 < widths (f .inputs) + wordsAt s k → compiled s c code ≡ fault 16 0
+    module _ (h15 : operationsAt s k ≤ operationLimit) where
+      pub refuses-16 : wordLimit < widths (f .inputs) + wordsAt s k → compiled s c code ≡ fault 16 0
       unfolding compiled _>>=_ _>>_ need
       refuses-16 h =
           let (e, w) = sums in
-          rw (read, picked, le-leb (functionOperations (operationsOf (before s k)) f) 4096 (omega arith), lt-leb (functionWords (before s k) f) 8192 (omega arith)) refl
+          rw (read, picked, le-leb (functionOperations (operationsOf (before s k)) f) operationLimit (omega arith), lt-leb (functionWords (before s k) f) wordLimit (omega arith)) refl
 
       pub code-length : length (codeAt s k) ≡ 12 + bytesAt s k + 2 * widths (outputTypes (f .outputs))
       unfolding bytesAt earlier
       code-length = encode-length (before s k) f (sound-to s n acc (suc k) (omega arith))
 
-      module _ (h16 : widths (f .inputs) + wordsAt s k ≤ 8192) where
+      module _ (h16 : widths (f .inputs) + wordsAt s k ≤ wordLimit) where
         pub refuses-17 : length code < length (codeAt s k) → compiled s c code ≡ fault 17 0
         unfolding compiled _>>=_ _>>_ need
         refuses-17 h =
             let (e, w) = sums in
             rw
-            (read, picked, le-leb (functionOperations (operationsOf (before s k)) f) 4096 (omega arith), le-leb (functionWords (before s k) f) 8192 (omega arith), lt-leb (length (codeAt s k)) (length code) h)
+            (read, picked, le-leb (functionOperations (operationsOf (before s k)) f) operationLimit (omega arith), le-leb (functionWords (before s k) f) wordLimit (omega arith), lt-leb (length (codeAt s k)) (length code) h)
             refl
 
         pub answers : length (codeAt s k) ≤ length code → compiled s c code ≡ ok (record { size = length (codeAt s k); buffer = sets code 0 (codeAt s k) })
@@ -156,7 +121,7 @@ module _ (s : List ℕ) (n c k : ℕ) (code : List ℕ) (acc : Accepted s n) (en
         answers h =
             let (e, w) = sums in
             rw
-            (read, picked, le-leb (functionOperations (operationsOf (before s k)) f) 4096 (omega arith), le-leb (functionWords (before s k) f) 8192 (omega arith), le-leb (length (codeAt s k)) (length code) h)
+            (read, picked, le-leb (functionOperations (operationsOf (before s k)) f) operationLimit (omega arith), le-leb (functionWords (before s k) f) wordLimit (omega arith), le-leb (length (codeAt s k)) (length code) h)
             refl
 
 -- ---- counts as the code takes them
@@ -191,18 +156,13 @@ verdict-fault : (o : Outcome ℕ) (a b : ℕ) → verdictOf o ≡ Verdict.Refuse
 verdict-fault (ok m) a b e = let z : _≡_ {A = ℕ} 0 1 = cc in absurd (omega arith)
 verdict-fault (fault x y) a b e = cc
 
-length-before : (s : List ℕ) (k : ℕ) → length (before s k) ≡ k
-unfolding earlier
-length-before s zero = refl
-length-before s (suc k) = ap suc (length-before s k)
-
 -- an accepted table
 pub accepts : (s : List ℕ) → Bytes s → (n : ℕ) → verdictOf (verdict s) ≡ Verdict.Accepted n → Accepted s n × (n ≡ byte s 5)
 unfolding verdict table
 accepts s small n e =
     let (fs, et, en) = took (table s) (λ fs. ok (length fs)) n (verdict-ok (verdict s) n e) in
     let q : fs ≡ before s (byte s 5) = table-read s fs et in
-    let z : n ≡ byte s 5 = sym (ok-is en) ∙ ap length q ∙ length-before s (byte s 5) in
+    let z : n ≡ byte s 5 = sym (ok-is en) ∙ ap length q ∙ length-earlier 8 s (byte s 5) in
     let (gs, ep, e0) = took (parse version1 s) (λ fs. judgeAll [] fs >> ok (reverse fs)) fs et in
     let (t1, e1) = passed _ _ _ _ _ ep in
     let (t2, e2) = passed _ _ _ _ _ e1 in

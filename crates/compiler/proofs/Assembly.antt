@@ -6,6 +6,8 @@ use native.Mathlib.Omega.{arith}
 use lib.ListN.{length, getD, replicate, length-append}
 use lib.Seq.{sets, length-sets}
 use borrow.Author.Tests.{lt-ltb, le-ltb}
+use Rattle.base.specs.Limits.{wordLimit}
+use Rattle.base.proofs.Stands.{all-length}
 use Rattle.base.specs.Lists.{Each}
 use Rattle.ports.specs.Ports.{width, widths}
 use Rattle.graph.specs.Graph.{Function}
@@ -14,28 +16,28 @@ use Rattle.graph.specs.Sound.{AllSound}
 use Rattle.graph.specs.Sums.{resultWords, resultWordsOf}
 use Rattle.reader.specs.Layout.{outputCount, outputsPlace, functionAt, earlier}
 use Rattle.bytecode.specs.Run.{places, spans}
-use Rattle.lowering.specs.Compile.{Opened, openFunction, opened, boardListOf}
+use Rattle.lowering.specs.Compile.{Inlined, inlineFunction, inlined, boardListOf}
 use Rattle.base.specs.Bytes.{allBytes}
 use Rattle.bytecode.specs.Code.{headerCode, instructionsCode, encode}
 use Rattle.lowering.proofs.Limits.{words-of, output-words}
 use Rattle.compiler.specs.declared.Reached.{Reached}
-use Rattle.compiler.specs.Static.{Spot, nowhere, input, offset, spotAt, closed}
+use Rattle.compiler.specs.Static.{Location, nowhere, input, offset, addressAt, summary}
 use Rattle.sums.specs.Position.{placeOf, functionIn, before}
 use Rattle.sums.specs.Capped.{wordsAt}
-use Rattle.compiler.specs.Emit.{Stands, addressOf, addressesIn, functionOpened, Room, Emits, closedAt}
-use Rattle.compiler.specs.Spotting.{Accepted, PortsCoded}
+use Rattle.compiler.specs.Emit.{Stands, addressOf, addressesIn, functionInlined, Room, Emits, summaryAt}
+use Rattle.compiler.specs.Locating.{Accepted, PortsCoded}
 use Rattle.sums.specs.Answers.{typesBy}
 use Rattle.sums.proofs.Widths.{outputs-are}
 use Rattle.compiler.specs.Whole.{codeAt, Measured}
 use Rattle.base.proofs.Stores.{sets-append}
 use Rattle.compiler.proofs.Bounds.{Within, outputs-within}
-use Rattle.compiler.proofs.Spots.{opened-follows, function-ports}
+use Rattle.compiler.proofs.Locations.{inlined-follows, function-ports}
 use Rattle.compiler.proofs.Words.{function-words}
-use Rattle.compiler.proofs.Opening.{Same, function-same, padded}
+use Rattle.compiler.proofs.Inlining.{Same, function-same, padded}
 use Rattle.compiler.proofs.Emission.{stands-address}
-use Rattle.compiler.proofs.Coding.{closed-size}
+use Rattle.compiler.proofs.Coding.{summary-size}
 use Rattle.compiler.proofs.Accepting.{sound-to}
-use Rattle.compiler.proofs.Spreading.{each-wider, strong}
+use Rattle.compiler.proofs.Allocating.{each-wider, strong}
 
 -- ---- addresses
 
@@ -48,29 +50,29 @@ places-low w [] i = omega arith
 places-low w (t ∷ ts) zero = omega arith
 places-low w (t ∷ ts) (suc i) = let a = places-low (w + width t) ts i in omega arith
 
-spot-same : (xs ys : List ℕ) (next : ℕ) (x : Spot) → Same xs ys → spotAt ys next x ≡ spotAt xs next x
-spot-same xs ys next nowhere h = refl
-spot-same xs ys next (input i) h = sym (h i)
-spot-same xs ys next (offset d) h = refl
+location-same : (xs ys : List ℕ) (next : ℕ) (x : Location) → Same xs ys → addressAt ys next x ≡ addressAt xs next x
+location-same xs ys next nowhere h = refl
+location-same xs ys next (input i) h = sym (h i)
+location-same xs ys next (offset d) h = refl
 
-stood : (outs xs ys : List ℕ) (first b : ℕ) (os : List Spot) → first ≤ 8192 → Same xs ys → ((q : ℕ) → q < length os → Stands (getD outs (b + q) 0) (getD os q nowhere))
-    → addressesIn outs ys first b (length os) ≡ map (spotAt xs first) os
+stood : (outs xs ys : List ℕ) (first b : ℕ) (os : List Location) → first ≤ wordLimit → Same xs ys → ((q : ℕ) → q < length os → Stands (getD outs (b + q) 0) (getD os q nowhere))
+    → addressesIn outs ys first b (length os) ≡ map (addressAt xs first) os
 unfolding addressesIn
 stood outs xs ys first b [] l h g = refl
 stood outs xs ys first b (o ∷ os) l h g =
     let z : b + 0 ≡ b = omega arith in
-    let e : addressOf ys first (getD outs b 0) ≡ spotAt xs first o =
-    stands-address ys first (getD outs b 0) o l (subst (λ (q : ℕ). Stands (getD outs q 0) o) z (g 0 (omega arith))) ∙ spot-same xs ys first o h in
+    let e : addressOf ys first (getD outs b 0) ≡ addressAt xs first o =
+    stands-address ys first (getD outs b 0) o l (subst (λ (q : ℕ). Stands (getD outs q 0) o) z (g 0 (omega arith))) ∙ location-same xs ys first o h in
     ap (λ (a : ℕ). a ∷ addressesIn outs ys first (b + 1) (length os)) e
-    ∙ ap (λ (ys : List ℕ). spotAt xs first o ∷ ys)
+    ∙ ap (λ (ys : List ℕ). addressAt xs first o ∷ ys)
     (stood outs xs ys first (b + 1) os l h (λ q ql. let y : b + suc q ≡ b + 1 + q = omega arith in subst (λ (m : ℕ). Stands (getD outs m 0) (getD os q nowhere)) y (g (suc q) (omega arith))))
 
-stands-low : (ins : List ℕ) (first e : ℕ) (x : Spot) → first ≤ 8192 → ((i : ℕ) → getD ins i 0 ≤ 8192) → Stands e x → addressOf ins first e ≤ 16384
+stands-low : (ins : List ℕ) (first e : ℕ) (x : Location) → first ≤ wordLimit → ((i : ℕ) → getD ins i 0 ≤ wordLimit) → Stands e x → addressOf ins first e ≤ 2 * wordLimit
 stands-low ins first e nowhere l g h = absurd h
 stands-low ins first e (input i) l g (q, r) = rw (lt-ltb e 8 (omega arith)) (let z = g e in omega arith)
 stands-low ins first e (offset d) l g (q, r) = rw (le-ltb e 8 (omega arith)) (omega arith)
 
-each-at : (P : Spot → Type 0) (xs : List Spot) → Each P xs → (q : ℕ) → q < length xs → P (getD xs q nowhere)
+each-at : (P : Location → Type 0) (xs : List Location) → Each P xs → (q : ℕ) → q < length xs → P (getD xs q nowhere)
 each-at P [] h q l = absurd (omega arith)
 each-at P (x ∷ xs) (h, hs) zero l = h
 each-at P (x ∷ xs) (h, hs) (suc q) l = each-at P xs hs q (omega arith)
@@ -78,12 +80,12 @@ each-at P (x ∷ xs) (h, hs) (suc q) l = each-at P xs hs q (omega arith)
 -- ---- the whole
 
 module _ (s : List ℕ) (k : ℕ) (acc : Accepted s (suc k)) (count inputs outputs : ℕ) (ms : Measured s k count inputs outputs) (outs ins : List ℕ)
-    (ports : PortsCoded (closedAt s k .outputs) outs (8 * k)) (ei : ins ≡ sets (replicate 8 0) 0 (places 0 (functionIn s k .inputs))) where
+    (ports : PortsCoded (summaryAt s k .outputs) outs (8 * k)) (ei : ins ≡ sets (replicate 8 0) 0 (places 0 (functionIn s k .inputs))) where
   abbrev f : Function
   f = functionIn s k
 
-  abbrev list : Opened
-  list = openFunction (opened (before s k)) f (places 0 (f .inputs)) (widths (f .inputs))
+  abbrev list : Inlined
+  list = inlineFunction (inlined (before s k)) f (places 0 (f .inputs)) (widths (f .inputs))
 
   sound : AllSound (f ∷ before s k)
   unfolding earlier
@@ -95,11 +97,11 @@ module _ (s : List ℕ) (k : ℕ) (acc : Accepted s (suc k)) (count inputs outpu
       let e : length (places 0 (f .inputs)) ≡ length (f .inputs) = places-length 0 (f .inputs) in
       subst (Same (places 0 (f .inputs))) (sym ei) (padded 8 (places 0 (f .inputs)) (omega arith))
 
-  opened-is : functionOpened s k ins inputs ≡ list
-  unfolding functionOpened
-  opened-is =
-      ap (λ (w : ℕ). openFunction (opened (before s k)) f ins w) (ms .arguments)
-      ∙ sym (function-same (places 0 (f .inputs)) ins same (opened (before s k)) f (widths (f .inputs)))
+  inlined-is : functionInlined s k ins inputs ≡ list
+  unfolding functionInlined
+  inlined-is =
+      ap (λ (w : ℕ). inlineFunction (inlined (before s k)) f ins w) (ms .arguments)
+      ∙ sym (function-same (places 0 (f .inputs)) ins same (inlined (before s k)) f (widths (f .inputs)))
 
   words-are : boardListOf (before s k) f .words ≡ inputs + wordsAt s k
   unfolding wordsAt
@@ -113,45 +115,41 @@ module _ (s : List ℕ) (k : ℕ) (acc : Accepted s (suc k)) (count inputs outpu
       let o = allBytes 2 (spans (outputTypes (f .outputs)) (list .ports)) in
       let a : length (h ++ i ++ o) ≡ length h + length (i ++ o) = length-append h (i ++ o) in
       let b : length (i ++ o) ≡ length i + length o = length-append i o in
-      let d : length o ≡ 2 * length (spans (outputTypes (f .outputs)) (list .ports)) = bytes-length (spans (outputTypes (f .outputs)) (list .ports)) in
+      let d : length o ≡ 2 * length (spans (outputTypes (f .outputs)) (list .ports)) = all-length 2 (spans (outputTypes (f .outputs)) (list .ports)) in
       let e : length (spans (outputTypes (f .outputs)) (list .ports)) ≡ widths (outputTypes (f .outputs)) = output-words (before s k) f sound in
       let r = ms .results in
       omega arith
-    where
-      bytes-length : (xs : List ℕ) → length (allBytes 2 xs) ≡ 2 * length xs
-      bytes-length [] = refl
-      bytes-length (x ∷ xs) = let e : length (allBytes 2 xs) ≡ 2 * length xs = bytes-length xs in omega arith
 
-  pub emit-room : (code : List ℕ) → length (codeAt s k) ≤ length code → Room code 12 (functionOpened s k ins inputs)
+  pub emit-room : (code : List ℕ) → length (codeAt s k) ≤ length code → Room code 12 (functionInlined s k ins inputs)
   emit-room code l =
-      subst (λ (o : Opened). Room code 12 o) (sym opened-is)
+      subst (λ (o : Inlined). Room code 12 o) (sym inlined-is)
       (record { room = let a = size in omega arith; words = let a = words-are in let b = ms .words in omega arith })
 
   -- ---- the output words
 
-  stands : (q : ℕ) → q < length (closedAt s k .outputs) → Stands (getD outs (8 * k + q) 0) (getD (closedAt s k .outputs) q nowhere)
+  stands : (q : ℕ) → q < length (summaryAt s k .outputs) → Stands (getD outs (8 * k + q) 0) (getD (summaryAt s k .outputs) q nowhere)
   unfolding wordsAt
   stands q l =
-      let w : closedAt s k .words ≡ wordsAt s k = function-words (before s k) f sound in
+      let w : summaryAt s k .words ≡ wordsAt s k = function-words (before s k) f sound in
       let b = ms .words in
       let a = sound .0 .resolved .formed .inputs in
       let few = ports .few in
-      strong (length (f .inputs)) (getD outs (8 * k + q) 0) (getD (closedAt s k .outputs) q nowhere) a (ports .coded q (omega arith))
-      (each-at (Within (length (f .inputs)) 8192) (closedAt s k .outputs)
-      (each-wider (length (f .inputs)) 8192 (closedAt s k .words) (closedAt s k .outputs) (omega arith) (outputs-within (before s k) f sound)) q l)
+      strong (length (f .inputs)) (getD outs (8 * k + q) 0) (getD (summaryAt s k .outputs) q nowhere) a (ports .coded q (omega arith))
+      (each-at (Within (length (f .inputs)) 8192) (summaryAt s k .outputs)
+      (each-wider (length (f .inputs)) wordLimit (summaryAt s k .words) (summaryAt s k .outputs) (omega arith) (outputs-within (before s k) f sound)) q l)
 
-  ins-low : (i : ℕ) → getD ins i 0 ≤ 8192
+  ins-low : (i : ℕ) → getD ins i 0 ≤ wordLimit
   ins-low i =
       let a = places-low 0 (f .inputs) i in
       let b = ms .words in
       let e = ms .arguments in
-      subst (λ (x : ℕ). x ≤ 8192) (same i) (omega arith)
+      subst (λ (x : ℕ). x ≤ wordLimit) (same i) (omega arith)
 
-  pub outs-low : (j : ℕ) → j < outputCount s (placeOf s k) → addressOf ins inputs (getD outs (8 * k + j) 0) ≤ 16384
+  pub outs-low : (j : ℕ) → j < outputCount s (placeOf s k) → addressOf ins inputs (getD outs (8 * k + j) 0) ≤ 2 * wordLimit
   outs-low j l =
       let b = ms .words in
-      let e = closed-size s k in
-      stands-low ins inputs (getD outs (8 * k + j) 0) (getD (closedAt s k .outputs) j nowhere) (omega arith) ins-low (stands j (omega arith))
+      let e = summary-size s k in
+      stands-low ins inputs (getD outs (8 * k + j) 0) (getD (summaryAt s k .outputs) j nowhere) (omega arith) ins-low (stands j (omega arith))
 
   spans-are : spans (typesBy 4 (outputCount s (placeOf s k)) s (outputsPlace s (placeOf s k))) (addressesIn outs ins inputs (8 * k) (outputCount s (placeOf s k)))
       ≡ boardListOf (before s k) f .outputs
@@ -160,24 +158,24 @@ module _ (s : List ℕ) (k : ℕ) (acc : Accepted s (suc k)) (count inputs outpu
       let b = ms .words in
       let n = outputCount s (placeOf s k) in
       ap (λ (ts : List ℕ). spans ts (addressesIn outs ins inputs (8 * k) n)) (outputs-are n s (outputsPlace s (placeOf s k)))
-      ∙ ap (λ (m : ℕ). spans (outputTypes (f .outputs)) (addressesIn outs ins inputs (8 * k) m)) (sym (closed-size s k))
+      ∙ ap (λ (m : ℕ). spans (outputTypes (f .outputs)) (addressesIn outs ins inputs (8 * k) m)) (sym (summary-size s k))
       ∙ ap (spans (outputTypes (f .outputs)))
-      (stood outs (places 0 (f .inputs)) ins inputs (8 * k) (closedAt s k .outputs) (omega arith) same stands
-      ∙ ap (λ (w : ℕ). map (spotAt (places 0 (f .inputs)) w) (closedAt s k .outputs)) (ms .arguments)
-      ∙ sym (function-ports (opened (before s k)) (closed (before s k)) (opened-follows (before s k)) f (places 0 (f .inputs)) (widths (f .inputs))))
+      (stood outs (places 0 (f .inputs)) ins inputs (8 * k) (summaryAt s k .outputs) (omega arith) same stands
+      ∙ ap (λ (w : ℕ). map (addressAt (places 0 (f .inputs)) w) (summaryAt s k .outputs)) (ms .arguments)
+      ∙ sym (function-ports (inlined (before s k)) (summary (before s k)) (inlined-follows (before s k)) f (places 0 (f .inputs)) (widths (f .inputs))))
 
   pub out-words : widths (typesBy 4 (outputCount s (placeOf s k)) s (outputsPlace s (placeOf s k))) ≡ outputs
   unfolding functionAt
   out-words = ap widths (outputs-are (outputCount s (placeOf s k)) s (outputsPlace s (placeOf s k))) ∙ sym (ms .results)
 
   module _ (code code₁ code₂ code₃ : List ℕ) (r : Reached) (all : ℕ) (ea : all ≡ inputs + wordsAt s k)
-      (e₁ : code₁ ≡ sets code 0 (headerCode inputs outputs count all)) (e₂ : Emits code₁ code₂ 12 (functionOpened s k ins inputs) r) where
+      (e₁ : code₁ ≡ sets code 0 (headerCode inputs outputs count all)) (e₂ : Emits code₁ code₂ 12 (functionInlined s k ins inputs) r) where
     pub out-room : length (codeAt s k) ≤ length code → r .at + 2 * widths (typesBy 4 (outputCount s (placeOf s k)) s (outputsPlace s (placeOf s k))) ≤ length code₂
     out-room l =
         let a = size in
-        let b : r .at ≡ 12 + length (instructionsCode (list .code)) = e₂ .end ∙ ap (λ (o : Opened). 12 + length (instructionsCode (o .code))) opened-is in
+        let b : r .at ≡ 12 + length (instructionsCode (list .code)) = e₂ .end ∙ ap (λ (o : Inlined). 12 + length (instructionsCode (o .code))) inlined-is in
         let c : length code₂ ≡ length code =
-        ap length (e₂ .written) ∙ length-sets code₁ 12 (instructionsCode (functionOpened s k ins inputs .code)) ∙ ap length e₁ ∙ length-sets code 0 (headerCode inputs outputs count all) in
+        ap length (e₂ .written) ∙ length-sets code₁ 12 (instructionsCode (functionInlined s k ins inputs .code)) ∙ ap length e₁ ∙ length-sets code 0 (headerCode inputs outputs count all) in
         let w = out-words in
         omega arith
 
@@ -196,8 +194,8 @@ module _ (s : List ℕ) (k : ℕ) (acc : Accepted s (suc k)) (count inputs outpu
         ∙ ap (λ (x : ℕ). headerCode (b .arguments) (length (b .outputs)) x all) (ms .instructions)
         ∙ ap (headerCode (b .arguments) (length (b .outputs)) (length (b .instructions))) (ea ∙ sym words-are) in
         let ec : code₁ ≡ sets code 0 h = e₁ ∙ ap (sets code 0) eh in
-        let ed : code₂ ≡ sets code₁ 12 i = e₂ .written ∙ ap (λ (x : Opened). sets code₁ 12 (instructionsCode (x .code))) opened-is in
-        let et : r .at ≡ 12 + length i = e₂ .end ∙ ap (λ (x : Opened). 12 + length (instructionsCode (x .code))) opened-is in
+        let ed : code₂ ≡ sets code₁ 12 i = e₂ .written ∙ ap (λ (x : Inlined). sets code₁ 12 (instructionsCode (x .code))) inlined-is in
+        let et : r .at ≡ 12 + length i = e₂ .end ∙ ap (λ (x : Inlined). 12 + length (instructionsCode (x .code))) inlined-is in
         e₃
         ∙ ap (λ (ws : List ℕ). sets code₂ (r .at) (allBytes 2 ws)) spans-are
         ∙ ap (λ (m : ℕ). sets code₂ m o) et

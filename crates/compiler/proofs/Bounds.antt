@@ -1,4 +1,4 @@
--- The spots of a sound function: inputs that it has, and offsets within its words.
+-- The locations of a sound function: inputs that it has, and offsets within its words.
 use Prim.Native.Nat.{ℕ, zero, suc, _+_, _≤_, _<_}
 use mathlib.Core.Path.{_≡_, refl, ap, sym, subst}
 use mathlib.Core.Bool.{Bool, true, false, _||_, cond}
@@ -21,26 +21,26 @@ use Rattle.graph.proofs.Loops.{In}
 use Rattle.base.proofs.Bools.{and-inv, and-both, or-left, or-right}
 use Rattle.graph.proofs.Order.{ids, in-is, Ordered, scheduled, schedule-within, reads-in}
 use Rattle.bytecode.specs.Run.{places}
-use Rattle.compiler.specs.Static.{Spot, nowhere, input, offset, through, Spotted, spotsOf, spotOf, Callee, closedNode, Spread, spread, closedFunction, closed}
-use Rattle.compiler.proofs.Spots.{spotting}
+use Rattle.compiler.specs.Static.{Location, nowhere, input, offset, rebase, Located, locationsOf, locationOf, Callee, nodeSummary, Allocation, allocate, functionSummary, summary}
+use Rattle.compiler.proofs.Locations.{locating}
 
 -- ---- where a value of a type may stand
 
 -- at an input of its type, or with all its words among so many
-abbrev pub Lies : List ℕ → ℕ → ℕ → Spot → Type 0
+abbrev pub Lies : List ℕ → ℕ → ℕ → Location → Type 0
 Lies ins words t nowhere = ⊥
 Lies ins words t (input i) = getElem? ins i ≡ some t
 Lies ins words t (offset d) = d + width t ≤ words
 
 -- values of these types, in turn
-abbrev pub AllLie : List ℕ → ℕ → List ℕ → List Spot → Type 0
+abbrev pub AllLie : List ℕ → ℕ → List ℕ → List Location → Type 0
 AllLie ins words [] [] = Unit {0}
 AllLie ins words [] (s ∷ ss) = ⊥
 AllLie ins words (t ∷ ts) [] = ⊥
 AllLie ins words (t ∷ ts) (s ∷ ss) = Lies ins words t s × AllLie ins words ts ss
 
--- a spot with no type: an input that there is, or an offset of at most so many words
-abbrev pub Within : ℕ → ℕ → Spot → Type 0
+-- a location with no type: an input that there is, or an offset of at most so many words
+abbrev pub Within : ℕ → ℕ → Location → Type 0
 Within inputs words nowhere = ⊥
 Within inputs words (input i) = i < inputs
 Within inputs words (offset d) = d ≤ words
@@ -50,41 +50,41 @@ elem-below [] i t e = let z : _≡_ {A = ℕ} 0 1 = cc in absurd (omega arith)
 elem-below (x ∷ xs) zero t e = omega arith
 elem-below (x ∷ xs) (suc i) t e = let h = elem-below xs i t e in omega arith
 
--- a spot for a type is a spot
-pub lies-within : (ins : List ℕ) (words t : ℕ) (s : Spot) → Lies ins words t s → Within (length ins) words s
+-- a location for a type is a location
+pub lies-within : (ins : List ℕ) (words t : ℕ) (s : Location) → Lies ins words t s → Within (length ins) words s
 lies-within ins words t nowhere h = h
 lies-within ins words t (input i) h = elem-below ins i t h
 lies-within ins words t (offset d) h = omega arith
 
 -- the same of several
-pub all-within : (ins : List ℕ) (words : ℕ) (ts : List ℕ) (ss : List Spot) → AllLie ins words ts ss → Each (Within (length ins) words) ss
+pub all-within : (ins : List ℕ) (words : ℕ) (ts : List ℕ) (ss : List Location) → AllLie ins words ts ss → Each (Within (length ins) words) ss
 all-within ins words [] [] h = tt
 all-within ins words [] (s ∷ ss) h = absurd h
 all-within ins words (t ∷ ts) [] h = absurd h
 all-within ins words (t ∷ ts) (s ∷ ss) (a, h) = (lies-within ins words t s a, all-within ins words ts ss h)
 
 -- as many as the types
-pub lie-length : (ins : List ℕ) (words : ℕ) (ts : List ℕ) (ss : List Spot) → AllLie ins words ts ss → length ss ≡ length ts
+pub lie-length : (ins : List ℕ) (words : ℕ) (ts : List ℕ) (ss : List Location) → AllLie ins words ts ss → length ss ≡ length ts
 lie-length ins words [] [] h = refl
 lie-length ins words [] (s ∷ ss) h = absurd h
 lie-length ins words (t ∷ ts) [] h = absurd h
 lie-length ins words (t ∷ ts) (s ∷ ss) (a, h) = ap suc (lie-length ins words ts ss h)
 
 -- more words
-pub lies-more : (ins : List ℕ) (a b t : ℕ) (s : Spot) → a ≤ b → Lies ins a t s → Lies ins b t s
+pub lies-more : (ins : List ℕ) (a b t : ℕ) (s : Location) → a ≤ b → Lies ins a t s → Lies ins b t s
 lies-more ins a b t nowhere l h = h
 lies-more ins a b t (input i) l h = h
 lies-more ins a b t (offset d) l h = omega arith
 
 -- the same of several
-pub all-more : (ins : List ℕ) (a b : ℕ) (ts : List ℕ) (ss : List Spot) → a ≤ b → AllLie ins a ts ss → AllLie ins b ts ss
+pub all-more : (ins : List ℕ) (a b : ℕ) (ts : List ℕ) (ss : List Location) → a ≤ b → AllLie ins a ts ss → AllLie ins b ts ss
 all-more ins a b [] [] l h = tt
 all-more ins a b [] (s ∷ ss) l h = absurd h
 all-more ins a b (t ∷ ts) [] l h = absurd h
 all-more ins a b (t ∷ ts) (s ∷ ss) l (x, h) = (lies-more ins a b t s l x, all-more ins a b ts ss l h)
 
--- the spot at a port
-pub port-lies : (ins : List ℕ) (words : ℕ) (ts : List ℕ) (ss : List Spot) (p w : ℕ) → AllLie ins words ts ss → getElem? ts p ≡ some w
+-- the location at a port
+pub port-lies : (ins : List ℕ) (words : ℕ) (ts : List ℕ) (ss : List Location) (p w : ℕ) → AllLie ins words ts ss → getElem? ts p ≡ some w
     → Lies ins words w (getD ss p nowhere)
 port-lies ins words [] ss p w h e = let z : _≡_ {A = ℕ} 0 1 = cc in absurd (omega arith)
 port-lies ins words (t ∷ ts) [] p w h e = absurd h
@@ -96,121 +96,121 @@ pub places-lie : (ins : List ℕ) (d words : ℕ) (ts : List ℕ) → d + widths
 places-lie ins d words [] l = tt
 places-lie ins d words (t ∷ ts) l = (omega arith, places-lie ins (d + width t) words ts (omega arith))
 
--- a callee's spot through a call
-pub through-lies : (ins : List ℕ) (d : ℕ) (wants : List ℕ) (args : List Spot) → AllLie ins d wants args → (words t : ℕ) (s : Spot) → Lies wants words t s
-    → Lies ins (d + words) t (through d args s)
-through-lies ins d wants args h words t nowhere x = x
-through-lies ins d wants args h words t (input i) x =
+-- a callee's location rebase a call
+pub rebase-lies : (ins : List ℕ) (d : ℕ) (wants : List ℕ) (args : List Location) → AllLie ins d wants args → (words t : ℕ) (s : Location) → Lies wants words t s
+    → Lies ins (d + words) t (rebase d args s)
+rebase-lies ins d wants args h words t nowhere x = x
+rebase-lies ins d wants args h words t (input i) x =
     lies-more ins d (d + words) t (getD args i nowhere) (omega arith) (port-lies ins d wants args i t h x)
-through-lies ins d wants args h words t (offset e) x = omega arith
+rebase-lies ins d wants args h words t (offset e) x = omega arith
 
--- the same of all a callee's spots
-pub all-through : (ins : List ℕ) (d : ℕ) (wants : List ℕ) (args : List Spot) → AllLie ins d wants args → (words : ℕ) (ts : List ℕ) (ss : List Spot) → AllLie wants words ts ss
-    → AllLie ins (d + words) ts (map (through d args) ss)
-all-through ins d wants args h words [] [] x = tt
-all-through ins d wants args h words [] (s ∷ ss) x = absurd x
-all-through ins d wants args h words (t ∷ ts) [] x = absurd x
-all-through ins d wants args h words (t ∷ ts) (s ∷ ss) (y, x) = (through-lies ins d wants args h words t s y, all-through ins d wants args h words ts ss x)
+-- the same of all a callee's locations
+pub all-rebase : (ins : List ℕ) (d : ℕ) (wants : List ℕ) (args : List Location) → AllLie ins d wants args → (words : ℕ) (ts : List ℕ) (ss : List Location) → AllLie wants words ts ss
+    → AllLie ins (d + words) ts (map (rebase d args) ss)
+all-rebase ins d wants args h words [] [] x = tt
+all-rebase ins d wants args h words [] (s ∷ ss) x = absurd x
+all-rebase ins d wants args h words (t ∷ ts) [] x = absurd x
+all-rebase ins d wants args h words (t ∷ ts) (s ∷ ss) (y, x) = (rebase-lies ins d wants args h words t s y, all-rebase ins d wants args h words ts ss x)
 
 -- ---- inside one function
 
--- every function has its outputs' spots among its words and its inputs
+-- every function has its outputs' locations among its words and its inputs
 abbrev pub Seated : Callee → List Function → Type 0
 Seated call early = (c : ℕ) (g : Function) → findFunction c early ≡ some g → AllLie (g .inputs) (call c .words) (outputTypes (g .outputs)) (call c .outputs)
 
-abbrev pub spottedIds : List Spotted → List ℕ
-spottedIds = map (λ w. w .id)
+abbrev pub locatedIds : List Located → List ℕ
+locatedIds = map (λ w. w .id)
 
 module _ (early : List Function) (f : Function) where
-  -- every node that has its spots has them among so many words and the inputs
-  abbrev pub Known : ℕ → List Spotted → Type 0
+  -- every node that has its locations has them among so many words and the inputs
+  abbrev pub Known : ℕ → List Located → Type 0
   Known words [] = Unit {0}
-  Known words (w ∷ ws) = AllLie (f .inputs) words (givesAt early (findNode (w .id) (f .nodes))) (w .spots) × Known words ws
+  Known words (w ∷ ws) = AllLie (f .inputs) words (givesAt early (findNode (w .id) (f .nodes))) (w .locations) × Known words ws
 
   -- more words
-  pub known-more : (a b : ℕ) (ws : List Spotted) → a ≤ b → Known a ws → Known b ws
+  pub known-more : (a b : ℕ) (ws : List Located) → a ≤ b → Known a ws → Known b ws
   known-more a b [] l h = tt
-  known-more a b (w ∷ ws) l (x, h) = (all-more (f .inputs) a b (givesAt early (findNode (w .id) (f .nodes))) (w .spots) l x, known-more a b ws l h)
+  known-more a b (w ∷ ws) l (x, h) = (all-more (f .inputs) a b (givesAt early (findNode (w .id) (f .nodes))) (w .locations) l x, known-more a b ws l h)
 
-  -- the spots of an id
-  pub known-at : (words : ℕ) (ws : List Spotted) (i : ℕ) → Known words ws → member i (spottedIds ws) ≡ true
-      → AllLie (f .inputs) words (givesAt early (findNode i (f .nodes))) (spotsOf i ws)
+  -- the locations of an id
+  pub known-at : (words : ℕ) (ws : List Located) (i : ℕ) → Known words ws → member i (locatedIds ws) ≡ true
+      → AllLie (f .inputs) words (givesAt early (findNode i (f .nodes))) (locationsOf i ws)
   known-at words [] i h e = let z : _≡_ {A = ℕ} 0 1 = cc in absurd (omega arith)
   known-at words (w ∷ ws) i (x, h) e = pickOne (eqb (w .id) i) refl (λ g. known-at words ws i h g) e
     where
       pickOne : (b : Bool) → eqb (w .id) i ≡ b
-          → (member i (spottedIds ws) ≡ true → AllLie (f .inputs) words (givesAt early (findNode i (f .nodes))) (spotsOf i ws))
-          → cond b true (member i (spottedIds ws)) ≡ true → AllLie (f .inputs) words (givesAt early (findNode i (f .nodes))) (cond b (w .spots) (spotsOf i ws))
-      pickOne true q ih g = subst (λ (j : ℕ). AllLie (f .inputs) words (givesAt early (findNode j (f .nodes))) (w .spots)) (eqb-true (w .id) i q) x
+          → (member i (locatedIds ws) ≡ true → AllLie (f .inputs) words (givesAt early (findNode i (f .nodes))) (locationsOf i ws))
+          → cond b true (member i (locatedIds ws)) ≡ true → AllLie (f .inputs) words (givesAt early (findNode i (f .nodes))) (cond b (w .locations) (locationsOf i ws))
+      pickOne true q ih g = subst (λ (j : ℕ). AllLie (f .inputs) words (givesAt early (findNode j (f .nodes))) (w .locations)) (eqb-true (w .id) i q) x
       pickOne false q ih g = ih g
 
-  -- the spot of a reference
-  pub ref-lies : (words : ℕ) (ws : List Spotted) → Known words ws → (r : Ref) (w : ℕ) → eqb (r .node) 0 || member (r .node) (spottedIds ws) ≡ true
-      → refType early f r ≡ some w → Lies (f .inputs) words w (spotOf ws r)
+  -- the location of a reference
+  pub ref-lies : (words : ℕ) (ws : List Located) → Known words ws → (r : Ref) (w : ℕ) → eqb (r .node) 0 || member (r .node) (locatedIds ws) ≡ true
+      → refType early f r ≡ some w → Lies (f .inputs) words w (locationOf ws r)
   ref-lies words ws known r w e t = pickOne (eqb (r .node) 0) e t
     where
-      pickOne : (b : Bool) → b || member (r .node) (spottedIds ws) ≡ true
+      pickOne : (b : Bool) → b || member (r .node) (locatedIds ws) ≡ true
           → getElem? (cond b (f .inputs) (givesAt early (findNode (r .node) (f .nodes)))) (r .port) ≡ some w
-          → Lies (f .inputs) words w (cond b (input (r .port)) (getD (spotsOf (r .node) ws) (r .port) nowhere))
+          → Lies (f .inputs) words w (cond b (input (r .port)) (getD (locationsOf (r .node) ws) (r .port) nowhere))
       pickOne true e t = t
       pickOne false e t =
-          port-lies (f .inputs) words (givesAt early (findNode (r .node) (f .nodes))) (spotsOf (r .node) ws) (r .port) w (known-at words ws (r .node) known e) t
+          port-lies (f .inputs) words (givesAt early (findNode (r .node) (f .nodes))) (locationsOf (r .node) ws) (r .port) w (known-at words ws (r .node) known e) t
 
-  -- the spots of references of the types wanted
-  pub refs-lie : (words : ℕ) (ws : List Spotted) → Known words ws → (ts : List ℕ) (rs : List Ref) → ready (spottedIds ws) rs ≡ true → Wired (refType early f) ts rs
-      → AllLie (f .inputs) words ts (map (spotOf ws) rs)
+  -- the locations of references of the types wanted
+  pub refs-lie : (words : ℕ) (ws : List Located) → Known words ws → (ts : List ℕ) (rs : List Ref) → ready (locatedIds ws) rs ≡ true → Wired (refType early f) ts rs
+      → AllLie (f .inputs) words ts (map (locationOf ws) rs)
   refs-lie words ws known [] [] e w = tt
   refs-lie words ws known [] (r ∷ rs) e w = absurd w
   refs-lie words ws known (t ∷ ts) [] e w = absurd w
   refs-lie words ws known (t ∷ ts) (r ∷ rs) e (x, w) =
-      let (a, b) = and-inv (eqb (r .node) 0 || member (r .node) (spottedIds ws)) (ready (spottedIds ws) rs) e in
+      let (a, b) = and-inv (eqb (r .node) 0 || member (r .node) (locatedIds ws)) (ready (locatedIds ws) rs) e in
       (ref-lies words ws known r t a x, refs-lie words ws known ts rs b w)
 
   module _ (sound : Sound early f) (call : Callee) (seated : Seated call early) where
-    payload-lies : (ws : List Spotted) (d : ℕ) → Known d ws → (n : Node) (p : Payload) → Shaped early n p → Wired (refType early f) (wantsOf early n p) (readsOf p)
-        → ready (spottedIds ws) (readsOf p) ≡ true
-        → AllLie (f .inputs) (d + closedNode call ws d n p .words) (givesOf early n p) (closedNode call ws d n p .outputs)
+    payload-lies : (ws : List Located) (d : ℕ) → Known d ws → (n : Node) (p : Payload) → Shaped early n p → Wired (refType early f) (wantsOf early n p) (readsOf p)
+        → ready (locatedIds ws) (readsOf p) ≡ true
+        → AllLie (f .inputs) (d + nodeSummary call ws d n p .words) (givesOf early n p) (nodeSummary call ws d n p .outputs)
     payload-lies ws d known n (consts cs) shape wired e = let out = gives (kindOf (n .kind)) (n .type) in places-lie (f .inputs) d (d + widths out) out (omega arith)
     payload-lies ws d known n (refs rs) shape wired e = let out = gives (kindOf (n .kind)) (n .type) in places-lie (f .inputs) d (d + widths out) out (omega arith)
     payload-lies ws d known n (calls c rs) (g, found) wired e =
         let wired′ : Wired (refType early f) (g .inputs) rs = rw found at wired in
         rw found
-        (all-through (f .inputs) d (g .inputs) (map (spotOf ws) rs) (refs-lie d ws known (g .inputs) rs e wired′) (call c .words) (outputTypes (g .outputs))
+        (all-rebase (f .inputs) d (g .inputs) (map (locationOf ws) rs) (refs-lie d ws known (g .inputs) rs e wired′) (call c .words) (outputTypes (g .outputs))
         (call c .outputs) (seated c g found))
 
-    -- a node at its turn: its ports' spots
-    pub node-lies : (ws : List Spotted) (d : ℕ) → Known d ws → (n : Node) → Is n (f .nodes) → ready (spottedIds ws) (reads n) ≡ true
-        → AllLie (f .inputs) (d + closedNode call ws d n (n .payload) .words) (givesOf early n (n .payload)) (closedNode call ws d n (n .payload) .outputs)
+    -- a node at its turn: its ports' locations
+    pub node-lies : (ws : List Located) (d : ℕ) → Known d ws → (n : Node) → Is n (f .nodes) → ready (locatedIds ws) (reads n) ≡ true
+        → AllLie (f .inputs) (d + nodeSummary call ws d n (n .payload) .words) (givesOf early n (n .payload)) (nodeSummary call ws d n (n .payload) .outputs)
     node-lies ws d known n i e = payload-lies ws d known n (n .payload) (sound .resolved .shaped n i) (sound .resolved .wired n i) e
 
-    -- a node at its turn: the spots of what it reads
-    pub turn-lies : (ws : List Spotted) (d : ℕ) → Known d ws → (n : Node) → Is n (f .nodes) → ready (spottedIds ws) (reads n) ≡ true
-        → AllLie (f .inputs) d (wantsOf early n (n .payload)) (map (spotOf ws) (reads n))
+    -- a node at its turn: the locations of what it reads
+    pub turn-lies : (ws : List Located) (d : ℕ) → Known d ws → (n : Node) → Is n (f .nodes) → ready (locatedIds ws) (reads n) ≡ true
+        → AllLie (f .inputs) d (wantsOf early n (n .payload)) (map (locationOf ws) (reads n))
     turn-lies ws d known n i e = refs-lie d ws known (wantsOf early n (n .payload)) (reads n) e (sound .resolved .wired n i)
 
     -- a node more
-    pub known-step : (ws : List Spotted) (d : ℕ) → Known d ws → (n : Node) → Is n (f .nodes) → ready (spottedIds ws) (reads n) ≡ true
-        → Known (d + closedNode call ws d n (n .payload) .words) (spotting n (closedNode call ws d n (n .payload)) ws)
+    pub known-step : (ws : List Located) (d : ℕ) → Known d ws → (n : Node) → Is n (f .nodes) → ready (locatedIds ws) (reads n) ≡ true
+        → Known (d + nodeSummary call ws d n (n .payload) .words) (locating n (nodeSummary call ws d n (n .payload)) ws)
     known-step ws d known n i e =
-        let c = closedNode call ws d n (n .payload) in
+        let c = nodeSummary call ws d n (n .payload) in
         (rw (sound .resolved .own n i) (node-lies ws d known n i e), known-more d (d + c .words) ws (omega arith) known)
 
     -- what holds behind nodes in their order
-    pub record Ended (ns : List Node) (ws : List Spotted) (d : ℕ) (b : Spread) : Type 0 where
+    pub record Ended (ns : List Node) (ws : List Located) (d : ℕ) (b : Allocation) : Type 0 where
       pub up : d ≤ b .words
-      pub old : (i : ℕ) → member i (spottedIds ws) ≡ true → member i (spottedIds (b .spotted)) ≡ true
-      pub has : (n : Node) → Is n ns → member (n .id) (spottedIds (b .spotted)) ≡ true
-      pub known : Known (b .words) (b .spotted)
+      pub old : (i : ℕ) → member i (locatedIds ws) ≡ true → member i (locatedIds (b .located)) ≡ true
+      pub has : (n : Node) → Is n ns → member (n .id) (locatedIds (b .located)) ≡ true
+      pub known : Known (b .words) (b .located)
 
     -- all nodes in their order
-    pub nodes-end : (ns : List Node) (ws : List Spotted) (d : ℕ) → ((n : Node) → Is n ns → Is n (f .nodes)) → Ordered (spottedIds ws) ns → Known d ws
-        → Ended ns ws d (spread call ns ws d)
+    pub nodes-end : (ns : List Node) (ws : List Located) (d : ℕ) → ((n : Node) → Is n ns → Is n (f .nodes)) → Ordered (locatedIds ws) ns → Known d ws
+        → Ended ns ws d (allocate call ns ws d)
     nodes-end [] ws d within ordered known = record { up = omega arith; old = λ i h. h; has = λ n h. absurd h; known = known }
     nodes-end (n ∷ ns) ws d within (fit, ordered) known =
-        let c = closedNode call ws d n (n .payload) in
-        let h = nodes-end ns (spotting n c ws) (d + c .words) (λ x i. within x (inr i)) ordered (known-step ws d known n (within n (inl refl)) fit) in
+        let c = nodeSummary call ws d n (n .payload) in
+        let h = nodes-end ns (locating n c ws) (d + c .words) (λ x i. within x (inr i)) ordered (known-step ws d known n (within n (inl refl)) fit) in
         record {
-          up = let u : d + c .words ≤ spread call ns (spotting n c ws) (d + c .words) .words = h .up in omega arith;
+          up = let u : d + c .words ≤ allocate call ns (locating n c ws) (d + c .words) .words = h .up in omega arith;
           old = λ i e. h .old i (either (eqb (n .id) i) _ e);
           has = λ x i. ⊎-elim (λ e. h .old (x .id) (here x e)) (λ j. h .has x j) i;
           known = h .known;
@@ -220,84 +220,84 @@ module _ (early : List Function) (f : Function) where
         either true q e = refl
         either false q e = e
 
-        here : (x : Node) → x ≡ n → member (x .id) (n .id ∷ spottedIds ws) ≡ true
+        here : (x : Node) → x ≡ n → member (x .id) (n .id ∷ locatedIds ws) ≡ true
         here x e = rw (eq-eqb (n .id) (x .id) (ap (λ (y : Node). y .id) (sym e))) refl
 
-    -- the schedule's nodes, all spread
-    abbrev pub whole : Spread
-    whole = spread call (schedule (f .nodes)) [] 0
+    -- the schedule's nodes, all allocate
+    abbrev pub whole : Allocation
+    whole = allocate call (schedule (f .nodes)) [] 0
 
     -- behind all nodes of the schedule
     pub whole-end : Ended (schedule (f .nodes)) [] 0 whole
     whole-end = nodes-end (schedule (f .nodes)) [] 0 (λ n i. schedule-within (f .nodes) n i) (scheduled early f sound .ordered) tt
 
-    all-ready : (ts : List ℕ) (rs : List Ref) → Wired (refType early f) ts rs → ready (spottedIds (whole .spotted)) rs ≡ true
+    all-ready : (ts : List ℕ) (rs : List Ref) → Wired (refType early f) ts rs → ready (locatedIds (whole .located)) rs ≡ true
     all-ready ts [] w = refl
     all-ready [] (r ∷ rs) w = absurd w
     all-ready (t ∷ ts) (r ∷ rs) (x, w) =
-        and-both (eqb (r .node) 0 || member (r .node) (spottedIds (whole .spotted))) (ready (spottedIds (whole .spotted)) rs)
+        and-both (eqb (r .node) 0 || member (r .node) (locatedIds (whole .located))) (ready (locatedIds (whole .located)) rs)
         (⊎-elim (λ e. or-left _ _ (eq-eqb (r .node) 0 e)) (λ i. or-right (eqb (r .node) 0) _ (present (r .node) i)) (reads-in early f r t x))
         (all-ready ts rs w)
       where
-        present : (j : ℕ) → In j (ids (f .nodes)) → member j (spottedIds (whole .spotted)) ≡ true
+        present : (j : ℕ) → In j (ids (f .nodes)) → member j (locatedIds (whole .located)) ≡ true
         present j h =
             let (n, is, e) = in-is j (f .nodes) h in
             rw e (whole-end .has n (scheduled early f sound .has n is))
 
-    -- the spots of references that have the types wanted
+    -- the locations of references that have the types wanted
     pub wired-lie : (ts : List ℕ) (rs : List Ref) → Wired (refType early f) ts rs
-        → AllLie (f .inputs) (closedFunction call f .words) ts (map (spotOf (whole .spotted)) rs)
-    wired-lie ts rs w = refs-lie (whole .words) (whole .spotted) (whole-end .known) ts rs (all-ready ts rs w) w
+        → AllLie (f .inputs) (functionSummary call f .words) ts (map (locationOf (whole .located)) rs)
+    wired-lie ts rs w = refs-lie (whole .words) (whole .located) (whole-end .known) ts rs (all-ready ts rs w) w
 
 -- ---- the functions
 
--- every function's outputs have spots among its words and its inputs
-pub seated : (early : List Function) → AllSound early → Seated (closed early) early
-unfolding closed
+-- every function's outputs have locations among its words and its inputs
+pub seated : (early : List Function) → AllSound early → Seated (summary early) early
+unfolding summary
 seated [] sound c g e = let z : _≡_ {A = ℕ} 0 1 = cc in absurd (omega arith)
 seated (f ∷ early) (s, sound) c g e = pickOne (eqb (f .id) c) e (seated early sound)
   where
-    pickOne : (b : Bool) → cond b (some f) (findFunction c early) ≡ some g → Seated (closed early) early
-        → AllLie (g .inputs) (cond b (closedFunction (closed early) f) (closed early c) .words) (outputTypes (g .outputs))
-        (cond b (closedFunction (closed early) f) (closed early c) .outputs)
+    pickOne : (b : Bool) → cond b (some f) (findFunction c early) ≡ some g → Seated (summary early) early
+        → AllLie (g .inputs) (cond b (functionSummary (summary early) f) (summary early c) .words) (outputTypes (g .outputs))
+        (cond b (functionSummary (summary early) f) (summary early c) .outputs)
     pickOne true e ih =
         let q : f ≡ g = cc in
-        subst (λ (x : Function). AllLie (x .inputs) (closedFunction (closed early) f .words) (outputTypes (x .outputs)) (closedFunction (closed early) f .outputs)) q
-        (wired-lie early f s (closed early) ih (outputTypes (f .outputs)) (outputRefs (f .outputs)) (s .resolved .answers))
+        subst (λ (x : Function). AllLie (x .inputs) (functionSummary (summary early) f .words) (outputTypes (x .outputs)) (functionSummary (summary early) f .outputs)) q
+        (wired-lie early f s (summary early) ih (outputTypes (f .outputs)) (outputRefs (f .outputs)) (s .resolved .answers))
     pickOne false e ih = ih c g e
 
--- the spots of a function's outputs
+-- the locations of a function's outputs
 pub outputs-lie : (early : List Function) (f : Function) → AllSound (f ∷ early)
-    → AllLie (f .inputs) (closedFunction (closed early) f .words) (outputTypes (f .outputs)) (closedFunction (closed early) f .outputs)
+    → AllLie (f .inputs) (functionSummary (summary early) f .words) (outputTypes (f .outputs)) (functionSummary (summary early) f .outputs)
 outputs-lie early f (s, sound) =
-    wired-lie early f s (closed early) (seated early sound) (outputTypes (f .outputs)) (outputRefs (f .outputs)) (s .resolved .answers)
+    wired-lie early f s (summary early) (seated early sound) (outputTypes (f .outputs)) (outputRefs (f .outputs)) (s .resolved .answers)
 
--- the spots of what a node reads, in the last list
+-- the locations of what a node reads, in the last list
 pub reads-lie : (early : List Function) (f : Function) → AllSound (f ∷ early) → (n : Node) → Is n (f .nodes)
-    → AllLie (f .inputs) (closedFunction (closed early) f .words) (wantsOf early n (n .payload))
-    (map (spotOf (spread (closed early) (schedule (f .nodes)) [] 0 .spotted)) (reads n))
+    → AllLie (f .inputs) (functionSummary (summary early) f .words) (wantsOf early n (n .payload))
+    (map (locationOf (allocate (summary early) (schedule (f .nodes)) [] 0 .located)) (reads n))
 reads-lie early f (s, sound) n i =
-    wired-lie early f s (closed early) (seated early sound) (wantsOf early n (n .payload)) (reads n) (s .resolved .wired n i)
+    wired-lie early f s (summary early) (seated early sound) (wantsOf early n (n .payload)) (reads n) (s .resolved .wired n i)
 
 -- ---- the same with no types
 
--- the spots of a function's outputs are none nowhere, inputs that it has, and offsets of at most its words
+-- the locations of a function's outputs are none nowhere, inputs that it has, and offsets of at most its words
 pub outputs-within : (early : List Function) (f : Function) → AllSound (f ∷ early)
-    → Each (Within (length (f .inputs)) (closedFunction (closed early) f .words)) (closedFunction (closed early) f .outputs)
+    → Each (Within (length (f .inputs)) (functionSummary (summary early) f .words)) (functionSummary (summary early) f .outputs)
 outputs-within early f sound = all-within (f .inputs) _ (outputTypes (f .outputs)) _ (outputs-lie early f sound)
 
 -- the same of the function of an id
-pub closed-within : (early : List Function) → AllSound early → (c : ℕ) (g : Function) → findFunction c early ≡ some g
-    → Each (Within (length (g .inputs)) (closed early c .words)) (closed early c .outputs)
-closed-within early sound c g e = all-within (g .inputs) _ (outputTypes (g .outputs)) _ (seated early sound c g e)
+pub summary-within : (early : List Function) → AllSound early → (c : ℕ) (g : Function) → findFunction c early ≡ some g
+    → Each (Within (length (g .inputs)) (summary early c .words)) (summary early c .outputs)
+summary-within early sound c g e = all-within (g .inputs) _ (outputTypes (g .outputs)) _ (seated early sound c g e)
 
 -- the same of what a node reads
 pub reads-within : (early : List Function) (f : Function) → AllSound (f ∷ early) → (n : Node) → Is n (f .nodes)
-    → Each (Within (length (f .inputs)) (closedFunction (closed early) f .words)) (map (spotOf (spread (closed early) (schedule (f .nodes)) [] 0 .spotted)) (reads n))
+    → Each (Within (length (f .inputs)) (functionSummary (summary early) f .words)) (map (locationOf (allocate (summary early) (schedule (f .nodes)) [] 0 .located)) (reads n))
 reads-within early f sound n i = all-within (f .inputs) _ (wantsOf early n (n .payload)) _ (reads-lie early f sound n i)
 
 -- the same of every list on the way
-pub known-within : (early : List Function) (f : Function) (words : ℕ) (ws : List Spotted) → Known early f words ws → Each (λ w. Each (Within (length (f .inputs)) words) (w .spots)) ws
+pub known-within : (early : List Function) (f : Function) (words : ℕ) (ws : List Located) → Known early f words ws → Each (λ w. Each (Within (length (f .inputs)) words) (w .locations)) ws
 known-within early f words [] h = tt
 known-within early f words (w ∷ ws) (x, h) =
-    (all-within (f .inputs) words (givesAt early (findNode (w .id) (f .nodes))) (w .spots) x, known-within early f words ws h)
+    (all-within (f .inputs) words (givesAt early (findNode (w .id) (f .nodes))) (w .locations) x, known-within early f words ws h)

@@ -5,6 +5,7 @@ use mathlib.Core.List.{List, [], _∷_, _++_, append-assoc}
 use native.Mathlib.Omega.{arith}
 use lib.ListN.{length, getD, set}
 use lib.Seq.{sets, length-sets}
+use Rattle.base.proofs.Numbers.{one-less}
 use Rattle.ports.specs.Ports.{width, widths}
 use Rattle.base.specs.Lists.{span}
 use Rattle.base.specs.Bytes.{byte, bytesOf, allBytes}
@@ -15,9 +16,6 @@ use Rattle.sums.specs.Answers.{typesBy}
 use Rattle.base.proofs.Stores.{sets-append}
 
 -- ---- type bytes
-
-one-less : (n j : ℕ) → j < n → n - j ≡ suc (n - (j + 1))
-one-less n j h = omega arith
 
 pub types-next : (step n j : ℕ) (s : List ℕ) (q : ℕ) → j < n → typesBy step (n - j) s q ≡ byte s q ∷ typesBy step (n - (j + 1)) s (q + step)
 types-next step n j s q h = ap (λ (m : ℕ). typesBy step m s q) (one-less n j h)

@@ -9,6 +9,8 @@ use native.Mathlib.Nat.{add-zero}
 use lib.Dec.{eqb}
 use lib.ListN.{length, getD, set, getElem?, length-set}
 use lib.Seq.{sets}
+use Rattle.base.specs.Limits.{nodeLimit, slotLimit}
+use Rattle.base.proofs.Numbers.{one-less}
 use Rattle.base.specs.Bytes.{byte}
 use Rattle.graph.specs.Graph.{Node}
 use Rattle.graph.specs.Read.{reference}
@@ -19,7 +21,7 @@ use Rattle.reader.specs.declared.Found.the-variants.{At, Nothing}
 use Rattle.order.specs.Indices.{slot}
 use Rattle.order.specs.Resolve.{indexOf, target}
 use Rattle.sums.specs.Position.{NodeFit, NodesFit}
-use Rattle.compiler.specs.Spotting.{Places, Slots, portCode, readCodes, throughCode, throughCodes, resultCodes, outputCodes}
+use Rattle.compiler.specs.Locating.{Places, Slots, portCode, readCodes, rebasedCode, rebasedCodes, resultCodes, outputCodes}
 use Rattle.resolver.specs.Slots.{rowsOf, placesOf}
 use Rattle.resolver.proofs.Rows.{length-nodes, place-at, row-slot, rows-size}
 
@@ -42,30 +44,27 @@ run-done whole out₀ to out j tail h e = sym (h .rest ∙ rw e)
 
 -- ---- what is stored next
 
-one-less : (n j : ℕ) → j < n → n - j ≡ suc (n - (j + 1))
-one-less n j h = omega arith
-
-pub reads-next : (s ts laid : List ℕ) (b n j q : ℕ) → j < n
-    → readCodes s ts laid (b + j) (n - j) q ≡ portCode laid (getD ts (b + j) 0) (byte s (q + 2)) ∷ readCodes s ts laid (b + (j + 1)) (n - (j + 1)) (q + 3)
+pub reads-next : (s ts allocated : List ℕ) (b n j q : ℕ) → j < n
+    → readCodes s ts allocated (b + j) (n - j) q ≡ portCode allocated (getD ts (b + j) 0) (byte s (q + 2)) ∷ readCodes s ts allocated (b + (j + 1)) (n - (j + 1)) (q + 3)
 unfolding readCodes
-reads-next s ts laid b n j q h =
+reads-next s ts allocated b n j q h =
     let z : b + (j + 1) ≡ b + j + 1 = omega arith in
-    rw z (ap (λ (m : ℕ). readCodes s ts laid (b + j) m q) (one-less n j h))
+    rw z (ap (λ (m : ℕ). readCodes s ts allocated (b + j) m q) (one-less n j h))
 
-pub reads-none : (s ts laid : List ℕ) (b n j q : ℕ) → n ≤ j → readCodes s ts laid (b + j) (n - j) q ≡ []
+pub reads-none : (s ts allocated : List ℕ) (b n j q : ℕ) → n ≤ j → readCodes s ts allocated (b + j) (n - j) q ≡ []
 unfolding readCodes
-reads-none s ts laid b n j q h = let z : n - j ≡ 0 = omega arith in ap (λ (m : ℕ). readCodes s ts laid (b + j) m q) z
+reads-none s ts allocated b n j q h = let z : n - j ≡ 0 = omega arith in ap (λ (m : ℕ). readCodes s ts allocated (b + j) m q) z
 
-pub through-next : (outs spots : List ℕ) (spot n d b m j : ℕ) → j < m
-    → throughCodes outs spots spot n d (b + j) (m - j) ≡ throughCode spots spot n d (getD outs (b + j) 0) ∷ throughCodes outs spots spot n d (b + (j + 1)) (m - (j + 1))
-unfolding throughCodes
-through-next outs spots spot n d b m j h =
+pub rebase-next : (outs locations : List ℕ) (cell n d b m j : ℕ) → j < m
+    → rebasedCodes outs locations cell n d (b + j) (m - j) ≡ rebasedCode locations cell n d (getD outs (b + j) 0) ∷ rebasedCodes outs locations cell n d (b + (j + 1)) (m - (j + 1))
+unfolding rebasedCodes
+rebase-next outs locations cell n d b m j h =
     let z : b + (j + 1) ≡ b + j + 1 = omega arith in
-    rw z (ap (λ (x : ℕ). throughCodes outs spots spot n d (b + j) x) (one-less m j h))
+    rw z (ap (λ (x : ℕ). rebasedCodes outs locations cell n d (b + j) x) (one-less m j h))
 
-pub through-none : (outs spots : List ℕ) (spot n d b m j : ℕ) → m ≤ j → throughCodes outs spots spot n d (b + j) (m - j) ≡ []
-unfolding throughCodes
-through-none outs spots spot n d b m j h = let z : m - j ≡ 0 = omega arith in ap (λ (x : ℕ). throughCodes outs spots spot n d (b + j) x) z
+pub rebase-none : (outs locations : List ℕ) (cell n d b m j : ℕ) → m ≤ j → rebasedCodes outs locations cell n d (b + j) (m - j) ≡ []
+unfolding rebasedCodes
+rebase-none outs locations cell n d b m j h = let z : m - j ≡ 0 = omega arith in ap (λ (x : ℕ). rebasedCodes outs locations cell n d (b + j) x) z
 
 pub results-next : (e w m j : ℕ) → j < m → resultCodes e w (m - j) ≡ e ∷ resultCodes (e + w) w (m - (j + 1))
 unfolding resultCodes
@@ -76,12 +75,6 @@ unfolding resultCodes
 results-none e w m j h = let z : m - j ≡ 0 = omega arith in ap (resultCodes e w) z
 
 -- ---- nodes by their index
-
-pub node-index : (n : ℕ) (s : List ℕ) (at i : ℕ) → i < n → getElem? (nodesAt n s at) i ≡ some (nodeAt s (nodePlace s at i))
-unfolding nodesAt nodePlace
-node-index zero s at i h = absurd (omega arith)
-node-index (suc n) s at zero h = refl
-node-index (suc n) s at (suc i) h = node-index n s (nodeEnd s at) i (omega arith)
 
 pub fit-index : (n : ℕ) (s : List ℕ) (at i : ℕ) → i < n → NodesFit s n at → NodeFit s (nodePlace s at i)
 unfolding nodePlace
@@ -116,11 +109,11 @@ none-index id ns e = subst (Indexed 0 (indexOf id ns) (length ns)) (sym e) (inde
 
 -- ---- what the resolver gives
 
-module _ (s : List ℕ) (at n : ℕ) (few : n ≤ 256) where
-  pub places-are : (ps₀ ps : List ℕ) → length ps₀ ≡ 256 → ps ≡ sets ps₀ 0 (placesOf (nodesAt n s at)) → Places s at ps n
+module _ (s : List ℕ) (at n : ℕ) (few : n ≤ nodeLimit) where
+  pub places-are : (ps₀ ps : List ℕ) → length ps₀ ≡ nodeLimit → ps ≡ sets ps₀ 0 (placesOf (nodesAt n s at)) → Places s at ps n
   places-are ps₀ ps l e i il = ap (λ (xs : List ℕ). getD xs i 0) e ∙ place-at s at n ps₀ i il (omega arith)
 
-  pub slots-are : (ts₀ ts : List ℕ) → length ts₀ ≡ 4096 → ts ≡ sets ts₀ 0 (rowsOf (nodesAt n s at) (nodesAt n s at)) → Slots s at n ts
+  pub slots-are : (ts₀ ts : List ℕ) → length ts₀ ≡ slotLimit → ts ≡ sets ts₀ 0 (rowsOf (nodesAt n s at) (nodesAt n s at)) → Slots s at n ts
   slots-are ts₀ ts l e =
       record {
         size = ap length e ∙ rows-size (nodesAt n s at) ts₀ ∙ l;
@@ -129,11 +122,11 @@ module _ (s : List ℕ) (at n : ℕ) (few : n ≤ 256) where
 
 -- ---- the outputs
 
-pub outputs-next : (s laid : List ℕ) (xs : List Node) (m j q : ℕ) → j < m
-    → outputCodes s laid xs (m - j) q ≡ portCode laid (target xs (some (reference s (q + 1)))) (byte s (q + 1 + 2)) ∷ outputCodes s laid xs (m - (j + 1)) (q + 4)
+pub outputs-next : (s allocated : List ℕ) (xs : List Node) (m j q : ℕ) → j < m
+    → outputCodes s allocated xs (m - j) q ≡ portCode allocated (target xs (some (reference s (q + 1)))) (byte s (q + 1 + 2)) ∷ outputCodes s allocated xs (m - (j + 1)) (q + 4)
 unfolding outputCodes
-outputs-next s laid xs m j q h = ap (λ (x : ℕ). outputCodes s laid xs x q) (one-less m j h)
+outputs-next s allocated xs m j q h = ap (λ (x : ℕ). outputCodes s allocated xs x q) (one-less m j h)
 
-pub outputs-none : (s laid : List ℕ) (xs : List Node) (m j q : ℕ) → m ≤ j → outputCodes s laid xs (m - j) q ≡ []
+pub outputs-none : (s allocated : List ℕ) (xs : List Node) (m j q : ℕ) → m ≤ j → outputCodes s allocated xs (m - j) q ≡ []
 unfolding outputCodes
-outputs-none s laid xs m j q h = let z : m - j ≡ 0 = omega arith in ap (λ (x : ℕ). outputCodes s laid xs x q) z
+outputs-none s allocated xs m j q h = let z : m - j ≡ 0 = omega arith in ap (λ (x : ℕ). outputCodes s allocated xs x q) z

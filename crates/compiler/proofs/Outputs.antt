@@ -1,4 +1,4 @@
--- A function whose nodes are laid, with the spots of its outputs.
+-- A function whose nodes are allocated, with the locations of its outputs.
 use Prim.Native.Nat.{ℕ, zero, suc, _+_, _*_, _≤_}
 use mathlib.Core.Path.{_≡_, sym, ap, _∙_, subst}
 use mathlib.Core.List.{List, [], _∷_, map}
@@ -6,6 +6,8 @@ use mathlib.Core.Logic.{_⊎_}
 use native.Mathlib.Omega.{arith}
 use lib.ListN.{length, getD}
 use lib.Seq.{sets, length-sets}
+use Rattle.compiler.specs.Sizes.{outputLimit}
+use Rattle.base.specs.Limits.{nodeLimit}
 use Rattle.base.specs.Lists.{Each}
 use Rattle.graph.specs.Graph.{Ref, Node, Function}
 use Rattle.graph.specs.Judge.{refType, outputTypes}
@@ -16,13 +18,13 @@ use Rattle.graph.specs.Sound.{Wired}
 use Rattle.graph.proofs.Loops.{In}
 use Rattle.graph.proofs.Order.{ids, reads-in}
 use Rattle.reader.specs.Layout.{nodesAt, nodesPlace, nodeCount, outputsAt, outputCount, outputsPlace, functionAt, earlier}
-use Rattle.compiler.specs.Static.{nowhere, Spotted, spotOf, closed, spread}
+use Rattle.compiler.specs.Static.{nowhere, Located, locationOf, summary, allocate}
 use Rattle.sums.specs.Position.{placeOf, functionIn, before}
-use Rattle.compiler.specs.Emit.{closedAt}
-use Rattle.compiler.specs.Spotting.{Accepted, outputCodes, Codes, Knows, NodesLaid, FunctionLaid}
+use Rattle.compiler.specs.Emit.{summaryAt}
+use Rattle.compiler.specs.Locating.{Accepted, outputCodes, Codes, Knows, NodesAllocated, FunctionAllocated}
 use Rattle.base.proofs.Stores.{sets-below}
 use Rattle.resolver.proofs.Rows.{length-nodes}
-use Rattle.compiler.proofs.Coding.{AllCodes, codes-length, codes-stored, port-coded, closed-size}
+use Rattle.compiler.proofs.Coding.{AllCodes, codes-length, codes-stored, port-coded, summary-size}
 use Rattle.compiler.proofs.Accepting.{few, sound-to, fit-at}
 
 abbrev Inside : List Node → Ref → Type 0
@@ -34,33 +36,33 @@ wired-inside early f [] (r ∷ rs) h = absurd h
 wired-inside early f (w ∷ ws) [] h = absurd h
 wired-inside early f (w ∷ ws) (r ∷ rs) (h, hs) = (reads-in early f r w h, wired-inside early f ws rs hs)
 
-outputs-coded : (s laid : List ℕ) (ns : List Node) (spotted : List Spotted) → length ns ≤ 256 → Knows ns laid spotted → (m q : ℕ) → Each (Inside ns) (outputRefs (outputsAt m s q))
-    → AllCodes (outputCodes s laid ns m q) (map (spotOf spotted) (outputRefs (outputsAt m s q)))
+outputs-coded : (s allocated : List ℕ) (ns : List Node) (located : List Located) → length ns ≤ nodeLimit → Knows ns allocated located → (m q : ℕ) → Each (Inside ns) (outputRefs (outputsAt m s q))
+    → AllCodes (outputCodes s allocated ns m q) (map (locationOf located) (outputRefs (outputsAt m s q)))
 unfolding outputCodes
-outputs-coded s laid ns spotted few known zero q h = tt
-outputs-coded s laid ns spotted few known (suc m) q (h, hs) =
-    (port-coded ns few laid spotted known (reference s (q + 1)) h, outputs-coded s laid ns spotted few known m (q + 4) hs)
+outputs-coded s allocated ns located few known zero q h = tt
+outputs-coded s allocated ns located few known (suc m) q (h, hs) =
+    (port-coded ns few allocated located known (reference s (q + 1)) h, outputs-coded s allocated ns located few known m (q + 4) hs)
 
-module _ (s : List ℕ) (k c : ℕ) (acc : Accepted s (suc k)) (order₀ order spots₀ spots outs₀ outs laid : List ℕ) (r : ℕ) where
+module _ (s : List ℕ) (k c : ℕ) (acc : Accepted s (suc k)) (order₀ order locations₀ locations outs₀ outs allocated : List ℕ) (r : ℕ) where
   abbrev p : ℕ
   p = placeOf s k
 
   abbrev codes : List ℕ
-  codes = outputCodes s laid (nodesAt (nodeCount s p) s (nodesPlace s p)) (outputCount s p) (outputsPlace s p)
+  codes = outputCodes s allocated (nodesAt (nodeCount s p) s (nodesPlace s p)) (outputCount s p) (outputsPlace s p)
 
-  codes-are : NodesLaid s k c order₀ order spots₀ spots laid r → AllCodes codes (closedAt s k .outputs)
+  codes-are : NodesAllocated s k c order₀ order locations₀ locations allocated r → AllCodes codes (summaryAt s k .outputs)
   unfolding functionAt earlier
   codes-are h =
       let l : length (nodesAt (nodeCount s p) s (nodesPlace s p)) ≡ nodeCount s p = length-nodes (nodeCount s p) s (nodesPlace s p) in
       let f = fit-at s (suc k) acc k (omega arith) .count in
       let sound = sound-to s (suc k) acc (suc k) (omega arith) .0 in
-      outputs-coded s laid (functionIn s k .nodes) (spread (closed (before s k)) (schedule (functionIn s k .nodes)) [] 0 .spotted) (omega arith) (h .known) (outputCount s p) (outputsPlace s p)
+      outputs-coded s allocated (functionIn s k .nodes) (allocate (summary (before s k)) (schedule (functionIn s k .nodes)) [] 0 .located) (omega arith) (h .known) (outputCount s p) (outputsPlace s p)
       (wired-inside (before s k) (functionIn s k) (outputTypes (functionIn s k .outputs)) (outputRefs (functionIn s k .outputs)) (sound .resolved .answers))
 
-  pub function-laid : NodesLaid s k c order₀ order spots₀ spots laid r → outs ≡ sets outs₀ (8 * k) codes → length outs₀ ≡ 128 → FunctionLaid s k c order₀ order spots₀ spots outs₀ outs r
-  function-laid h e l =
-      let a : length codes ≡ length (closedAt s k .outputs) = codes-length codes (closedAt s k .outputs) (codes-are h) in
-      let b : length (closedAt s k .outputs) ≡ outputCount s p = closed-size s k in
+  pub function-allocated : NodesAllocated s k c order₀ order locations₀ locations allocated r → outs ≡ sets outs₀ (8 * k) codes → length outs₀ ≡ outputLimit → FunctionAllocated s k c order₀ order locations₀ locations outs₀ outs r
+  function-allocated h e l =
+      let a : length codes ≡ length (summaryAt s k .outputs) = codes-length codes (summaryAt s k .outputs) (codes-are h) in
+      let b : length (summaryAt s k .outputs) ≡ outputCount s p = summary-size s k in
       let f = fit-at s (suc k) acc k (omega arith) .outputs in
       let m = few s (suc k) acc in
       record {
@@ -68,11 +70,11 @@ module _ (s : List ℕ) (k c : ℕ) (acc : Accepted s (suc k)) (order₀ order s
         ports =
             record {
               few = omega arith;
-              coded = λ q ql. subst (λ (ys : List ℕ). Codes (getD ys (8 * k + q) 0) (getD (closedAt s k .outputs) q nowhere)) (sym e) (codes-stored outs₀ (8 * k) codes (closedAt s k .outputs) (codes-are h) (omega arith) q);
+              coded = λ q ql. subst (λ (ys : List ℕ). Codes (getD ys (8 * k + q) 0) (getD (summaryAt s k .outputs) q nowhere)) (sym e) (codes-stored outs₀ (8 * k) codes (summaryAt s k .outputs) (codes-are h) (omega arith) q);
             };
         end = h .end;
         sizes = (ap length e ∙ length-sets outs₀ (8 * k) codes ∙ l, h .sizes .0, h .sizes .1);
         old-order = h .old-order;
-        old-spots = h .old-spots;
+        old-locations = h .old-locations;
         old-outs = λ q ql. ap (λ (ys : List ℕ). getD ys q 0) e ∙ sets-below codes outs₀ (8 * k) q ql;
       }

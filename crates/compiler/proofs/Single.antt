@@ -8,21 +8,22 @@ use native.Mathlib.Nat.{add-zero}
 use lib.ListN.{length, set, length-append, length-set}
 use lib.Seq.{sets}
 use borrow.Author.Tests.{eqb-true}
+use Rattle.base.proofs.Stands.{all-length}
 use Rattle.ports.specs.declared.Form.{Form}
 use Rattle.ports.specs.declared.Form.the-variants.{Absent, Constant, References, Call}
 use Rattle.ports.specs.declared.Ports.{Ports}
 use Rattle.ports.specs.Kinds.{Kind, kindOf}
-use Rattle.ports.specs.Ports.{widths, gives, portsOf, formOf, constantIn, constantWords}
+use Rattle.ports.specs.Ports.{widths, gives, portsOf, formOf, constantIn, constantWords, calling}
 use Rattle.ports.specs.Ports as PortList
 use Rattle.ports.proofs.Laws.{words-given}
 use Rattle.base.specs.Bytes.{byte, u64, constants, bytesOf, allBytes}
 use Rattle.graph.specs.Look.{reads}
 use Rattle.graph.proofs.Formed.{refs-length}
 use Rattle.reader.specs.Layout.{kindAt, payloadAt, nodeAt}
-use Rattle.lowering.specs.Compile.{Opened, Open, opened}
+use Rattle.lowering.specs.Compile.{Inlined, Inline, inlined}
 use Rattle.bytecode.specs.Code.{instructionsCode}
-use Rattle.sums.specs.Position.{before, calling}
-use Rattle.compiler.specs.Emit.{copied, addressesIn, openWith, nodeOpened}
+use Rattle.sums.specs.Position.{before}
+use Rattle.compiler.specs.Emit.{copied, addressesIn, inlineWith, nodeInlined}
 use Rattle.base.proofs.Stores.{sets-append}
 use Rattle.sums.proofs.Rows.{operandsBy}
 use Rattle.sums.proofs.Nodes.{row-is, row-narrow, form-is}
@@ -35,14 +36,10 @@ unfolding copied
 copied-length zero s at = refl
 copied-length (suc n) s at = ap suc (copied-length n s (at + 1))
 
-pub addresses-length : (spots ins : List ℕ) (first c n : ℕ) → length (addressesIn spots ins first c n) ≡ n
+pub addresses-length : (locations ins : List ℕ) (first c n : ℕ) → length (addressesIn locations ins first c n) ≡ n
 unfolding addressesIn
-addresses-length spots ins first c zero = refl
-addresses-length spots ins first c (suc n) = ap suc (addresses-length spots ins first (c + 1) n)
-
-bytes-length : (xs : List ℕ) → length (allBytes 2 xs) ≡ 2 * length xs
-bytes-length [] = refl
-bytes-length (x ∷ xs) = let e : length (allBytes 2 xs) ≡ 2 * length xs = bytes-length xs in omega arith
+addresses-length locations ins first c zero = refl
+addresses-length locations ins first c (suc n) = ap suc (addresses-length locations ins first (c + 1) n)
 
 copied-append : (n m : ℕ) (s : List ℕ) (at : ℕ) → copied (n + m) s at ≡ copied n s at ++ copied m s (at + n)
 unfolding copied
@@ -92,21 +89,21 @@ module _ (s : List ℕ) (small : (q : ℕ) → byte s q < 256) where
 
 -- ---- the node at p
 
-module _ (s spots : List ℕ) (k p c : ℕ) (ins : List ℕ) (first next : ℕ) (small : (q : ℕ) → byte s q < 256) where
-  abbrev go : Open
-  go = opened (before s k)
+module _ (s locations : List ℕ) (k p c : ℕ) (ins : List ℕ) (first next : ℕ) (small : (q : ℕ) → byte s q < 256) where
+  abbrev go : Inline
+  go = inlined (before s k)
 
   abbrev word : Kind
   word = kindAt s p
 
   at-form : (f : Form) → formOf word ≡ f
-      → nodeOpened s spots k p c ins first next
-      ≡ openWith go (addressesIn spots ins first c (length (reads (nodeAt s p)))) next (nodeAt s p) (payloadAt f word s (p + 4))
-  unfolding nodeOpened nodeAt
-  at-form f e = ap (λ (g : Form). openWith go (addressesIn spots ins first c (length (reads (nodeAt s p)))) next (nodeAt s p) (payloadAt g word s (p + 4))) e
+      → nodeInlined s locations k p c ins first next
+      ≡ inlineWith go (addressesIn locations ins first c (length (reads (nodeAt s p)))) next (nodeAt s p) (payloadAt f word s (p + 4))
+  unfolding nodeInlined nodeAt
+  at-form f e = ap (λ (g : Form). inlineWith go (addressesIn locations ins first c (length (reads (nodeAt s p)))) next (nodeAt s p) (payloadAt g word s (p + 4))) e
 
   text-by : (f : Form) → formOf word ≡ f → calling f ≡ false → (xs : List ℕ) → (operandsBy f (length xs) ≡ true)
-      → instructionsCode (openWith go xs next (nodeAt s p) (payloadAt f word s (p + 4)) .code)
+      → instructionsCode (inlineWith go xs next (nodeAt s p) (payloadAt f word s (p + 4)) .code)
       ≡ byte s (p + 2) ∷ byte s (p + 3) ∷ allBytes 2 xs ++ copied (8 * constantIn f (portsOf word .words)) s (p + 4)
   unfolding nodeAt copied
   text-by Absent e q xs h = ap (λ (ys : List ℕ). byte s (p + 2) ∷ byte s (p + 3) ∷ ys) (append-nil (allBytes 2 xs ++ []))
@@ -121,7 +118,7 @@ module _ (s spots : List ℕ) (k p c : ℕ) (ins : List ℕ) (first next : ℕ) 
   text-by Call e q xs h = let z : _≡_ {A = ℕ} 0 1 = cc in absurd (omega arith)
 
   next-by : (f : Form) → calling f ≡ false → (xs : List ℕ)
-      → openWith go xs next (nodeAt s p) (payloadAt f word s (p + 4)) .next ≡ next + widths (gives word (byte s (p + 3)))
+      → inlineWith go xs next (nodeAt s p) (payloadAt f word s (p + 4)) .next ≡ next + widths (gives word (byte s (p + 3)))
   unfolding nodeAt
   next-by Absent q xs = refl
   next-by Constant q xs = refl
@@ -134,27 +131,27 @@ module _ (s spots : List ℕ) (k p c : ℕ) (ins : List ℕ) (first next : ℕ) 
     pub record Taken : Type 0 where
       pub count : length (reads (nodeAt s p)) ≡ n
       pub few : n ≤ 16
-      pub text : instructionsCode (nodeOpened s spots k p c ins first next .code) ≡ kind ∷ ty ∷ allBytes 2 (addressesIn spots ins first c n) ++ copied (8 * v) s (p + 4)
-      pub size : length (instructionsCode (nodeOpened s spots k p c ins first next .code)) ≡ 2 + 2 * n + 8 * v
-      pub words : nodeOpened s spots k p c ins first next .next ≡ next + w
+      pub text : instructionsCode (nodeInlined s locations k p c ins first next .code) ≡ kind ∷ ty ∷ allBytes 2 (addressesIn locations ins first c n) ++ copied (8 * v) s (p + 4)
+      pub size : length (instructionsCode (nodeInlined s locations k p c ins first next .code)) ≡ 2 + 2 * n + 8 * v
+      pub words : nodeInlined s locations k p c ins first next .next ≡ next + w
 
     pub taken : Taken
     taken =
         let r : row ≡ portsOf word = row-is s p kind row ek er in
         let f : calling (row .form) ≡ false = ap calling (form-is s p kind row ek er) ∙ plain in
         let count : length (reads (nodeAt s p)) ≡ n = ap length (plain-reads s p kind row ek er f n en .refs) ∙ refs-length n s (p + 4) in
-        let xs = addressesIn spots ins first c n in
-        let l : length xs ≡ n = addresses-length spots ins first c n in
+        let xs = addressesIn locations ins first c n in
+        let l : length xs ≡ n = addresses-length locations ins first c n in
         let by : operandsBy (formOf word) (length xs) ≡ true =
         ap (operandsBy (formOf word)) (l ∙ en)
         ∙ ap (λ (g : Form). operandsBy g (row .operands)) (sym (form-is s p kind row ek er)) ∙ row-narrow s p kind row ek er .by-form in
-        let same : nodeOpened s spots k p c ins first next ≡ openWith go xs next (nodeAt s p) (payloadAt (formOf word) word s (p + 4)) =
-        at-form (formOf word) refl ∙ ap (λ (m : ℕ). openWith go (addressesIn spots ins first c m) next (nodeAt s p) (payloadAt (formOf word) word s (p + 4))) count in
+        let same : nodeInlined s locations k p c ins first next ≡ inlineWith go xs next (nodeAt s p) (payloadAt (formOf word) word s (p + 4)) =
+        at-form (formOf word) refl ∙ ap (λ (m : ℕ). inlineWith go (addressesIn locations ins first c m) next (nodeAt s p) (payloadAt (formOf word) word s (p + 4))) count in
         let fv : v ≡ constantIn (formOf word) (portsOf word .words) = ev ∙ ap (λ (y : Ports). constantIn (y .form) (y .words)) r in
         let fw : w ≡ widths (gives word (byte s (p + 3))) =
         ew ∙ ap (λ (y : Ports). PortList.resultWords y ty) r ∙ ap (λ (t : ℕ). PortList.resultWords (portsOf word) t) et ∙ words-given word (byte s (p + 3)) in
-        let text : instructionsCode (nodeOpened s spots k p c ins first next .code) ≡ kind ∷ ty ∷ allBytes 2 xs ++ copied (8 * v) s (p + 4) =
-        ap (λ (o : Opened). instructionsCode (o .code)) same
+        let text : instructionsCode (nodeInlined s locations k p c ins first next .code) ≡ kind ∷ ty ∷ allBytes 2 xs ++ copied (8 * v) s (p + 4) =
+        ap (λ (o : Inlined). instructionsCode (o .code)) same
         ∙ text-by (formOf word) refl plain xs by
         ∙ ap (λ (m : ℕ). byte s (p + 2) ∷ byte s (p + 3) ∷ allBytes 2 xs ++ copied (8 * m) s (p + 4)) (sym fv)
         ∙ ap (λ (x : ℕ). x ∷ byte s (p + 3) ∷ allBytes 2 xs ++ copied (8 * v) s (p + 4)) (sym ek)
@@ -167,10 +164,10 @@ module _ (s spots : List ℕ) (k p c : ℕ) (ins : List ℕ) (first next : ℕ) 
               ap length text
               ∙ (let a : length (allBytes 2 xs ++ copied (8 * v) s (p + 4)) ≡ length (allBytes 2 xs) + length (copied (8 * v) s (p + 4)) =
               length-append (allBytes 2 xs) (copied (8 * v) s (p + 4)) in
-              let b : length (allBytes 2 xs) ≡ 2 * length xs = bytes-length xs in
+              let b : length (allBytes 2 xs) ≡ 2 * length xs = all-length 2 xs in
               let d : length (copied (8 * v) s (p + 4)) ≡ 8 * v = copied-length (8 * v) s (p + 4) in
               omega arith);
-          words = ap (λ (o : Opened). o .next) same ∙ next-by (formOf word) plain xs ∙ ap (λ (x : ℕ). next + x) (sym fw);
+          words = ap (λ (o : Inlined). o .next) same ∙ next-by (formOf word) plain xs ∙ ap (λ (x : ℕ). next + x) (sym fw);
         }
 
 -- ---- the stores, one after another
@@ -187,8 +184,8 @@ head-then code at k t n xs ys e =
     ∙ sym (sets-append xs ys (set (set code at k) (at + 1) t) (at + 2))
     ∙ rw (a, b)
 
-pub operands-length : (spots ins : List ℕ) (first c n : ℕ) → length (allBytes 2 (addressesIn spots ins first c n)) ≡ 2 * n
-operands-length spots ins first c n =
-    let a : length (allBytes 2 (addressesIn spots ins first c n)) ≡ 2 * length (addressesIn spots ins first c n) = bytes-length (addressesIn spots ins first c n) in
-    let b : length (addressesIn spots ins first c n) ≡ n = addresses-length spots ins first c n in
+pub operands-length : (locations ins : List ℕ) (first c n : ℕ) → length (allBytes 2 (addressesIn locations ins first c n)) ≡ 2 * n
+operands-length locations ins first c n =
+    let a : length (allBytes 2 (addressesIn locations ins first c n)) ≡ 2 * length (addressesIn locations ins first c n) = all-length 2 (addressesIn locations ins first c n) in
+    let b : length (addressesIn locations ins first c n) ≡ n = addresses-length locations ins first c n in
     omega arith

@@ -1,4 +1,4 @@
--- The functions of a table are laid one after another.
+-- The functions of a table are allocated one after another.
 use Prim.Native.Nat.{ℕ, zero, suc, _+_, _-_, _*_, _≤_, _<_}
 use mathlib.Core.Path.{_≡_, refl, sym, ap, _∙_, subst}
 use mathlib.Core.Bool.{Bool, true, false}
@@ -7,7 +7,10 @@ use mathlib.Core.Logic.{_⊎_, inl, inr, ⊎-elim}
 use native.Mathlib.Omega.{arith}
 use lib.ListN.{length, getD, set, length-set}
 use lib.Seq.{getD-set-same, getD-set-other}
-use Rattle.ports.specs.Ports.{portsOf, constantIn}
+use Rattle.compiler.specs.Sizes.{orderLimit, outputLimit}
+use Rattle.base.specs.Limits.{nodeLimit, referenceLimit, wordLimit}
+use Rattle.base.proofs.Numbers.{lt-or-eq}
+use Rattle.ports.specs.Ports.{portsOf, constantIn, calling}
 use Rattle.base.specs.Bytes.{byte}
 use Rattle.graph.specs.Graph.{Ref, Payload, Node}
 use Rattle.graph.specs.Look.{reads, readsOf}
@@ -18,12 +21,12 @@ use Rattle.graph.proofs.Order.{scheduled}
 use Rattle.reader.specs.Layout.{kindAt, nodeAt, nodeEnd, nodesAt, nodePlace, nodesPlace, nodeCount, functionAt, functionEnd, functionPlace, earlier}
 use Rattle.reader.specs.Find.{ReadsNodes}
 use Rattle.reader.proofs.Passed.{end-fits, first-reads, rest-reads, function-holds}
-use Rattle.compiler.specs.Static.{Spot, nowhere, closed}
-use Rattle.sums.specs.Position.{placeOf, functionIn, before, calling, NodeFit, NodesFit}
+use Rattle.compiler.specs.Static.{Location, nowhere, summary}
+use Rattle.sums.specs.Position.{placeOf, functionIn, before, NodeFit, NodesFit}
 use Rattle.sums.specs.Capped.{wordsAt}
-use Rattle.compiler.specs.Emit.{spotRoom, Stands, spotTable, Coded, Placed, closedAt, Laid}
-use Rattle.compiler.specs.Spotting.{Accepted, Codes, PortsCoded, readCount, FunctionLaid, LaidTo}
-use Rattle.compiler.proofs.Spots.{function-agrees}
+use Rattle.compiler.specs.Emit.{Stands, locationTable, Coded, Placed, summaryAt, Allocated}
+use Rattle.compiler.specs.Locating.{Accepted, Codes, PortsCoded, readCount, FunctionAllocated, AllocatedTo}
+use Rattle.compiler.proofs.Locations.{function-agrees}
 use Rattle.compiler.proofs.Words.{function-words}
 use Rattle.sums.proofs.Nodes.{call-payload, call-end, plain-end}
 use Rattle.compiler.proofs.References.{few-reads, plain-reads}
@@ -32,21 +35,21 @@ use Rattle.compiler.proofs.Accepting.{few, sound-to, single-at, fit-at,
 
 -- ---- what a later store leaves
 
-coded-keep : (spots spots' : List ℕ) (table : Ref → Spot) (c : ℕ) (rs : List Ref) → ((q : ℕ) → q < c + length rs → getD spots' q 0 ≡ getD spots q 0) → Coded spots table c rs → Coded spots' table c rs
-coded-keep spots spots' table c [] h x = x
-coded-keep spots spots' table c (r ∷ rs) h (x, xs) =
-    (subst (λ (e : ℕ). Stands e (table r)) (sym (h c (omega arith))) x, coded-keep spots spots' table (c + 1) rs (λ q l. h q (omega arith)) xs)
+coded-keep : (locations locations' : List ℕ) (table : Ref → Location) (c : ℕ) (rs : List Ref) → ((q : ℕ) → q < c + length rs → getD locations' q 0 ≡ getD locations q 0) → Coded locations table c rs → Coded locations' table c rs
+coded-keep locations locations' table c [] h x = x
+coded-keep locations locations' table c (r ∷ rs) h (x, xs) =
+    (subst (λ (e : ℕ). Stands e (table r)) (sym (h c (omega arith))) x, coded-keep locations locations' table (c + 1) rs (λ q l. h q (omega arith)) xs)
 
 abbrev sizeOf : Node → ℕ
 sizeOf x = length (reads x)
 
-placed-keep : (s order order' spots spots' : List ℕ) (table : Ref → Spot) (b c : ℕ) (ns : List Node) → ((q : ℕ) → q < b + length ns → getD order' q 0 ≡ getD order q 0)
-    → ((q : ℕ) → q < c + sum sizeOf ns → getD spots' q 0 ≡ getD spots q 0) → Placed s order spots table b c ns → Placed s order' spots' table b c ns
-placed-keep s order order' spots spots' table b c [] ho hs x = x
-placed-keep s order order' spots spots' table b c (n ∷ ns) ho hs ((e, f, x), xs) =
+placed-keep : (s order order' locations locations' : List ℕ) (table : Ref → Location) (b c : ℕ) (ns : List Node) → ((q : ℕ) → q < b + length ns → getD order' q 0 ≡ getD order q 0)
+    → ((q : ℕ) → q < c + sum sizeOf ns → getD locations' q 0 ≡ getD locations q 0) → Placed s order locations table b c ns → Placed s order' locations' table b c ns
+placed-keep s order order' locations locations' table b c [] ho hs x = x
+placed-keep s order order' locations locations' table b c (n ∷ ns) ho hs ((e, f, x), xs) =
     let z : getD order' b 0 ≡ getD order b 0 = ho b (omega arith) in (
-      (ap (nodeAt s) z ∙ e, subst (NodeFit s) (sym z) f, coded-keep spots spots' table c (reads n) (λ q l. hs q (omega arith)) x),
-      placed-keep s order order' spots spots' table (b + 1) (c + length (reads n)) ns (λ q l. ho q (omega arith)) (λ q l. hs q (omega arith)) xs,
+      (ap (nodeAt s) z ∙ e, subst (NodeFit s) (sym z) f, coded-keep locations locations' table c (reads n) (λ q l. hs q (omega arith)) x),
+      placed-keep s order order' locations locations' table (b + 1) (c + length (reads n)) ns (λ q l. ho q (omega arith)) (λ q l. hs q (omega arith)) xs,
     )
 
 -- ---- how many references fit into a table
@@ -95,9 +98,9 @@ module _ (s : List ℕ) (j : ℕ) (acc : Accepted s (suc j)) where
       let m = acc .short in
       (omega arith, omega arith)
 
-  closed-is : closedAt s j .words ≡ wordsAt s j
+  summary-is : summaryAt s j .words ≡ wordsAt s j
   unfolding wordsAt earlier
-  closed-is = function-words (before s j) (functionIn s j) (sound-to s (suc j) acc (suc j) (omega arith))
+  summary-is = function-words (before s j) (functionIn s j) (sound-to s (suc j) acc (suc j) (omega arith))
 
   -- the schedule has all nodes
   schedule-size : (length (schedule (functionIn s j .nodes)) ≡ nodeCount s (placeOf s j)) × (sum sizeOf (schedule (functionIn s j .nodes)) ≡ readCount s j)
@@ -110,15 +113,9 @@ module _ (s : List ℕ) (j : ℕ) (acc : Accepted s (suc j)) where
 pub fewer : (s : List ℕ) (k j : ℕ) → Accepted s k → j ≤ k → Accepted s j
 fewer s k j acc l = record { read = acc .read; sound = acc .sound; most = let m = acc .most in omega arith; short = acc .short; small = acc .small }
 
-cmp : (a b : ℕ) → a < suc b → (a < b) ⊎ (a ≡ b)
-cmp zero zero l = inr refl
-cmp zero (suc b) l = inl (omega arith)
-cmp (suc a) zero l = absurd (omega arith)
-cmp (suc a) (suc b) l = ⊎-elim (λ h. inl (omega arith)) (λ e. inr (ap suc e)) (cmp a b (omega arith))
-
-module _ (s : List ℕ) (j : ℕ) (acc : Accepted s (suc j)) (outs order spots begins : List ℕ) (spot : ℕ) (st : LaidTo s j outs order spots begins spot) where
+module _ (s : List ℕ) (j : ℕ) (acc : Accepted s (suc j)) (outs order locations begins : List ℕ) (cell : ℕ) (st : AllocatedTo s j outs order locations begins cell) where
   -- there is room for one function more
-  pub room-here : (spot + readCount s j ≤ spotRoom) × (spot < 65536) × (j < 16)
+  pub room-here : (cell + readCount s j ≤ referenceLimit) × (cell < 65536) × (j < 16)
   room-here =
       let (a, b) = function-space s j acc in
       let e = st .room in
@@ -126,39 +123,39 @@ module _ (s : List ℕ) (j : ℕ) (acc : Accepted s (suc j)) (outs order spots b
       (omega arith, omega arith, omega arith)
 
   -- a function over the limit is passed over
-  pub passed-over : 8192 < wordsAt s j → LaidTo s (suc j) outs order spots begins spot
+  pub passed-over : wordLimit < wordsAt s j → AllocatedTo s (suc j) outs order locations begins cell
   passed-over over =
       let (a, b) = function-space s j acc in
       let e = st .room in
-      let c = closed-is s j acc in
+      let c = summary-is s j acc in
       record {
-        laid = λ g l w. ⊎-elim (λ h. st .laid g h w) (λ q. absurd (let z = ap (λ (x : ℕ). closedAt s x .words) q in omega arith)) (cmp g j l);
-        ports = λ g l w. ⊎-elim (λ h. st .ports g h w) (λ q. absurd (let z = ap (wordsAt s) q in omega arith)) (cmp g j l);
+        allocated = λ g l w. ⊎-elim (λ h. st .allocated g h w) (λ q. absurd (let z = ap (λ (x : ℕ). summaryAt s x .words) q in omega arith)) (lt-or-eq g j l);
+        ports = λ g l w. ⊎-elim (λ h. st .ports g h w) (λ q. absurd (let z = ap (wordsAt s) q in omega arith)) (lt-or-eq g j l);
         room = omega arith;
-        ends = λ g l w. ⊎-elim (λ h. st .ends g h w) (λ q. absurd (let z = ap (λ (x : ℕ). closedAt s x .words) q in omega arith)) (cmp g j l);
+        ends = λ g l w. ⊎-elim (λ h. st .ends g h w) (λ q. absurd (let z = ap (λ (x : ℕ). summaryAt s x .words) q in omega arith)) (lt-or-eq g j l);
         sizes = st .sizes;
       }
 
-  module _ (outs' order' spots' begins' : List ℕ) (r : ℕ) (f : FunctionLaid s j spot order order' spots spots' outs outs' r) (eb : begins' ≡ set begins j spot) where
-    begin-here : getD begins' j 0 ≡ spot
-    begin-here = ap (λ (ys : List ℕ). getD ys j 0) eb ∙ getD-set-same begins j spot 0 (let a = st .sizes .3 in let b = few s (suc j) acc in omega arith)
+  module _ (outs' order' locations' begins' : List ℕ) (r : ℕ) (f : FunctionAllocated s j cell order order' locations locations' outs outs' r) (eb : begins' ≡ set begins j cell) where
+    begin-here : getD begins' j 0 ≡ cell
+    begin-here = ap (λ (ys : List ℕ). getD ys j 0) eb ∙ getD-set-same begins j cell 0 (let a = st .sizes .3 in let b = few s (suc j) acc in omega arith)
 
     begin-below : (g : ℕ) → g < j → getD begins' g 0 ≡ getD begins g 0
-    begin-below g l = ap (λ (ys : List ℕ). getD ys g 0) eb ∙ getD-set-other begins j g spot 0 (λ e. omega arith)
+    begin-below g l = ap (λ (ys : List ℕ). getD ys g 0) eb ∙ getD-set-other begins j g cell 0 (λ e. omega arith)
 
-    here : Laid s begins' order' spots' j
+    here : Allocated s begins' order' locations' j
     unfolding earlier
     here =
         record {
           count = fit-at s (suc j) acc j (omega arith) .count;
           size = schedule-size s j acc .0;
-          nodes = subst (λ (b : ℕ). Placed s order' spots' (spotTable s j) (256 * j) b (schedule (functionIn s j .nodes))) (sym begin-here) (f .placed);
-          agrees = function-agrees (closed (before s j)) (before s j) (functionIn s j) (sound-to s (suc j) acc (suc j) (omega arith) .0) (single-at s (suc j) acc j (omega arith));
+          nodes = subst (λ (b : ℕ). Placed s order' locations' (locationTable s j) (nodeLimit * j) b (schedule (functionIn s j .nodes))) (sym begin-here) (f .placed);
+          agrees = function-agrees (summary (before s j)) (before s j) (functionIn s j) (sound-to s (suc j) acc (suc j) (omega arith) .0) (single-at s (suc j) acc j (omega arith));
         }
 
-    below : (g : ℕ) → g < j → closedAt s g .words ≤ 8192 → Laid s begins' order' spots' g
+    below : (g : ℕ) → g < j → summaryAt s g .words ≤ wordLimit → Allocated s begins' order' locations' g
     below g l w =
-        let x = st .laid g l w in
+        let x = st .allocated g l w in
         let e = st .ends g l w in
         let (a, b) = schedule-size s g (fewer s (suc j) (suc g) acc (omega arith)) in
         let m = x .count in
@@ -166,31 +163,31 @@ module _ (s : List ℕ) (j : ℕ) (acc : Accepted s (suc j)) (outs order spots b
           count = x .count;
           size = x .size;
           nodes =
-              subst (λ (q : ℕ). Placed s order' spots' (spotTable s g) (256 * g) q (schedule (functionIn s g .nodes))) (sym (begin-below g l))
-              (placed-keep s order order' spots spots' (spotTable s g) (256 * g) (getD begins g 0) (schedule (functionIn s g .nodes)) (λ q ql. f .old-order q (omega arith)) (λ q ql. f .old-spots q (omega arith)) (x .nodes));
+              subst (λ (q : ℕ). Placed s order' locations' (locationTable s g) (nodeLimit * g) q (schedule (functionIn s g .nodes))) (sym (begin-below g l))
+              (placed-keep s order order' locations locations' (locationTable s g) (nodeLimit * g) (getD begins g 0) (schedule (functionIn s g .nodes)) (λ q ql. f .old-order q (omega arith)) (λ q ql. f .old-locations q (omega arith)) (x .nodes));
           agrees = x .agrees;
         }
 
-    ports-below : (g : ℕ) → g < j → wordsAt s g ≤ 8192 → PortsCoded (closedAt s g .outputs) outs' (8 * g)
+    ports-below : (g : ℕ) → g < j → wordsAt s g ≤ wordLimit → PortsCoded (summaryAt s g .outputs) outs' (8 * g)
     ports-below g l w =
         let x = st .ports g l w in
-        record { few = x .few; coded = λ q ql. subst (λ (e : ℕ). Codes e (getD (closedAt s g .outputs) q nowhere)) (sym (f .old-outs (8 * g + q) (omega arith))) (x .coded q ql) }
+        record { few = x .few; coded = λ q ql. subst (λ (e : ℕ). Codes e (getD (summaryAt s g .outputs) q nowhere)) (sym (f .old-outs (8 * g + q) (omega arith))) (x .coded q ql) }
 
-    pub one-more : LaidTo s (suc j) outs' order' spots' begins' r
+    pub one-more : AllocatedTo s (suc j) outs' order' locations' begins' r
     one-more =
         let (a, b) = function-space s j acc in
         let e = st .room in
         let n = f .end in
         record {
-          laid = λ g l w. ⊎-elim (λ h. below g h w) (λ q. subst (Laid s begins' order' spots') (sym q) here) (cmp g j l);
-          ports = λ g l w. ⊎-elim (λ h. ports-below g h w) (λ q. subst (λ (x : ℕ). PortsCoded (closedAt s x .outputs) outs' (8 * x)) (sym q) (f .ports)) (cmp g j l);
+          allocated = λ g l w. ⊎-elim (λ h. below g h w) (λ q. subst (Allocated s begins' order' locations') (sym q) here) (lt-or-eq g j l);
+          ports = λ g l w. ⊎-elim (λ h. ports-below g h w) (λ q. subst (λ (x : ℕ). PortsCoded (summaryAt s x .outputs) outs' (8 * x)) (sym q) (f .ports)) (lt-or-eq g j l);
           room = omega arith;
           ends = λ g l w. ⊎-elim (λ h. let z = st .ends g h w in let y = begin-below g h in omega arith)
-              (λ q. let z : getD begins' g 0 ≡ spot = ap (λ (x : ℕ). getD begins' x 0) q ∙ begin-here in let y = ap (readCount s) q in omega arith) (cmp g j l);
-          sizes = (f .sizes .0, f .sizes .1, f .sizes .2, ap length eb ∙ length-set begins j spot ∙ st .sizes .3);
+              (λ q. let z : getD begins' g 0 ≡ cell = ap (λ (x : ℕ). getD begins' x 0) q ∙ begin-here in let y = ap (readCount s) q in omega arith) (lt-or-eq g j l);
+          sizes = (f .sizes .0, f .sizes .1, f .sizes .2, ap length eb ∙ length-set begins j cell ∙ st .sizes .3);
         }
 
--- at the start nothing is laid
-pub laid-none : (s outs order spots begins : List ℕ) → (length outs ≡ 128) × (length order ≡ 4096) × (length spots ≡ spotRoom) × (length begins ≡ 16) → LaidTo s 0 outs order spots begins 0
-laid-none s outs order spots begins h =
-    record { laid = λ g l w. absurd (omega arith); ports = λ g l w. absurd (omega arith); room = omega arith; ends = λ g l w. absurd (omega arith); sizes = h }
+-- at the start nothing is allocated
+pub allocated-none : (s outs order locations begins : List ℕ) → (length outs ≡ outputLimit) × (length order ≡ orderLimit) × (length locations ≡ referenceLimit) × (length begins ≡ 16) → AllocatedTo s 0 outs order locations begins 0
+allocated-none s outs order locations begins h =
+    record { allocated = λ g l w. absurd (omega arith); ports = λ g l w. absurd (omega arith); room = omega arith; ends = λ g l w. absurd (omega arith); sizes = h }

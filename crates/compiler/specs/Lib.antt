@@ -1,4 +1,5 @@
+pub mod Sizes
 pub mod Static
 pub mod Emit
-pub mod Spotting
+pub mod Locating
 pub mod Whole

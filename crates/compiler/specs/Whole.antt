@@ -2,6 +2,7 @@
 use Prim.Native.Nat.{ℕ, _+_, _≤_}
 use mathlib.Core.Path.{_≡_}
 use mathlib.Core.List.{List}
+use Rattle.base.specs.Limits.{operationLimit, portWordLimit, wordLimit}
 use Rattle.base.specs.Outcome.{Outcome, ok, fault}
 use lib.ListN.{length}
 use Rattle.ports.specs.Ports.{widths}
@@ -22,9 +23,9 @@ pub record Measured (s : List ℕ) (k count inputs outputs : ℕ) : Type 0 where
   pub instructions : count ≡ length (boardListOf (before s k) (functionIn s k) .instructions)
   pub arguments : inputs ≡ widths (functionIn s k .inputs)
   pub results : outputs ≡ widths (outputTypes (functionIn s k .outputs))
-  pub few : count ≤ 4096
-  pub narrow : (inputs ≤ 128) × (outputs ≤ 128)
-  pub words : inputs + wordsAt s k ≤ 8192
+  pub few : count ≤ operationLimit
+  pub narrow : (inputs ≤ portWordLimit) × (outputs ≤ portWordLimit)
+  pub words : inputs + wordsAt s k ≤ wordLimit
 
 -- ---- answers: the length, or the refusal with 01's number and place
 

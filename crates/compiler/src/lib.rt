@@ -5,14 +5,16 @@ ghost use mathlib.Core.Bool.{true, false};
 ghost use Prim.Native.Nat.{ℕ, suc, _+_, _*_, _<_, _≤_, _^_};
 ghost use lib.ListN.{length, getD, replicate};
 ghost use lib.Seq.{sets};
-ghost use Rattle.ports.specs.Ports.{widths, formOf, constantIn};
+ghost use Rattle.base.specs.Limits.{functionLimit, nodeLimit, operandLimit, portLimit, referenceLimit, valueLimit, wordLimit};
+ghost use Rattle.ports.specs.Ports.{widths, formOf, constantIn, calling};
+ghost use Rattle.compiler.specs.Sizes.{orderLimit, nodePortLimit, outputLimit};
 ghost use Rattle.base.specs.Bytes.{byte, u16, bytesOf, allBytes};
 ghost use Rattle.graph.specs.Look.{reads};
 ghost use Rattle.graph.specs.Read.{reference};
 ghost use Rattle.order.specs.Resolve as Resolve;
 ghost use Rattle.reader.specs.Find.{ReadsNodes};
 ghost use Rattle.order.specs.Indices.{indexOrder};
-ghost use Rattle.compiler.specs.Spotting.{ReadsOf, Accepted, NodesLaid, FunctionLaid, LaidTo, readCount, outputCodes, Places, Slots, WordsHeld, portCode, readCodes, throughCode, throughCodes, resultCodes, nodeCodes, AllOuts};
+ghost use Rattle.compiler.specs.Locating.{ReadsOf, Accepted, NodesAllocated, FunctionAllocated, AllocatedTo, readCount, outputCodes, Places, Slots, WordsHeld, portCode, readCodes, rebasedCode, rebasedCodes, resultCodes, nodeCodes, AllOuts};
 ghost use Rattle.base.specs.Lists.{span};
 ghost use Rattle.bytecode.specs.Run.{places, spans};
 ghost use Rattle.bytecode.specs.Code.{headerCode};
@@ -20,55 +22,29 @@ ghost use Rattle.sums.specs.Answers.{typesBy};
 ghost use Rattle.compiler.specs.Whole.{codeAt, Measured, answerOf, codeAfter};
 ghost use Rattle.lowering.specs.Answers.{compiled};
 ghost use Rattle.reader.specs.Layout.{outputCount, outputsPlace, kindAt, nodeAt, nodesAt, nodeEnd, nodesPlace, nodeCount};
-ghost use Rattle.sums.specs.Position.{placeOf, Starts, calling, NodeFit, AllFit};
+ghost use Rattle.sums.specs.Position.{placeOf, Starts, NodeFit, AllFit};
 ghost use Rattle.sums.specs.Capped.{wordsAt, addsWords};
-ghost use Rattle.compiler.specs.Emit.{copied, spotRoom, addressOf, addressesIn, nodeOpened, functionOpened, Room, Emits, AllLaid};
+ghost use Rattle.compiler.specs.Emit.{copied, addressOf, addressesIn, nodeInlined, functionInlined, Room, Emits, AllAllocated};
+use base::FUNCTION_LIMIT;
+use base::NODE_LIMIT;
+use base::NO_NODE;
+use base::OPERAND_LIMIT;
+use base::OPERATION_LIMIT;
+use base::PORT_LIMIT;
+use base::REFERENCE_LIMIT;
+use base::SLOT_LIMIT;
+use base::WORD_LIMIT;
+use base::padded_byte;
+use base::padded_u16;
+use base::put16;
+use base::wide;
+use base::wide16;
+use base::wide32;
 use checker::Verdict;
-use ports::Form;
 use ports::Ports;
 use reader::Found;
 
 // ---- numbers
-
-fn wide(x: u8) -> usize
-    ensures { λ r. ⌜ (r ≡ x) × (r < 256) ⌝ }
-{
-    x as usize
-}
-
-fn wide16(x: u16) -> usize
-    ensures { λ r. ⌜ (r ≡ x) × (r < 65536) ⌝ }
-{
-    x as usize
-}
-
-fn wide32(x: u32) -> usize
-    ensures { λ r. ⌜ (r ≡ x) × (r < 2 ^ 32) ⌝ }
-{
-    x as usize
-}
-
-// A byte of the table; behind its end 0.
-fn byte_at(t: &[u8], at: usize) -> u8
-    ensures { λ r. ⌜ r ≡ byte (now (t .entry)) at ⌝ }
-{
-    if at < t.len() { t[at] } else { 0 }
-}
-
-fn u16_at(t: &[u8], at: usize) -> usize
-    requires { ⌜ at < 2 ^ 32 ⌝ }
-    ensures { λ r. ⌜ (r ≡ u16 (now (t .entry)) at) × (r < 65536) ⌝ }
-{
-    wide(byte_at(t, at)) + wide(byte_at(t, at + 1)) * 256
-}
-
-fn put16(code: &mut [u8], at: usize, x: u16)
-    requires { ⌜ at + 2 ≤ length (now code) ⌝ }
-    ensures { λ _. ⌜ now (code .exit) ≡ sets (now (code .entry)) at (bytesOf 2 x) ⌝ }
-{
-    code[at] = (x % 256) as u8;
-    code[at + 1] = (x / 256 % 256) as u8;
-}
 
 // n bytes of the table.
 fn copy(t: &[u8], from: usize, n: usize, code: &mut [u8], at: usize)
@@ -84,29 +60,6 @@ fn copy(t: &[u8], from: usize, n: usize, code: &mut [u8], at: usize)
 
 // ---- nodes
 
-fn is_call(form: Form) -> bool
-    ensures { λ r. ⌜ r ≡ calling form ⌝ }
-{
-    match form {
-        Form::Absent => false,
-        Form::Constant => false,
-        Form::References => false,
-        Form::Call => true,
-    }
-}
-
-// The words of a kind's constant.
-fn constant_words(form: Form, words: u8) -> usize
-    ensures { λ r. ⌜ (r ≡ constantIn form words) × (r < 256) ⌝ }
-{
-    match form {
-        Form::Absent => 0,
-        Form::Constant => wide(words),
-        Form::References => 0,
-        Form::Call => 0,
-    }
-}
-
 // Where the references of a node begin, and how many there are.
 pub struct Reads {
     pub first: usize,
@@ -114,15 +67,15 @@ pub struct Reads {
 }
 
 fn reads_at(t: &[u8], p: usize) -> Reads
-    requires { ⌜ p < 65536 ⌝ }
+    requires { ⌜ NodeFit (now t) p ⌝ }
     ensures { λ r. ⌜ ReadsOf (now (t .entry)) p r ⌝ }
 {
-    let row = ports::ports_of(byte_at(t, p + 2));
+    let row = ports::ports_of(padded_byte(t, p + 2));
     let form = row.form;
-    if is_call(form) {
+    if ports::is_call(form) {
         Reads {
             first: p + 4 + 3,
-            count: wide(byte_at(t, p + 4 + 2)),
+            count: wide(padded_byte(t, p + 4 + 2)),
         }
     } else {
         Reads {
@@ -132,36 +85,45 @@ fn reads_at(t: &[u8], p: usize) -> Reads
     }
 }
 
+// ---- sizes of arrays; `specs/Sizes.antt` has the same
+
+// Nodes of all functions.
+const ORDER_LIMIT: usize = FUNCTION_LIMIT * NODE_LIMIT;
+// Ports of a function's nodes.
+const NODE_PORT_LIMIT: usize = NODE_LIMIT * PORT_LIMIT;
+// Outputs of all functions.
+const OUTPUT_LIMIT: usize = FUNCTION_LIMIT * PORT_LIMIT;
+
 // ---- instructions
 
-// The address of a spot.
-fn address(ins: &[u16; 8], first: usize, e: usize) -> u16
-    requires { ⌜ (first ≤ 8192) × (e < 65536) ⌝ }
+// The address of a location.
+fn address(ins: &[u16; PORT_LIMIT], first: usize, e: usize) -> u16
+    requires { ⌜ (first ≤ wordLimit) × (e < 65536) ⌝ }
     ensures { λ r. ⌜ r ≡ addressOf (now (ins .entry)) first e ⌝ }
 {
-    if e < 8 {
+    if e < PORT_LIMIT {
         ins[e]
     } else {
-        ((first + (e - 8)) % 65536) as u16
+        ((first + (e - PORT_LIMIT)) % 65536) as u16
     }
 }
 
 // The bytes of the addresses of n operands.
 fn operands(
-    spots: &[u16; 20166],
-    spot: usize,
+    locations: &[u16; REFERENCE_LIMIT],
+    cell: usize,
     n: usize,
-    ins: &[u16; 8],
+    ins: &[u16; PORT_LIMIT],
     first: usize,
     code: &mut [u8],
     at: usize,
 )
-    requires { ⌜ (first ≤ 8192) × (spot + n ≤ spotRoom) × (at + 2 * n ≤ length (now code)) ⌝ }
-    ensures { λ _. ⌜ now (code .exit) ≡ sets (now (code .entry)) at (allBytes 2 (addressesIn (now (spots .entry)) (now (ins .entry)) first spot n)) ⌝ }
+    requires { ⌜ (first ≤ wordLimit) × (cell + n ≤ referenceLimit) × (at + 2 * n ≤ length (now code)) ⌝ }
+    ensures { λ _. ⌜ now (code .exit) ≡ sets (now (code .entry)) at (allBytes 2 (addressesIn (now (locations .entry)) (now (ins .entry)) first cell n)) ⌝ }
 {
     let mut j = 0;
     while j < n {
-        let a = address(ins, first, wide16(spots[spot + j]));
+        let a = address(ins, first, wide16(locations[cell + j]));
         put16(code, at + 2 * j, a);
         j += 1;
     }
@@ -169,153 +131,164 @@ fn operands(
 
 // The addresses of n arguments.
 fn arguments(
-    spots: &[u16; 20166],
-    spot: usize,
+    locations: &[u16; REFERENCE_LIMIT],
+    cell: usize,
     n: usize,
-    ins: &[u16; 8],
+    ins: &[u16; PORT_LIMIT],
     first: usize,
-    args: &mut [u16; 8],
+    args: &mut [u16; PORT_LIMIT],
 )
-    requires { ⌜ (first ≤ 8192) × (spot + n ≤ spotRoom) × (n ≤ 8) ⌝ }
-    ensures { λ _. ⌜ now (args .exit) ≡ sets (now (args .entry)) 0 (addressesIn (now (spots .entry)) (now (ins .entry)) first spot n) ⌝ }
+    requires { ⌜ (first ≤ wordLimit) × (cell + n ≤ referenceLimit) × (n ≤ portLimit) ⌝ }
+    ensures { λ _. ⌜ now (args .exit) ≡ sets (now (args .entry)) 0 (addressesIn (now (locations .entry)) (now (ins .entry)) first cell n) ⌝ }
 {
     let mut j = 0;
     while j < n {
-        args[j] = address(ins, first, wide16(spots[spot + j]));
+        args[j] = address(ins, first, wide16(locations[cell + j]));
         j += 1;
     }
 }
 
-// The byte behind what was written, the next free word, and the spot behind those that were read.
+// The byte behind what was written, the next free word, and the location behind those that were read.
 pub struct Reached {
     pub at: usize,
     pub next: usize,
-    pub spot: usize,
+    pub cell: usize,
 }
 
 // The node at p, which is no call.
 fn emit_single(
     t: &[u8],
-    spots: &[u16; 20166],
+    locations: &[u16; REFERENCE_LIMIT],
     k: usize,
     p: usize,
-    spot: usize,
-    ins: &[u16; 8],
+    cell: usize,
+    ins: &[u16; PORT_LIMIT],
     first: usize,
     code: &mut [u8],
     at: usize,
     next: usize,
 ) -> Reached
     requires { ⌜ (p < 65536) × (calling (formOf (kindAt (now t) p)) ≡ false) × (nodeEnd (now t) p ≤ length (now t)) ⌝ }
-    requires { ⌜ (first ≤ 8192) × (spot + length (reads (nodeAt (now t) p)) ≤ spotRoom) ⌝ }
-    requires { ⌜ Room (now code) at (nodeOpened (now t) (now spots) k p spot (now ins) first next) ⌝ }
+    requires { ⌜ (first ≤ wordLimit) × (cell + length (reads (nodeAt (now t) p)) ≤ referenceLimit) ⌝ }
+    requires { ⌜ Room (now code) at (nodeInlined (now t) (now locations) k p cell (now ins) first next) ⌝ }
     ensures { λ r. ⌜ Emits (now (code .entry)) (now (code .exit)) at
-        (nodeOpened (now (t .entry)) (now (spots .entry)) k p spot (now (ins .entry)) first next) r ⌝ }
-    ensures { λ r. ⌜ r .spot ≡ spot + length (reads (nodeAt (now (t .entry)) p)) ⌝ }
+        (nodeInlined (now (t .entry)) (now (locations .entry)) k p cell (now (ins .entry)) first next) r ⌝ }
+    ensures { λ r. ⌜ r .cell ≡ cell + length (reads (nodeAt (now (t .entry)) p)) ⌝ }
 {
-    let kind = byte_at(t, p + 2);
-    let ty = byte_at(t, p + 3);
+    let kind = padded_byte(t, p + 2);
+    let ty = padded_byte(t, p + 3);
     let row = ports::ports_of(kind);
     let form = row.form;
     let n = wide(row.operands);
-    let m = 8 * constant_words(form, row.words);
+    let m = 8 * ports::constant_words(row);
     let w = ports::result_words(row, ty);
     code[at] = kind;
     code[at + 1] = ty;
-    operands(spots, spot, n, ins, first, code, at + 2);
+    operands(locations, cell, n, ins, first, code, at + 2);
     copy(t, p + 4, m, code, at + 2 + 2 * n);
     Reached {
         at: at + 2 + 2 * n + m,
         next: next + w,
-        spot: spot + n,
+        cell: cell + n,
     }
 }
 
 // The node at p of the function at position k, whose results begin at `first`.
 fn emit_node(
     t: &[u8],
-    starts: &[u16; 16],
-    begins: &[u16; 16],
-    order: &[u16; 4096],
-    spots: &[u16; 20166],
+    starts: &[u16; FUNCTION_LIMIT],
+    begins: &[u16; FUNCTION_LIMIT],
+    order: &[u16; ORDER_LIMIT],
+    locations: &[u16; REFERENCE_LIMIT],
     k: usize,
     p: usize,
-    spot: usize,
-    ins: &[u16; 8],
+    cell: usize,
+    ins: &[u16; PORT_LIMIT],
     first: usize,
     code: &mut [u8],
     at: usize,
     next: usize,
 ) -> Reached
-    requires { ⌜ (k < 16) × Starts (now t) (now starts) k × NodeFit (now t) p ⌝ }
-    requires { ⌜ (first ≤ 8192) × (spot + length (reads (nodeAt (now t) p)) ≤ spotRoom) ⌝ }
-    requires { ⌜ AllLaid (now t) (now begins) (now order) (now spots) k ⌝ }
-    requires { ⌜ Room (now code) at (nodeOpened (now t) (now spots) k p spot (now ins) first next) ⌝ }
+    requires { ⌜ (k < functionLimit) × Starts (now t) (now starts) k × NodeFit (now t) p ⌝ }
+    requires { ⌜ (first ≤ wordLimit) × (cell + length (reads (nodeAt (now t) p)) ≤ referenceLimit) ⌝ }
+    requires { ⌜ AllAllocated (now t) (now begins) (now order) (now locations) k ⌝ }
+    requires { ⌜ Room (now code) at (nodeInlined (now t) (now locations) k p cell (now ins) first next) ⌝ }
     ensures { λ r. ⌜ Emits (now (code .entry)) (now (code .exit)) at
-        (nodeOpened (now (t .entry)) (now (spots .entry)) k p spot (now (ins .entry)) first next) r ⌝ }
-    ensures { λ r. ⌜ r .spot ≡ spot + length (reads (nodeAt (now (t .entry)) p)) ⌝ }
+        (nodeInlined (now (t .entry)) (now (locations .entry)) k p cell (now (ins .entry)) first next) r ⌝ }
+    ensures { λ r. ⌜ r .cell ≡ cell + length (reads (nodeAt (now (t .entry)) p)) ⌝ }
 {
-    let row = ports::ports_of(byte_at(t, p + 2));
+    let row = ports::ports_of(padded_byte(t, p + 2));
     let form = row.form;
-    if is_call(form) {
-        let n = wide(byte_at(t, p + 4 + 2));
-        let c = u16_at(t, p + 4);
-        let mut args = [0u16; 8];
-        arguments(spots, spot, n, ins, first, &mut args);
+    if ports::is_call(form) {
+        let n = wide(padded_byte(t, p + 4 + 2));
+        let c = padded_u16(t, p + 4);
+        let mut args = [0u16; PORT_LIMIT];
+        arguments(locations, cell, n, ins, first, &mut args);
         let g = sums::position_of(t, starts, k, c);
         if g < k {
-            let r = emit(t, starts, begins, order, spots, g, &args, code, at, next);
+            let r = emit(
+                t,
+                starts,
+                begins,
+                order,
+                locations,
+                g,
+                &args,
+                code,
+                at,
+                next,
+            );
             Reached {
                 at: r.at,
                 next: r.next,
-                spot: spot + n,
+                cell: cell + n,
             }
         } else {
             Reached {
                 at,
                 next,
-                spot: spot + n,
+                cell: cell + n,
             }
         }
     } else {
-        emit_single(t, spots, k, p, spot, ins, first, code, at, next)
+        emit_single(t, locations, k, p, cell, ins, first, code, at, next)
     }
 }
 
 // The function at position k, with the addresses of its arguments.
 fn emit(
     t: &[u8],
-    starts: &[u16; 16],
-    begins: &[u16; 16],
-    order: &[u16; 4096],
-    spots: &[u16; 20166],
+    starts: &[u16; FUNCTION_LIMIT],
+    begins: &[u16; FUNCTION_LIMIT],
+    order: &[u16; ORDER_LIMIT],
+    locations: &[u16; REFERENCE_LIMIT],
     k: usize,
-    ins: &[u16; 8],
+    ins: &[u16; PORT_LIMIT],
     code: &mut [u8],
     at: usize,
     next: usize,
 ) -> Reached
-    requires { ⌜ (k < 16) × Starts (now t) (now starts) (suc k) ⌝ }
-    requires { ⌜ AllLaid (now t) (now begins) (now order) (now spots) (suc k) ⌝ }
-    requires { ⌜ Room (now code) at (functionOpened (now t) k (now ins) next) ⌝ }
-    ensures { λ r. ⌜ Emits (now (code .entry)) (now (code .exit)) at (functionOpened (now (t .entry)) k (now (ins .entry)) next) r ⌝ }
+    requires { ⌜ (k < functionLimit) × Starts (now t) (now starts) (suc k) ⌝ }
+    requires { ⌜ AllAllocated (now t) (now begins) (now order) (now locations) (suc k) ⌝ }
+    requires { ⌜ Room (now code) at (functionInlined (now t) k (now ins) next) ⌝ }
+    ensures { λ r. ⌜ Emits (now (code .entry)) (now (code .exit)) at (functionInlined (now (t .entry)) k (now (ins .entry)) next) r ⌝ }
 {
-    let n = u16_at(t, wide16(starts[k]) + 4);
-    let mut spot = wide16(begins[k]);
+    let n = padded_u16(t, wide16(starts[k]) + 4);
+    let mut cell = wide16(begins[k]);
     let mut here = at;
     let mut word = next;
     let mut i = 0;
     while i < n {
-        let p = wide16(order[256 * k + i]);
+        let p = wide16(order[NODE_LIMIT * k + i]);
         let r = emit_node(
             t,
             starts,
             begins,
             order,
-            spots,
+            locations,
             k,
             p,
-            spot,
+            cell,
             ins,
             next,
             code,
@@ -324,13 +297,13 @@ fn emit(
         );
         here = r.at;
         word = r.next;
-        spot = r.spot;
+        cell = r.cell;
         i += 1;
     }
     Reached {
         at: here,
         next: word,
-        spot,
+        cell,
     }
 }
 
@@ -338,12 +311,12 @@ fn emit(
 
 // The index of the node that the reference at q reads, or `NO_NODE` for an input.
 fn target(t: &[u8], at: usize, n: usize, q: usize) -> u16
-    requires { ⌜ (n ≤ 256) × (q < 2 ^ 31) × ReadsNodes n (now t) at ⌝ }
+    requires { ⌜ (n ≤ nodeLimit) × (q < 2 ^ 31) × ReadsNodes n (now t) at ⌝ }
     ensures { λ r. ⌜ r ≡ Resolve.target (nodesAt n (now (t .entry)) at) (some (reference (now (t .entry)) q)) ⌝ }
 {
-    let id = u16_at(t, q);
+    let id = padded_u16(t, q);
     if id == 0 {
-        return base::NO_NODE;
+        return NO_NODE;
     }
     let found = reader::find_node(t, at, n, id);
     match found {
@@ -352,232 +325,251 @@ fn target(t: &[u8], at: usize, n: usize, q: usize) -> u16
     }
 }
 
-// The spot of a port of the node with the index v; a larger one stands for the inputs.
-fn spot_of(laid: &[u16; 2048], v: usize, port: usize) -> u16
-    ensures { λ r. ⌜ r ≡ portCode (now (laid .entry)) v port ⌝ }
+// The location of a port of the node with the index v, or of the inputs.
+fn location_of(allocated: &[u16; NODE_PORT_LIMIT], v: usize, port: usize) -> u16
+    ensures { λ r. ⌜ r ≡ portCode (now (allocated .entry)) v port ⌝ }
 {
-    if 8 <= port {
+    if PORT_LIMIT <= port {
         return 0;
     }
-    if v < 256 {
-        laid[8 * v + port]
+    if v < NODE_LIMIT {
+        allocated[PORT_LIMIT * v + port]
     } else {
         port as u16
     }
 }
 
-// The spots of n references, the first at q, of the i-th node.
-fn lay_reads(
+// The locations of n references, the first at q, of the i-th node.
+fn allocate_reads(
     t: &[u8],
-    targets: &[u16; 4096],
-    laid: &[u16; 2048],
+    targets: &[u16; SLOT_LIMIT],
+    allocated: &[u16; NODE_PORT_LIMIT],
     i: usize,
     first: usize,
     n: usize,
-    spots: &mut [u16; 20166],
-    spot: usize,
+    locations: &mut [u16; REFERENCE_LIMIT],
+    cell: usize,
 )
-    requires { ⌜ (i < 256) × (n ≤ 16) × (first < 2 ^ 20) × (spot + n ≤ spotRoom) ⌝ }
-    ensures { λ _. ⌜ now (spots .exit) ≡ sets (now (spots .entry)) spot
-        (readCodes (now (t .entry)) (now (targets .entry)) (now (laid .entry)) (16 * i) n first) ⌝ }
+    requires { ⌜ (i < nodeLimit) × (n ≤ operandLimit) × (first < 2 ^ 20) × (cell + n ≤ referenceLimit) ⌝ }
+    ensures { λ _. ⌜ now (locations .exit) ≡ sets (now (locations .entry)) cell
+        (readCodes (now (t .entry)) (now (targets .entry)) (now (allocated .entry)) (operandLimit * i) n first) ⌝ }
 {
     let mut q = first;
     let mut j = 0;
     while j < n {
-        let v = wide16(targets[16 * i + j]);
-        let port = wide(byte_at(t, q + 2));
-        spots[spot + j] = spot_of(laid, v, port);
+        let v = wide16(targets[OPERAND_LIMIT * i + j]);
+        let port = wide(padded_byte(t, q + 2));
+        locations[cell + j] = location_of(allocated, v, port);
         q += 3;
         j += 1;
     }
 }
 
-// A callee's spot seen from its caller.
-fn through(spots: &[u16; 20166], spot: usize, n: usize, d: usize, e: usize) -> u16
-    requires { ⌜ (spot + n ≤ spotRoom) × (d ≤ 8192) × (e < 65536) ⌝ }
-    ensures { λ r. ⌜ r ≡ throughCode (now (spots .entry)) spot n d e ⌝ }
+// A callee's location seen from its caller.
+fn rebase(locations: &[u16; REFERENCE_LIMIT], cell: usize, n: usize, d: usize, e: usize) -> u16
+    requires { ⌜ (cell + n ≤ referenceLimit) × (d ≤ wordLimit) × (e < 65536) ⌝ }
+    ensures { λ r. ⌜ r ≡ rebasedCode (now (locations .entry)) cell n d e ⌝ }
 {
-    if e < 8 {
-        if e < n { spots[spot + e] } else { 0 }
+    if e < PORT_LIMIT {
+        if e < n { locations[cell + e] } else { 0 }
     } else {
         ((e + d) % 65536) as u16
     }
 }
 
 // The ports of the i-th node, which calls the function at position g.
-fn lay_call(
-    outs: &[u16; 128],
+fn allocate_call(
+    outs: &[u16; OUTPUT_LIMIT],
     g: usize,
     count: usize,
-    spots: &[u16; 20166],
-    spot: usize,
+    locations: &[u16; REFERENCE_LIMIT],
+    cell: usize,
     n: usize,
-    laid: &mut [u16; 2048],
+    allocated: &mut [u16; NODE_PORT_LIMIT],
     i: usize,
     d: usize,
 )
-    requires { ⌜ (g < 16) × (count ≤ 8) × (spot + n ≤ spotRoom) × (i < 256) × (d ≤ 8192) ⌝ }
-    ensures { λ _. ⌜ now (laid .exit) ≡ sets (now (laid .entry)) (8 * i) (throughCodes (now (outs .entry)) (now (spots .entry)) spot n d (8 * g) count) ⌝ }
+    requires { ⌜ (g < functionLimit) × (count ≤ portLimit) × (cell + n ≤ referenceLimit) × (i < nodeLimit) × (d ≤ wordLimit) ⌝ }
+    ensures { λ _. ⌜ now (allocated .exit) ≡ sets (now (allocated .entry)) (portLimit * i) (rebasedCodes (now (outs .entry)) (now (locations .entry)) cell n d (portLimit * g) count) ⌝ }
 {
     let mut q = 0;
     while q < count {
-        let e = wide16(outs[8 * g + q]);
-        laid[8 * i + q] = through(spots, spot, n, d, e);
+        let e = wide16(outs[PORT_LIMIT * g + q]);
+        allocated[PORT_LIMIT * i + q] = rebase(locations, cell, n, d, e);
         q += 1;
     }
 }
 
 // The ports of the i-th node: results of the same width.
-fn lay_results(laid: &mut [u16; 2048], i: usize, d: usize, count: usize, width: usize)
-    requires { ⌜ (i < 256) × (d ≤ 8192) × (count ≤ 8) × (width ≤ 16) ⌝ }
-    ensures { λ _. ⌜ now (laid .exit) ≡ sets (now (laid .entry)) (8 * i) (resultCodes (8 + d) width count) ⌝ }
+fn allocate_results(
+    allocated: &mut [u16; NODE_PORT_LIMIT],
+    i: usize,
+    d: usize,
+    count: usize,
+    width: usize,
+)
+    requires { ⌜ (i < nodeLimit) × (d ≤ wordLimit) × (count ≤ portLimit) × (width ≤ valueLimit) ⌝ }
+    ensures { λ _. ⌜ now (allocated .exit) ≡ sets (now (allocated .entry)) (portLimit * i) (resultCodes (portLimit + d) width count) ⌝ }
 {
-    let mut e = 8 + d;
+    let mut e = PORT_LIMIT + d;
     let mut q = 0;
     while q < count {
-        laid[8 * i + q] = e as u16;
+        allocated[PORT_LIMIT * i + q] = e as u16;
         e += width;
         q += 1;
     }
 }
 
 // The ports of the i-th node, which stands at p; the answer is the offset behind its results.
-fn lay_node(
+fn allocate_node(
     t: &[u8],
-    starts: &[u16; 16],
-    words: &[u32; 16],
-    outs: &[u16; 128],
-    spots: &[u16; 20166],
+    starts: &[u16; FUNCTION_LIMIT],
+    words: &[u32; FUNCTION_LIMIT],
+    outs: &[u16; OUTPUT_LIMIT],
+    locations: &[u16; REFERENCE_LIMIT],
     k: usize,
     i: usize,
     p: usize,
-    spot: usize,
+    cell: usize,
     n: usize,
-    laid: &mut [u16; 2048],
+    allocated: &mut [u16; NODE_PORT_LIMIT],
     d: usize,
 ) -> usize
-    requires { ⌜ (k ≤ 16) × (i < 256) × NodeFit (now t) p × Starts (now t) (now starts) k × WordsHeld (now t) (now words) k ⌝ }
-    requires { ⌜ AllFit (now t) k × AllOuts (now t) (now outs) k × (spot + n ≤ spotRoom) × (n ≡ length (reads (nodeAt (now t) p))) ⌝ }
-    requires { ⌜ d + addsWords (now t) k (nodeAt (now t) p) ≤ 8192 ⌝ }
-    ensures { λ r. ⌜ now (laid .exit) ≡ sets (now (laid .entry)) (8 * i) (nodeCodes (now (t .entry)) (now (outs .entry)) (now (spots .entry)) k p spot d) ⌝ }
+    requires { ⌜ (k ≤ functionLimit) × (i < nodeLimit) × NodeFit (now t) p × Starts (now t) (now starts) k × WordsHeld (now t) (now words) k ⌝ }
+    requires { ⌜ AllFit (now t) k × AllOuts (now t) (now outs) k × (cell + n ≤ referenceLimit) × (n ≡ length (reads (nodeAt (now t) p))) ⌝ }
+    requires { ⌜ d + addsWords (now t) k (nodeAt (now t) p) ≤ wordLimit ⌝ }
+    ensures { λ r. ⌜ now (allocated .exit) ≡ sets (now (allocated .entry)) (portLimit * i) (nodeCodes (now (t .entry)) (now (outs .entry)) (now (locations .entry)) k p cell d) ⌝ }
     ensures { λ r. ⌜ r ≡ d + addsWords (now (t .entry)) k (nodeAt (now (t .entry)) p) ⌝ }
 {
-    let row = ports::ports_of(byte_at(t, p + 2));
+    let row = ports::ports_of(padded_byte(t, p + 2));
     let form = row.form;
-    if is_call(form) {
-        let c = u16_at(t, p + 4);
+    if ports::is_call(form) {
+        let c = padded_u16(t, p + 4);
         let g = sums::position_of(t, starts, k, c);
         if g < k {
-            let count = wide(byte_at(t, wide16(starts[g]) + 3));
+            let count = wide(padded_byte(t, wide16(starts[g]) + 3));
             let w = wide32(words[g]);
-            lay_call(outs, g, count, spots, spot, n, laid, i, d);
+            allocate_call(outs, g, count, locations, cell, n, allocated, i, d);
             d + w
         } else {
             d
         }
     } else {
-        let ty = byte_at(t, p + 3);
+        let ty = padded_byte(t, p + 3);
         let w = ports::width(ports::own(ty, row.result));
         let count = wide(row.results);
         let all = ports::result_words(row, ty);
-        lay_results(laid, i, d, count, w);
+        allocate_results(allocated, i, d, count, w);
         d + all
     }
 }
 
-// The nodes of the function at position k in their order; the answer is the place behind their spots.
-fn lay_nodes(
+// The nodes of the function at position k in their order; the answer is the place behind their locations.
+fn allocate_nodes(
     t: &[u8],
-    starts: &[u16; 16],
-    words: &[u32; 16],
-    outs: &[u16; 128],
-    targets: &[u16; 4096],
-    places: &[u32; 256],
-    index: &[u16; 256],
+    starts: &[u16; FUNCTION_LIMIT],
+    words: &[u32; FUNCTION_LIMIT],
+    outs: &[u16; OUTPUT_LIMIT],
+    targets: &[u16; SLOT_LIMIT],
+    places: &[u32; NODE_LIMIT],
+    index: &[u16; NODE_LIMIT],
     k: usize,
     n: usize,
-    order: &mut [u16; 4096],
-    spots: &mut [u16; 20166],
-    laid: &mut [u16; 2048],
-    spot: usize,
+    order: &mut [u16; ORDER_LIMIT],
+    locations: &mut [u16; REFERENCE_LIMIT],
+    allocated: &mut [u16; NODE_PORT_LIMIT],
+    cell: usize,
 ) -> usize
-    requires { ⌜ Accepted (now t) (suc k) × (n ≡ nodeCount (now t) (placeOf (now t) k)) × (wordsAt (now t) k ≤ 8192) × (spot + readCount (now t) k ≤ spotRoom) ⌝ }
+    requires { ⌜ Accepted (now t) (suc k) × (n ≡ nodeCount (now t) (placeOf (now t) k)) × (wordsAt (now t) k ≤ wordLimit) × (cell + readCount (now t) k ≤ referenceLimit) ⌝ }
     requires { ⌜ Starts (now t) (now starts) k × WordsHeld (now t) (now words) k × AllOuts (now t) (now outs) k ⌝ }
     requires { ⌜ Slots (now t) (nodesPlace (now t) (placeOf (now t) k)) n (now targets) × Places (now t) (nodesPlace (now t) (placeOf (now t) k)) (now places) n
-        × (now index ≡ sets (replicate 256 0) 0 (indexOrder (now targets) n)) ⌝ }
-    requires { ⌜ (length (now order) ≡ 4096) × (length (now spots) ≡ spotRoom) × (length (now laid) ≡ 2048) ⌝ }
-    ensures { λ r. ⌜ NodesLaid (now (t .entry)) k spot (now (order .entry)) (now (order .exit)) (now (spots .entry)) (now (spots .exit)) (now (laid .exit)) r ⌝ }
+        × (now index ≡ sets (replicate nodeLimit 0) 0 (indexOrder (now targets) n)) ⌝ }
+    requires { ⌜ (length (now order) ≡ orderLimit) × (length (now locations) ≡ referenceLimit) × (length (now allocated) ≡ nodePortLimit) ⌝ }
+    ensures { λ r. ⌜ NodesAllocated (now (t .entry)) k cell (now (order .entry)) (now (order .exit)) (now (locations .entry)) (now (locations .exit)) (now (allocated .exit)) r ⌝ }
 {
-    let mut here = spot;
+    let mut here = cell;
     let mut d = 0;
     let mut m = 0;
     while m < n {
         let i = wide16(index[m]);
         let p = wide32(places[i]);
-        order[256 * k + m] = p as u16;
+        order[NODE_LIMIT * k + m] = p as u16;
         let r = reads_at(t, p);
         let count = r.count;
-        lay_reads(t, targets, laid, i, r.first, count, spots, here);
-        d = lay_node(t, starts, words, outs, spots, k, i, p, here, count, laid, d);
+        allocate_reads(t, targets, allocated, i, r.first, count, locations, here);
+        d = allocate_node(
+            t,
+            starts,
+            words,
+            outs,
+            locations,
+            k,
+            i,
+            p,
+            here,
+            count,
+            allocated,
+            d,
+        );
         here += count;
         m += 1;
     }
     here
 }
 
-// The spots of the outputs of the function at p, the k-th, whose n nodes begin at `at`.
-fn lay_outputs(
+// The locations of the outputs of the function at p, the k-th, whose n nodes begin at `at`.
+fn allocate_outputs(
     t: &[u8],
     p: usize,
     at: usize,
     n: usize,
-    laid: &[u16; 2048],
+    allocated: &[u16; NODE_PORT_LIMIT],
     k: usize,
-    outs: &mut [u16; 128],
+    outs: &mut [u16; OUTPUT_LIMIT],
 )
-    requires { ⌜ (k < 16) × (p < 65536) × (outputCount (now t) p ≤ 8) × (n ≤ 256) × ReadsNodes n (now t) at ⌝ }
-    ensures { λ _. ⌜ now (outs .exit) ≡ sets (now (outs .entry)) (8 * k)
-        (outputCodes (now (t .entry)) (now (laid .entry)) (nodesAt n (now (t .entry)) at) (outputCount (now (t .entry)) p) (outputsPlace (now (t .entry)) p)) ⌝ }
+    requires { ⌜ (k < functionLimit) × (p < 65536) × (outputCount (now t) p ≤ portLimit) × (n ≤ nodeLimit) × ReadsNodes n (now t) at ⌝ }
+    ensures { λ _. ⌜ now (outs .exit) ≡ sets (now (outs .entry)) (portLimit * k)
+        (outputCodes (now (t .entry)) (now (allocated .entry)) (nodesAt n (now (t .entry)) at) (outputCount (now (t .entry)) p) (outputsPlace (now (t .entry)) p)) ⌝ }
 {
-    let count = wide(byte_at(t, p + 3));
-    let mut q = p + 6 + wide(byte_at(t, p + 2));
+    let count = wide(padded_byte(t, p + 3));
+    let mut q = p + 6 + wide(padded_byte(t, p + 2));
     let mut j = 0;
     while j < count {
         let v = wide16(target(t, at, n, q + 1));
-        let port = wide(byte_at(t, q + 1 + 2));
-        outs[8 * k + j] = spot_of(laid, v, port);
+        let port = wide(padded_byte(t, q + 1 + 2));
+        outs[PORT_LIMIT * k + j] = location_of(allocated, v, port);
         q += 4;
         j += 1;
     }
 }
 
-// The function at position k; the answer is the place behind its spots.
-fn lay_function(
+// The function at position k; the answer is the place behind its locations.
+fn allocate_function(
     t: &[u8],
-    starts: &[u16; 16],
-    words: &[u32; 16],
+    starts: &[u16; FUNCTION_LIMIT],
+    words: &[u32; FUNCTION_LIMIT],
     k: usize,
-    outs: &mut [u16; 128],
-    order: &mut [u16; 4096],
-    spots: &mut [u16; 20166],
-    spot: usize,
+    outs: &mut [u16; OUTPUT_LIMIT],
+    order: &mut [u16; ORDER_LIMIT],
+    locations: &mut [u16; REFERENCE_LIMIT],
+    cell: usize,
 ) -> usize
-    requires { ⌜ Accepted (now t) (suc k) × (wordsAt (now t) k ≤ 8192) × (spot + readCount (now t) k ≤ spotRoom) ⌝ }
+    requires { ⌜ Accepted (now t) (suc k) × (wordsAt (now t) k ≤ wordLimit) × (cell + readCount (now t) k ≤ referenceLimit) ⌝ }
     requires { ⌜ Starts (now t) (now starts) (suc k) × WordsHeld (now t) (now words) k × AllOuts (now t) (now outs) k ⌝ }
-    requires { ⌜ (length (now outs) ≡ 128) × (length (now order) ≡ 4096) × (length (now spots) ≡ spotRoom) ⌝ }
-    ensures { λ r. ⌜ FunctionLaid (now (t .entry)) k spot (now (order .entry)) (now (order .exit)) (now (spots .entry)) (now (spots .exit)) (now (outs .entry)) (now (outs .exit)) r ⌝ }
+    requires { ⌜ (length (now outs) ≡ outputLimit) × (length (now order) ≡ orderLimit) × (length (now locations) ≡ referenceLimit) ⌝ }
+    ensures { λ r. ⌜ FunctionAllocated (now (t .entry)) k cell (now (order .entry)) (now (order .exit)) (now (locations .entry)) (now (locations .exit)) (now (outs .entry)) (now (outs .exit)) r ⌝ }
 {
     let p = wide16(starts[k]);
-    let n = u16_at(t, p + 4);
+    let n = padded_u16(t, p + 4);
     let at = sums::nodes_place(t, p);
-    let mut places = [0u32; 256];
-    let mut targets = [0u16; 4096];
-    let mut index = [0u16; 256];
-    let mut laid = [0u16; 2048];
+    let mut places = [0u32; NODE_LIMIT];
+    let mut targets = [0u16; SLOT_LIMIT];
+    let mut index = [0u16; NODE_LIMIT];
+    let mut allocated = [0u16; NODE_PORT_LIMIT];
     resolver::places(t, at, n, &mut places);
     resolver::resolve(t, at, n, &mut targets);
     order::schedule(&targets, n, &mut index);
-    let end = lay_nodes(
+    let end = allocate_nodes(
         t,
         starts,
         words,
@@ -588,60 +580,60 @@ fn lay_function(
         k,
         n,
         order,
-        spots,
-        &mut laid,
-        spot,
+        locations,
+        &mut allocated,
+        cell,
     );
-    lay_outputs(t, p, at, n, &laid, k, outs);
+    allocate_outputs(t, p, at, n, &allocated, k, outs);
     end
 }
 
-// The function at position j, where it is within the word limit; the answer is the place behind all spots.
-fn lay_next(
+// The function at position j, where it is within the word limit; the answer is the place behind all locations.
+fn allocate_next(
     t: &[u8],
-    starts: &[u16; 16],
-    words: &[u32; 16],
+    starts: &[u16; FUNCTION_LIMIT],
+    words: &[u32; FUNCTION_LIMIT],
     j: usize,
-    outs: &mut [u16; 128],
-    order: &mut [u16; 4096],
-    spots: &mut [u16; 20166],
-    begins: &mut [u16; 16],
-    spot: usize,
+    outs: &mut [u16; OUTPUT_LIMIT],
+    order: &mut [u16; ORDER_LIMIT],
+    locations: &mut [u16; REFERENCE_LIMIT],
+    begins: &mut [u16; FUNCTION_LIMIT],
+    cell: usize,
 ) -> usize
     requires { ⌜ Accepted (now t) (suc j) × Starts (now t) (now starts) (suc j) × WordsHeld (now t) (now words) (suc j) ⌝ }
-    requires { ⌜ LaidTo (now t) j (now outs) (now order) (now spots) (now begins) spot ⌝ }
-    ensures { λ r. ⌜ LaidTo (now (t .entry)) (suc j) (now (outs .exit)) (now (order .exit)) (now (spots .exit)) (now (begins .exit)) r ⌝ }
+    requires { ⌜ AllocatedTo (now t) j (now outs) (now order) (now locations) (now begins) cell ⌝ }
+    ensures { λ r. ⌜ AllocatedTo (now (t .entry)) (suc j) (now (outs .exit)) (now (order .exit)) (now (locations .exit)) (now (begins .exit)) r ⌝ }
 {
     let w = wide32(words[j]);
-    if 8192 < w {
-        return spot;
+    if WORD_LIMIT < w {
+        return cell;
     }
-    begins[j] = spot as u16;
-    lay_function(t, starts, words, j, outs, order, spots, spot)
+    begins[j] = cell as u16;
+    allocate_function(t, starts, words, j, outs, order, locations, cell)
 }
 
-// The functions before k that are within the word limit; the answer is the place behind all spots.
-fn lay_functions(
+// The functions before k that are within the word limit; the answer is the place behind all locations.
+fn allocate_functions(
     t: &[u8],
-    starts: &[u16; 16],
-    words: &[u32; 16],
+    starts: &[u16; FUNCTION_LIMIT],
+    words: &[u32; FUNCTION_LIMIT],
     k: usize,
-    outs: &mut [u16; 128],
-    order: &mut [u16; 4096],
-    spots: &mut [u16; 20166],
-    begins: &mut [u16; 16],
+    outs: &mut [u16; OUTPUT_LIMIT],
+    order: &mut [u16; ORDER_LIMIT],
+    locations: &mut [u16; REFERENCE_LIMIT],
+    begins: &mut [u16; FUNCTION_LIMIT],
 ) -> usize
     requires { ⌜ Accepted (now t) k × Starts (now t) (now starts) k × WordsHeld (now t) (now words) k ⌝ }
-    requires { ⌜ (length (now outs) ≡ 128) × (length (now order) ≡ 4096) × (length (now spots) ≡ spotRoom) × (length (now begins) ≡ 16) ⌝ }
-    ensures { λ r. ⌜ LaidTo (now (t .entry)) k (now (outs .exit)) (now (order .exit)) (now (spots .exit)) (now (begins .exit)) r ⌝ }
+    requires { ⌜ (length (now outs) ≡ outputLimit) × (length (now order) ≡ orderLimit) × (length (now locations) ≡ referenceLimit) × (length (now begins) ≡ functionLimit) ⌝ }
+    ensures { λ r. ⌜ AllocatedTo (now (t .entry)) k (now (outs .exit)) (now (order .exit)) (now (locations .exit)) (now (begins .exit)) r ⌝ }
 {
-    let mut spot = 0;
+    let mut cell = 0;
     let mut j = 0;
     while j < k {
-        spot = lay_next(t, starts, words, j, outs, order, spots, begins, spot);
+        cell = allocate_next(t, starts, words, j, outs, order, locations, begins, cell);
         j += 1;
     }
-    spot
+    cell
 }
 
 // ---- the whole
@@ -653,8 +645,8 @@ pub enum Compiled {
 }
 
 // The addresses of n arguments, by their type bytes.
-fn input_places(t: &[u8], at: usize, n: usize, ins: &mut [u16; 8])
-    requires { ⌜ (at < 2 ^ 20) × (n ≤ 8) ⌝ }
+fn input_places(t: &[u8], at: usize, n: usize, ins: &mut [u16; PORT_LIMIT])
+    requires { ⌜ (at < 2 ^ 20) × (n ≤ portLimit) ⌝ }
     ensures { λ _. ⌜ now (ins .exit) ≡ sets (now (ins .entry)) 0 (places 0 (typesBy 1 n (now (t .entry)) at)) ⌝ }
 {
     let mut q = at;
@@ -662,7 +654,7 @@ fn input_places(t: &[u8], at: usize, n: usize, ins: &mut [u16; 8])
     let mut j = 0;
     while j < n {
         ins[j] = w as u16;
-        w += ports::width(byte_at(t, q));
+        w += ports::width(padded_byte(t, q));
         q += 1;
         j += 1;
     }
@@ -685,25 +677,25 @@ fn put_outputs(
     t: &[u8],
     entries: usize,
     n: usize,
-    outs: &[u16; 128],
+    outs: &[u16; OUTPUT_LIMIT],
     k: usize,
-    ins: &[u16; 8],
+    ins: &[u16; PORT_LIMIT],
     first: usize,
     code: &mut [u8],
     at: usize,
 )
-    requires { ⌜ (entries < 2 ^ 20) × (n ≤ 8) × (k < 16) × (first ≤ 8192) × ((j : ℕ) → j < n → addressOf (now ins) first (getD (now outs) (8 * k + j) 0) ≤ 16384) ⌝ }
+    requires { ⌜ (entries < 2 ^ 20) × (n ≤ portLimit) × (k < functionLimit) × (first ≤ wordLimit) × ((j : ℕ) → j < n → addressOf (now ins) first (getD (now outs) (portLimit * k + j) 0) ≤ 2 * wordLimit) ⌝ }
     requires { ⌜ at + 2 * widths (typesBy 4 n (now t) entries) ≤ length (now code) ⌝ }
     ensures { λ _. ⌜ now (code .exit) ≡ sets (now (code .entry)) at
-        (allBytes 2 (spans (typesBy 4 n (now (t .entry)) entries) (addressesIn (now (outs .entry)) (now (ins .entry)) first (8 * k) n))) ⌝ }
+        (allBytes 2 (spans (typesBy 4 n (now (t .entry)) entries) (addressesIn (now (outs .entry)) (now (ins .entry)) first (portLimit * k) n))) ⌝ }
 {
     let mut q = entries;
     let mut here = at;
     let mut j = 0;
     while j < n {
-        let e = wide16(outs[8 * k + j]);
+        let e = wide16(outs[PORT_LIMIT * k + j]);
         let a = wide16(address(ins, first, e));
-        let w = ports::width(byte_at(t, q));
+        let w = ports::width(padded_byte(t, q));
         put_span(code, here, a, w);
         here += 2 * w;
         q += 4;
@@ -730,8 +722,8 @@ fn put_header(code: &mut [u8], arguments: u8, outputs: u8, count: u16, words: u1
 // The whole code of the function at position k.
 fn write_list(
     t: &[u8],
-    starts: &[u16; 16],
-    words: &[u32; 16],
+    starts: &[u16; FUNCTION_LIMIT],
+    words: &[u32; FUNCTION_LIMIT],
     k: usize,
     count: usize,
     inputs: usize,
@@ -743,34 +735,34 @@ fn write_list(
     ensures { λ _. ⌜ now (code .exit) ≡ sets (now (code .entry)) 0 (codeAt (now (t .entry)) k) ⌝ }
 {
     let p = wide16(starts[k]);
-    let nin = wide(byte_at(t, p + 2));
-    let nout = wide(byte_at(t, p + 3));
+    let nin = wide(padded_byte(t, p + 2));
+    let nout = wide(padded_byte(t, p + 3));
     let all = inputs + wide32(words[k]);
-    let mut order = [0u16; 4096];
-    let mut spots = [0u16; 20166];
-    let mut outs = [0u16; 128];
-    let mut begins = [0u16; 16];
-    let mut ins = [0u16; 8];
-    let spot = lay_functions(
+    let mut order = [0u16; ORDER_LIMIT];
+    let mut locations = [0u16; REFERENCE_LIMIT];
+    let mut outs = [0u16; OUTPUT_LIMIT];
+    let mut begins = [0u16; FUNCTION_LIMIT];
+    let mut ins = [0u16; PORT_LIMIT];
+    let cell = allocate_functions(
         t,
         starts,
         words,
         k,
         &mut outs,
         &mut order,
-        &mut spots,
+        &mut locations,
         &mut begins,
     );
-    lay_next(
+    allocate_next(
         t,
         starts,
         words,
         k,
         &mut outs,
         &mut order,
-        &mut spots,
+        &mut locations,
         &mut begins,
-        spot,
+        cell,
     );
     input_places(t, p + 6, nin, &mut ins);
     put_header(code, inputs as u8, outputs as u8, count as u16, all as u16);
@@ -779,7 +771,7 @@ fn write_list(
         starts,
         &begins,
         &order,
-        &spots,
+        &locations,
         k,
         &ins,
         code,
@@ -795,16 +787,16 @@ fn compile_accepted(t: &[u8], functions: usize, id: u16, code: &mut [u8]) -> Com
     ensures { λ r. ⌜ r ≡ answerOf (compiled (now (t .entry)) id (now (code .entry))) ⌝ }
     ensures { λ r. ⌜ now (code .exit) ≡ codeAfter (now (code .entry)) (compiled (now (t .entry)) id (now (code .entry))) ⌝ }
 {
-    let mut starts = [0u16; 16];
+    let mut starts = [0u16; FUNCTION_LIMIT];
     sums::find_starts(t, functions, &mut starts);
     let k = sums::position_of(t, &starts, functions, wide16(id));
     if functions <= k {
         return Compiled::Refused(14, 0);
     }
-    let mut ops = [0u32; 16];
-    let mut words = [0u32; 16];
-    let mut counts = [0u32; 16];
-    let mut sizes = [0u32; 16];
+    let mut ops = [0u32; FUNCTION_LIMIT];
+    let mut words = [0u32; FUNCTION_LIMIT];
+    let mut counts = [0u32; FUNCTION_LIMIT];
+    let mut sizes = [0u32; FUNCTION_LIMIT];
     sums::all_sums(
         t,
         &starts,
@@ -815,15 +807,15 @@ fn compile_accepted(t: &[u8], functions: usize, id: u16, code: &mut [u8]) -> Com
         &mut sizes,
     );
     let o = wide32(ops[k]);
-    if 4096 < o {
+    if OPERATION_LIMIT < o {
         return Compiled::Refused(15, 0);
     }
     let p = wide16(starts[k]);
-    let nin = wide(byte_at(t, p + 2));
-    let nout = wide(byte_at(t, p + 3));
+    let nin = wide(padded_byte(t, p + 2));
+    let nout = wide(padded_byte(t, p + 3));
     let inputs = sums::widths_at(t, p + 6, 1, nin);
     let w = wide32(words[k]);
-    if 8192 < inputs + w {
+    if WORD_LIMIT < inputs + w {
         return Compiled::Refused(16, 0);
     }
     let outputs = sums::widths_at(t, p + 6 + nin, 4, nout);

@@ -6,18 +6,19 @@ use native.Mathlib.Nat.{add-zero}
 use native.Mathlib.Numerals.{add-one}
 use native.Mathlib.Omega.{arith}
 use lib.ListN.{length}
+use Rattle.base.specs.Limits.{functionLimit}
 use Rattle.base.specs.Outcome.{ok}
 use Rattle.graph.specs.Judge.{verdict}
 use Rattle.reader.specs.Layout.{functionOf, earlier}
 use Rattle.lowering.specs.Listing.{functionLine, functionLines}
-use Rattle.listing.specs.Lines.{Put}
+use Rattle.listing.specs.Lines.{Put, textLimit}
 use Rattle.listing.proofs.Text.{then, same}
-use Rattle.listing.proofs.Table.{function-count}
+use Rattle.sums.proofs.Accepted.{few-functions}
 
 -- the lines of the functions before k are written, each of at most 103 bytes
 pub record Listed (s : List ℕ) (n : ℕ) (text₀ : List ℕ) (at : ℕ) (text : List ℕ) (here k : ℕ) : Type 0 where
   pub index : k ≤ n
-  pub most : n ≤ 16
+  pub most : n ≤ functionLimit
   pub room : here ≤ 30 + 103 * k
   pub put : Put text₀ at (functionLines (earlier 8 s k)) text here
 
@@ -26,7 +27,7 @@ unfolding earlier
 start s n text at e h =
     record {
       index = omega arith;
-      most = function-count s n e;
+      most = few-functions s n e;
       room = omega arith;
       put = record { written = refl; end = sym (add-zero at) };
     }
@@ -46,7 +47,7 @@ step s n text₀ at text next line here k r l h e p m =
     }
 
 pub done : (s : List ℕ) (n : ℕ) (text₀ : List ℕ) (at : ℕ) (text : List ℕ) (here k : ℕ) → Listed s n text₀ at text here k → n ≤ k
-    → Put text₀ at (functionLines (earlier 8 s n)) text here × (here ≤ 2048)
+    → Put text₀ at (functionLines (earlier 8 s n)) text here × (here ≤ textLimit)
 done s n text₀ at text here k l h =
     let i = l .index in
     let most = l .most in

@@ -8,9 +8,9 @@ use lib.ListN.{length, length-append}
 use lib.Dec.{leb}
 use borrow.Author.Tests.{leb-true}
 use Rattle.base.specs.Bytes.{byte, u16}
-use Rattle.base.specs.Limits.{operationLimit, wordLimit}
+use Rattle.base.specs.Limits.{operationLimit, withinLimits, wordLimit}
 use Rattle.lowering.specs.Listing.{decimal, newline, acceptedText, refusedText, atText, functionText, inputsText, outputsText, nodesText, operationsText, wordsText, codeText, noneText, limited}
-use Rattle.listing.specs.Lines.{headText, countsText, within, lineAt}
+use Rattle.listing.specs.Lines.{headText, countsText, lineAt, textLimit}
 use Rattle.listing.proofs.Text.{rooms}
 use Rattle.listing.proofs.Digits.{decimal-length, decimal-most}
 
@@ -18,7 +18,7 @@ use Rattle.listing.proofs.Digits.{decimal-length, decimal-most}
 
 -- a count of 64 bits has room
 pub accepted-rooms : (count : ℕ) → count < 18446744073709551616
-    → (0 + length (acceptedText ++ decimal count) ≤ 2048) × (0 + length (acceptedText ++ decimal count ++ newline) ≤ 30)
+    → (0 + length (acceptedText ++ decimal count) ≤ textLimit) × (0 + length (acceptedText ++ decimal count ++ newline) ≤ 30)
 accepted-rooms count h =
     let a = decimal-most count h in
     let p : length (acceptedText ++ decimal count) ≤ 29 = simp length-append (omega arith) in
@@ -43,10 +43,10 @@ head-rooms id inputs outputs nodes at h =
 pub counts-rooms : (operations words code at : ℕ) {n : ℕ} → at + length (countsText operations words code) ≤ n
     → (at + length (operationsText ++ limited operationLimit operations) ≤ n)
     × (at + length ((operationsText ++ limited operationLimit operations) ++ (wordsText ++ limited wordLimit words)) ≤ n)
-    × (at + length ((operationsText ++ limited operationLimit operations) ++ (wordsText ++ limited wordLimit words) ++ (codeText ++ cond (within operations words) (decimal code) noneText)) ≤ n)
+    × (at + length ((operationsText ++ limited operationLimit operations) ++ (wordsText ++ limited wordLimit words) ++ (codeText ++ cond (withinLimits operations words) (decimal code) noneText)) ≤ n)
 unfolding countsText
 counts-rooms operations words code at h =
-    rooms (operationsText ++ limited operationLimit operations) (wordsText ++ limited wordLimit words) (codeText ++ cond (within operations words) (decimal code) noneText) newline at h
+    rooms (operationsText ++ limited operationLimit operations) (wordsText ++ limited wordLimit words) (codeText ++ cond (withinLimits operations words) (decimal code) noneText) newline at h
 
 -- how long the halves are
 
@@ -81,7 +81,7 @@ unfolding countsText
 counts-length operations words code h =
     let a = limited-length operationLimit operations (omega arith) in
     let b = limited-length wordLimit words (omega arith) in
-    let c = shown-length (within operations words) code h in
+    let c = shown-length (withinLimits operations words) code h in
     simp length-append (omega arith)
 
 -- the line at a place, from what is read there

@@ -7,6 +7,12 @@ use native.Mathlib.Omega.{arith}
 use lib.Dec.{leb}
 use lib.ListN.{length}
 use borrow.Author.Tests.{leb-true, leb-false, le-leb, lt-leb}
+use Rattle.reader.proofs.Passed.{length-earlier}
+use Rattle.resolver.proofs.Rows.{length-nodes}
+use Rattle.checker.proofs.Calls.{inputs-length}
+use Rattle.sums.proofs.Choosing.{faulted}
+use Rattle.sums.proofs.Accepted.{functions-are}
+use Rattle.sums.proofs.Measuring.{leb-cap}
 use Rattle.base.specs.Outcome.{Outcome, ok, fault, _>>=_}
 use Rattle.base.specs.Bytes.{byte, u16}
 use Rattle.graph.specs.Graph.{Node, Output, Function}
@@ -17,10 +23,10 @@ use Rattle.base.proofs.Outcomes.{took, after, passed, ok-is}
 use Rattle.reader.specs.Layout.{nodeAt, nodeEnd, nodesAt, inputsAt, outputsAt, functionAt, functionPlace, functionOf, earlier, inputCount, outputCount, nodeCount, outputsPlace, nodesPlace}
 use Rattle.reader.proofs.Standing.{table-read}
 use Rattle.lowering.specs.Compile.{boardListOf}
-use Rattle.base.specs.Limits.{operationLimit, wordLimit}
+use Rattle.base.specs.Limits.{operationLimit, withinLimits, wordLimit}
 use Rattle.bytecode.specs.Code.{encode}
-use Rattle.lowering.specs.Listing.{decimal, newline, acceptedText, refusedText, atText, functionText, inputsText, outputsText, nodesText, operationsText, wordsText, codeText, noneText, limited, codeSize, functionLine, functionLines, report, listing}
-use Rattle.listing.specs.Lines.{headText, countsText, within, lineAt}
+use Rattle.lowering.specs.Listing.{decimal, newline, acceptedText, refusedText, atText, functionText, inputsText, outputsText, nodesText, operationsText, wordsText, codeText, noneText, limited, codeLengthText, functionLine, functionLines, report, listing}
+use Rattle.listing.specs.Lines.{headText, countsText, lineAt}
 
 -- ---- a function's line by its numbers
 
@@ -39,16 +45,9 @@ by-numbers early f =
     let words = functionWords early f in
     regroup functionText (decimal (f .id)) inputsText (decimal (length (f .inputs))) outputsText (decimal (length (f .outputs))) nodesText (decimal (length (f .nodes)))
     operationsText (limited operationLimit operations) wordsText (limited wordLimit words)
-    codeText (codeSize (leb operations operationLimit && leb words wordLimit) (encode (boardListOf early f))) newline
+    codeText (codeLengthText (withinLimits operations words) (encode (boardListOf early f))) newline
 
 -- ---- sums above a limit may be capped
-
-leb-cap : (limit n : ℕ) → leb (min (suc limit) n) limit ≡ leb n limit
-leb-cap limit n = by-limit (leb n limit) refl
-  where
-    by-limit : (b : Bool) → leb n limit ≡ b → leb (min (suc limit) n) limit ≡ leb n limit
-    by-limit true e = let h : n ≤ limit = leb-true n limit e in le-leb (min (suc limit) n) limit (omega arith) ∙ sym e
-    by-limit false e = let h : limit < n = leb-false n limit e in lt-leb (min (suc limit) n) limit (omega arith) ∙ sym e
 
 limited-cap : (limit n : ℕ) → limited limit (min (suc limit) n) ≡ limited limit n
 limited-cap limit n = by-limit (leb n limit) refl
@@ -64,40 +63,31 @@ code-cap : (b : Bool) (c d : ℕ) → (b ≡ true → c ≡ d) → cond b (decim
 code-cap true c d h = ap decimal (h refl)
 code-cap false c d h = refl
 
-counts-cap : (operations words c d : ℕ) → (within operations words ≡ true → c ≡ d) → countsText (min 4097 operations) (min 8193 words) c ≡ countsText operations words d
+counts-cap : (operations words c d : ℕ) → (withinLimits operations words ≡ true → c ≡ d) → countsText (min (operationLimit + 1) operations) (min (wordLimit + 1) words) c ≡ countsText operations words d
 unfolding countsText
 counts-cap operations words c d h =
-    let w : within (min 4097 operations) (min 8193 words) ≡ within operations words = rw (leb-cap 4096 operations, leb-cap 8192 words) in
-    ap (λ (b : Bool). (operationsText ++ limited operationLimit (min 4097 operations)) ++ (wordsText ++ limited wordLimit (min 8193 words)) ++ (codeText ++ cond b (decimal c) noneText) ++ newline) w
-    ∙ ap (λ (xs : List ℕ). (operationsText ++ xs) ++ (wordsText ++ limited wordLimit (min 8193 words)) ++ (codeText ++ cond (within operations words) (decimal c) noneText) ++ newline) (limited-cap 4096 operations)
-    ∙ ap (λ (xs : List ℕ). (operationsText ++ limited operationLimit operations) ++ (wordsText ++ xs) ++ (codeText ++ cond (within operations words) (decimal c) noneText) ++ newline) (limited-cap 8192 words)
-    ∙ ap (λ (xs : List ℕ). (operationsText ++ limited operationLimit operations) ++ (wordsText ++ limited wordLimit words) ++ (codeText ++ xs) ++ newline) (code-cap (within operations words) c d h)
+    let w : withinLimits (min (operationLimit + 1) operations) (min (wordLimit + 1) words) ≡ withinLimits operations words = rw (leb-cap operationLimit operations, leb-cap wordLimit words) in
+    ap (λ (b : Bool). (operationsText ++ limited operationLimit (min (operationLimit + 1) operations)) ++ (wordsText ++ limited wordLimit (min (wordLimit + 1) words)) ++ (codeText ++ cond b (decimal c) noneText) ++ newline) w
+    ∙ ap (λ (xs : List ℕ). (operationsText ++ xs) ++ (wordsText ++ limited wordLimit (min (wordLimit + 1) words)) ++ (codeText ++ cond (withinLimits operations words) (decimal c) noneText) ++ newline) (limited-cap operationLimit operations)
+    ∙ ap (λ (xs : List ℕ). (operationsText ++ limited operationLimit operations) ++ (wordsText ++ xs) ++ (codeText ++ cond (withinLimits operations words) (decimal c) noneText) ++ newline) (limited-cap wordLimit words)
+    ∙ ap (λ (xs : List ℕ). (operationsText ++ limited operationLimit operations) ++ (wordsText ++ limited wordLimit words) ++ (codeText ++ xs) ++ newline) (code-cap (withinLimits operations words) c d h)
 
 -- ---- at a place
-
-inputs-length : (n : ℕ) (s : List ℕ) (at : ℕ) → length (inputsAt n s at) ≡ n
-inputs-length zero s at = refl
-inputs-length (suc n) s at = ap suc (inputs-length n s (at + 1))
 
 outputs-length : (n : ℕ) (s : List ℕ) (at : ℕ) → length (outputsAt n s at) ≡ n
 outputs-length zero s at = refl
 outputs-length (suc n) s at = ap suc (outputs-length n s (at + 4))
 
-nodes-length : (n : ℕ) (s : List ℕ) (at : ℕ) → length (nodesAt n s at) ≡ n
-unfolding nodesAt
-nodes-length zero s at = refl
-nodes-length (suc n) s at = ap suc (nodes-length n s (nodeEnd s at))
-
 head-at : (s : List ℕ) (p : ℕ) (f : Function) → f ≡ functionAt s p
     → headText (f .id) (length (f .inputs)) (length (f .outputs)) (length (f .nodes)) ≡ headText (u16 s p) (byte s (p + 2)) (byte s (p + 3)) (u16 s (p + 4))
 unfolding functionAt
-head-at s p f e = rw e (rw (inputs-length (inputCount s p) s (p + 6), outputs-length (outputCount s p) s (outputsPlace s p), nodes-length (nodeCount s p) s (nodesPlace s p)))
+head-at s p f e = rw e (rw (inputs-length (inputCount s p) s (p + 6), outputs-length (outputCount s p) s (outputsPlace s p), length-nodes (nodeCount s p) s (nodesPlace s p)))
 
 -- the line of the function at position k, by its place and by its capped sums
 pub line-at : (s : List ℕ) (k p operations words code : ℕ) → p ≡ functionPlace 8 s k
-    → operations ≡ min 4097 (functionOperations (operationsOf (earlier 8 s k)) (functionOf 8 s k))
-    → words ≡ min 8193 (functionWords (earlier 8 s k) (functionOf 8 s k))
-    → (within (functionOperations (operationsOf (earlier 8 s k)) (functionOf 8 s k)) (functionWords (earlier 8 s k) (functionOf 8 s k)) ≡ true
+    → operations ≡ min (operationLimit + 1) (functionOperations (operationsOf (earlier 8 s k)) (functionOf 8 s k))
+    → words ≡ min (wordLimit + 1) (functionWords (earlier 8 s k) (functionOf 8 s k))
+    → (withinLimits (functionOperations (operationsOf (earlier 8 s k)) (functionOf 8 s k)) (functionWords (earlier 8 s k) (functionOf 8 s k)) ≡ true
     → code ≡ length (encode (boardListOf (earlier 8 s k) (functionOf 8 s k))))
     → lineAt s p operations words code ≡ functionLine (earlier 8 s k) (functionOf 8 s k)
 unfolding lineAt
@@ -107,62 +97,17 @@ line-at s k p operations words code ep eo ew ec =
     ap (λ (q : ℕ). headText (u16 s q) (byte s (q + 2)) (byte s (q + 3)) (u16 s (q + 4)) ++ countsText operations words code) ep
     ∙ ap (λ (xs : List ℕ). xs ++ countsText operations words code) (sym (head-at s (functionPlace 8 s k) f refl))
     ∙ ap (λ (n : ℕ). headText (f .id) (length (f .inputs)) (length (f .outputs)) (length (f .nodes)) ++ countsText n words code) eo
-    ∙ ap (λ (n : ℕ). headText (f .id) (length (f .inputs)) (length (f .outputs)) (length (f .nodes)) ++ countsText (min 4097 (functionOperations (operationsOf early) f)) n code) ew
+    ∙ ap (λ (n : ℕ). headText (f .id) (length (f .inputs)) (length (f .outputs)) (length (f .nodes)) ++ countsText (min (operationLimit + 1) (functionOperations (operationsOf early) f)) n code) ew
     ∙ ap (λ (xs : List ℕ). headText (f .id) (length (f .inputs)) (length (f .outputs)) (length (f .nodes)) ++ xs) (counts-cap (functionOperations (operationsOf early) f) (functionWords early f) code (length (encode (boardListOf early f))) ec)
     ∙ sym (by-numbers early f)
 
 -- ---- the table
 
-earlier-length : (begin : ℕ) (s : List ℕ) (n : ℕ) → length (earlier begin s n) ≡ n
-unfolding earlier
-earlier-length begin s zero = refl
-earlier-length begin s (suc n) = ap suc (earlier-length begin s n)
-
--- an accepted table has as many functions as it says
-accepted : (s : List ℕ) (n : ℕ) → verdict s ≡ ok n → (fs : List Function) × (table s ≡ ok fs) × (length fs ≡ n)
-unfolding verdict
-accepted s n e =
-    let (fs, t, l) = took (table s) _ n e in
-    (fs, t, ok-is l)
-
-functions-are : (s : List ℕ) (n : ℕ) (fs : List Function) → table s ≡ ok fs → length fs ≡ n → (fs ≡ earlier 8 s n) × (n ≡ byte s 5)
-functions-are s n fs t l =
-    let r : fs ≡ earlier 8 s (byte s 5) = table-read s fs t in
-    let c : n ≡ byte s 5 = sym l ∙ ap length r ∙ earlier-length 8 s (byte s 5) in
-    (r ∙ ap (earlier 8 s) (sym c), c)
-
 pub listing-accepted : (s : List ℕ) (n : ℕ) → verdict s ≡ ok n → acceptedText ++ decimal n ++ newline ++ functionLines (earlier 8 s n) ≡ listing s
 unfolding listing
 listing-accepted s n e =
-    let (fs, t, l) = accepted s n e in
-    let (r, c) = functions-are s n fs t l in
-    ap (λ (m : ℕ). acceptedText ++ decimal m ++ newline ++ functionLines (earlier 8 s n)) (sym l)
-    ∙ ap (λ (gs : List Function). acceptedText ++ decimal (length fs) ++ newline ++ functionLines gs) (sym r)
-    ∙ sym (ap report t)
-
-faulted : (o : Outcome (List Function)) (a b : ℕ) → (o >>= λ fs. ok (length fs)) ≡ fault a b → o ≡ fault a b
-unfolding _>>=_
-faulted (ok fs) a b e = let z : _≡_ {A = ℕ} 0 1 = cc in absurd (omega arith)
-faulted (fault n p) a b e = (cc)
+    ap (λ (m : ℕ). acceptedText ++ decimal m ++ newline ++ functionLines (earlier 8 s n)) (sym (length-earlier 8 s n)) ∙ sym (ap report (functions-are s n e))
 
 pub listing-refused : (s : List ℕ) (a b : ℕ) → verdict s ≡ fault a b → refusedText ++ decimal a ++ atText ++ decimal b ++ newline ≡ listing s
 unfolding verdict listing
 listing-refused s a b e = sym (ap report (faulted (table s) a b e))
-
-and-right : (a b : Bool) → a && b ≡ true → b ≡ true
-and-right true b e = e
-and-right false b e = let z : _≡_ {A = ℕ} 0 1 = cc in absurd (omega arith)
-
-pub function-count : (s : List ℕ) (n : ℕ) → verdict s ≡ ok n → n ≤ 16
-unfolding table
-function-count s n e =
-    let (fs, t, l) = accepted s n e in
-    let (r, c) = functions-are s n fs t l in
-    let (gs, p, e0) = took (parse version1 s) _ fs t in
-    let (t1, e1) = passed _ _ _ _ _ p in
-    let (t2, e2) = passed _ _ _ _ _ e1 in
-    let (t3, e3) = passed _ _ _ _ _ e2 in
-    let (t4, e4) = passed _ _ _ _ _ e3 in
-    let (t5, e5) = passed _ _ _ _ _ e4 in
-    let m : byte s 5 ≤ 16 = leb-true (byte s 5) 16 (and-right (leb 1 (byte s 5)) (leb (byte s 5) 16) t5) in
-    omega arith

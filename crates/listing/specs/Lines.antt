@@ -1,14 +1,17 @@
 -- What is written into the text, and the two halves of a function's line by its numbers.
 use Prim.Native.Nat.{ℕ, _+_}
 use mathlib.Core.Path.{_≡_}
-use mathlib.Core.Bool.{Bool, _&&_, cond}
+use mathlib.Core.Bool.{cond}
 use mathlib.Core.List.{List, _++_}
-use lib.Dec.{leb}
 use lib.ListN.{length}
 use lib.Seq.{sets}
 use Rattle.base.specs.Bytes.{byte, u16}
-use Rattle.base.specs.Limits.{operationLimit, wordLimit}
+use Rattle.base.specs.Limits.{operationLimit, withinLimits, wordLimit}
 use Rattle.lowering.specs.Listing.{decimal, newline, functionText, inputsText, outputsText, nodesText, operationsText, wordsText, codeText, noneText, limited}
+
+-- room for the text: a line for the table, and one for each of its functions
+abbrev pub textLimit : ℕ
+textLimit = 2048
 
 -- bytes written from a place on, and nothing else; r is the place behind them
 pub record Put (entry : List ℕ) (at : ℕ) (bytes exit : List ℕ) (r : ℕ) : Type 0 where
@@ -20,14 +23,11 @@ unfoldable pub headText : ℕ → ℕ → ℕ → ℕ → List ℕ
 headText id inputs outputs nodes =
     (functionText ++ decimal id) ++ (inputsText ++ decimal inputs) ++ (outputsText ++ decimal outputs) ++ (nodesText ++ decimal nodes)
 
-abbrev pub within : ℕ → ℕ → Bool
-within operations words = leb operations operationLimit && leb words wordLimit
-
 -- operations, words and the code's length
 unfoldable pub countsText : ℕ → ℕ → ℕ → List ℕ
 countsText operations words code =
     (operationsText ++ limited operationLimit operations) ++ (wordsText ++ limited wordLimit words)
-    ++ (codeText ++ cond (within operations words) (decimal code) noneText)
+    ++ (codeText ++ cond (withinLimits operations words) (decimal code) noneText)
     ++ newline
 
 -- the line of the function whose head stands at p

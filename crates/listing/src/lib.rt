@@ -10,15 +10,23 @@ ghost use Rattle.base.specs.Bytes.{byte, u16};
 ghost use Rattle.base.specs.Outcome.{ok, fault};
 ghost use Rattle.graph.specs.Judge.{verdict};
 ghost use Rattle.reader.specs.Layout.{earlier};
-ghost use Rattle.listing.specs.Lines as Lines;
-ghost use Rattle.listing.specs.Lines.{Put, headText, countsText, lineAt};
+ghost use Rattle.listing.specs.Lines.{textLimit, Put, headText, countsText, lineAt};
+use base::OPERATION_LIMIT;
+use base::WORD_LIMIT;
+use base::padded_byte;
+use base::padded_u16;
+use base::wide;
+use base::within_limits;
 use checker::Verdict;
+
+// Room for the text: a line for the table, and one for each of its functions.
+pub const TEXT_LIMIT: usize = 2048;
 
 // ---- bytes and numbers
 
 // The bytes s from `at` on; the answer is the place behind them.
-fn put_bytes(text: &mut [u8; 2048], at: usize, s: &[u8]) -> usize
-    requires { ⌜ at + length (now s) ≤ 2048 ⌝ }
+fn put_bytes(text: &mut [u8; TEXT_LIMIT], at: usize, s: &[u8]) -> usize
+    requires { ⌜ at + length (now s) ≤ textLimit ⌝ }
     ensures { λ r. ⌜ Put (now (text .entry)) at (now (s .entry)) (now (text .exit)) r ⌝ }
 {
     let mut i = 0;
@@ -46,8 +54,8 @@ fn fill_digits(digits: &mut [u8; 20], n: usize) -> usize
     i
 }
 
-fn put_decimal(text: &mut [u8; 2048], at: usize, n: usize) -> usize
-    requires { ⌜ at + length (decimal n) ≤ 2048 ⌝ }
+fn put_decimal(text: &mut [u8; TEXT_LIMIT], at: usize, n: usize) -> usize
+    requires { ⌜ at + length (decimal n) ≤ textLimit ⌝ }
     ensures { λ r. ⌜ Put (now (text .entry)) at (decimal n) (now (text .exit)) r ⌝ }
 {
     let mut digits = [0u8; 20];
@@ -56,8 +64,8 @@ fn put_decimal(text: &mut [u8; 2048], at: usize, n: usize) -> usize
 }
 
 // A word and a number.
-fn put_field(text: &mut [u8; 2048], at: usize, word: &[u8], n: usize) -> usize
-    requires { ⌜ at + length (now word ++ decimal n) ≤ 2048 ⌝ }
+fn put_field(text: &mut [u8; TEXT_LIMIT], at: usize, word: &[u8], n: usize) -> usize
+    requires { ⌜ at + length (now word ++ decimal n) ≤ textLimit ⌝ }
     ensures { λ r. ⌜ Put (now (text .entry)) at (now (word .entry) ++ decimal n) (now (text .exit)) r ⌝ }
 {
     let here = put_bytes(text, at, word);
@@ -66,14 +74,14 @@ fn put_field(text: &mut [u8; 2048], at: usize, word: &[u8], n: usize) -> usize
 
 // A word and a number, or other bytes where it is not to be shown.
 fn put_count(
-    text: &mut [u8; 2048],
+    text: &mut [u8; TEXT_LIMIT],
     at: usize,
     word: &[u8],
     shown: bool,
     n: usize,
     other: &[u8],
 ) -> usize
-    requires { ⌜ at + length (now word ++ cond shown (decimal n) (now other)) ≤ 2048 ⌝ }
+    requires { ⌜ at + length (now word ++ cond shown (decimal n) (now other)) ≤ textLimit ⌝ }
     ensures { λ r. ⌜ Put (now (text .entry)) at (now (word .entry) ++ cond shown (decimal n) (now (other .entry))) (now (text .exit)) r ⌝ }
 {
     let here = put_bytes(text, at, word);
@@ -87,8 +95,8 @@ fn put_count(
 // ---- lines
 
 // The line of a refusal.
-fn put_refused(text: &mut [u8; 2048], number: u8, place: usize) -> usize
-    ensures { λ r. ⌜ Put (now (text .entry)) 0 (refusedText ++ decimal number ++ atText ++ decimal place ++ newline) (now (text .exit)) r × (r ≤ 2048) ⌝ }
+fn put_refused(text: &mut [u8; TEXT_LIMIT], number: u8, place: usize) -> usize
+    ensures { λ r. ⌜ Put (now (text .entry)) 0 (refusedText ++ decimal number ++ atText ++ decimal place ++ newline) (now (text .exit)) r × (r ≤ textLimit) ⌝ }
 {
     let number = number as usize;
     let middle = put_field(text, 0, b"refused ", number);
@@ -98,14 +106,14 @@ fn put_refused(text: &mut [u8; 2048], number: u8, place: usize) -> usize
 
 // The first half of a function's line.
 fn put_head(
-    text: &mut [u8; 2048],
+    text: &mut [u8; TEXT_LIMIT],
     at: usize,
     id: usize,
     inputs: usize,
     outputs: usize,
     nodes: usize,
 ) -> usize
-    requires { ⌜ at + length (headText id inputs outputs nodes) ≤ 2048 ⌝ }
+    requires { ⌜ at + length (headText id inputs outputs nodes) ≤ textLimit ⌝ }
     ensures { λ r. ⌜ Put (now (text .entry)) at (headText id inputs outputs nodes) (now (text .exit)) r ⌝ }
 {
     let a = put_field(text, at, b"function ", id);
@@ -114,65 +122,42 @@ fn put_head(
     put_field(text, c, b" nodes ", nodes)
 }
 
-fn within(operations: usize, words: usize) -> bool
-    ensures { λ r. ⌜ r ≡ Lines.within operations words ⌝ }
-{
-    if operations <= 4096 {
-        words <= 8192
-    } else {
-        false
-    }
-}
-
 // The second half.
 fn put_counts(
-    text: &mut [u8; 2048],
+    text: &mut [u8; TEXT_LIMIT],
     at: usize,
     operations: usize,
     words: usize,
     code: usize,
 ) -> usize
-    requires { ⌜ at + length (countsText operations words code) ≤ 2048 ⌝ }
+    requires { ⌜ at + length (countsText operations words code) ≤ textLimit ⌝ }
     ensures { λ r. ⌜ Put (now (text .entry)) at (countsText operations words code) (now (text .exit)) r ⌝ }
 {
     let a = put_count(
         text,
         at,
         b" operations ",
-        operations <= 4096,
+        operations <= OPERATION_LIMIT,
         operations,
         b"over",
     );
-    let b = put_count(text, a, b" words ", words <= 8192, words, b"over");
-    let c = put_count(text, b, b" code ", within(operations, words), code, b"none");
+    let b = put_count(text, a, b" words ", words <= WORD_LIMIT, words, b"over");
+    let c = put_count(
+        text,
+        b,
+        b" code ",
+        within_limits(operations, words),
+        code,
+        b"none",
+    );
     put_bytes(text, c, b"\n")
 }
 
 // ---- functions
 
-fn wide(x: u8) -> usize
-    ensures { λ r. ⌜ (r ≡ x) × (r < 256) ⌝ }
-{
-    x as usize
-}
-
-// A byte of the table; behind its end 0.
-fn byte_at(table: &[u8], at: usize) -> usize
-    ensures { λ r. ⌜ (r ≡ byte (now (table .entry)) at) × (r < 256) ⌝ }
-{
-    if at < table.len() { wide(table[at]) } else { 0 }
-}
-
-fn u16_at(table: &[u8], at: usize) -> usize
-    requires { ⌜ at < 0x1_0000_0000 ⌝ }
-    ensures { λ r. ⌜ (r ≡ u16 (now (table .entry)) at) × (r < 65536) ⌝ }
-{
-    byte_at(table, at) + byte_at(table, at + 1) * 256
-}
-
 // The line of the function whose head stands at p.
 fn put_function(
-    text: &mut [u8; 2048],
+    text: &mut [u8; TEXT_LIMIT],
     at: usize,
     table: &[u8],
     p: usize,
@@ -180,21 +165,21 @@ fn put_function(
     words: usize,
     code: usize,
 ) -> usize
-    requires { ⌜ (at + 103 ≤ 2048) × (p < 65536) ⌝ }
+    requires { ⌜ (at + 103 ≤ textLimit) × (p < 65536) ⌝ }
     ensures { λ r. ⌜ Put (now (text .entry)) at (lineAt (now (table .entry)) p operations words code) (now (text .exit)) r × (r ≤ at + 103) ⌝ }
 {
-    let id = u16_at(table, p);
-    let inputs = byte_at(table, p + 2);
-    let outputs = byte_at(table, p + 3);
-    let nodes = u16_at(table, p + 4);
+    let id = padded_u16(table, p);
+    let inputs = wide(padded_byte(table, p + 2));
+    let outputs = wide(padded_byte(table, p + 3));
+    let nodes = padded_u16(table, p + 4);
     let middle = put_head(text, at, id, inputs, outputs, nodes);
     put_counts(text, middle, operations, words, code)
 }
 
 // The lines of the first `count` functions.
-fn put_functions(text: &mut [u8; 2048], at: usize, table: &[u8], count: usize) -> usize
+fn put_functions(text: &mut [u8; TEXT_LIMIT], at: usize, table: &[u8], count: usize) -> usize
     requires { ⌜ (verdict (now table) ≡ ok count) × (at ≤ 30) ⌝ }
-    ensures { λ r. ⌜ Put (now (text .entry)) at (functionLines (earlier 8 (now (table .entry)) count)) (now (text .exit)) r × (r ≤ 2048) ⌝ }
+    ensures { λ r. ⌜ Put (now (text .entry)) at (functionLines (earlier 8 (now (table .entry)) count)) (now (text .exit)) r × (r ≤ textLimit) ⌝ }
 {
     let mut here = at;
     let mut k = 0;
@@ -207,9 +192,9 @@ fn put_functions(text: &mut [u8; 2048], at: usize, table: &[u8], count: usize) -
 }
 
 // The text of an accepted table with so many functions.
-fn list_accepted(table: &[u8], count: usize, text: &mut [u8; 2048]) -> usize
+fn list_accepted(table: &[u8], count: usize, text: &mut [u8; TEXT_LIMIT]) -> usize
     requires { ⌜ verdict (now table) ≡ ok count ⌝ }
-    ensures { λ r. ⌜ Put (now (text .entry)) 0 (listing (now (table .entry))) (now (text .exit)) r × (r ≤ 2048) ⌝ }
+    ensures { λ r. ⌜ Put (now (text .entry)) 0 (listing (now (table .entry))) (now (text .exit)) r × (r ≤ textLimit) ⌝ }
 {
     let middle = put_field(text, 0, b"accepted ", count);
     let end = put_bytes(text, middle, b"\n");
@@ -217,9 +202,9 @@ fn list_accepted(table: &[u8], count: usize, text: &mut [u8; 2048]) -> usize
 }
 
 // The text for a table, from the first byte on; the answer is its length.
-pub fn list_table(table: &[u8], text: &mut [u8; 2048]) -> usize
+pub fn list_table(table: &[u8], text: &mut [u8; TEXT_LIMIT]) -> usize
     ensures written { λ r. ⌜ now (text .exit) ≡ sets (now (text .entry)) 0 (listing (now (table .entry))) ⌝ }
-    ensures { λ r. ⌜ (r ≡ length (listing (now (table .entry)))) × (r ≤ 2048) ⌝ }
+    ensures { λ r. ⌜ (r ≡ length (listing (now (table .entry)))) × (r ≤ textLimit) ⌝ }
 {
     let verdict = checker::check(table);
     match verdict {

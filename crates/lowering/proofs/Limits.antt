@@ -22,7 +22,7 @@ use Rattle.graph.specs.Sums.{sum, nodeOperations, functionOperations, operation
 use Rattle.graph.specs.Sound.{Formed, Sound, AllSound}
 use Rattle.bytecode.specs.Run.{Instruction, BoardList, places, spans}
 use Rattle.graph.specs.Schedule.{schedule}
-use Rattle.lowering.specs.Compile.{Written, address, Opened, Open, openNode, Body, also, openNodes, openFunction, opened, boardListOf}
+use Rattle.lowering.specs.Compile.{Written, address, Inlined, Inline, inlineNode, Body, also, inlineNodes, inlineFunction, inlined, boardListOf}
 use Rattle.bytecode.specs.Code.{encode, decode}
 use Rattle.bytecode.specs.WellFormed.{Below, AllFit, FitList}
 use Rattle.graph.proofs.Order.{Right, scheduled}
@@ -32,86 +32,86 @@ use Rattle.bytecode.proofs.Back.{decode-encode}
 
 -- ---- operations
 
-abbrev Counts : Open → (ℕ → ℕ) → Type 0
+abbrev Counts : Inline → (ℕ → ℕ) → Type 0
 Counts go ops = (c : ℕ) (ins : List ℕ) (next : ℕ) → length (go c ins next .code) ≤ ops c
 
-module _ (go : Open) (ops : ℕ → ℕ) (h : Counts go ops) (ins : List ℕ) where
-  node-count : (ws : List Written) (next : ℕ) (n : Node) (p : Payload) → length (openNode go (address ins ws) next n p .code) ≤ nodeOperations ops p
+module _ (go : Inline) (ops : ℕ → ℕ) (h : Counts go ops) (ins : List ℕ) where
+  node-count : (ws : List Written) (next : ℕ) (n : Node) (p : Payload) → length (inlineNode go (address ins ws) next n p .code) ≤ nodeOperations ops p
   node-count ws next n (consts cs) = omega arith
   node-count ws next n (refs rs) = omega arith
   node-count ws next n (calls c rs) = let a = h c (map (address ins ws) rs) next in omega arith
 
-  nodes-count : (ns : List Node) (ws : List Written) (next : ℕ) → length (openNodes go ins ns ws next .code) ≤ sum (λ n. nodeOperations ops (n .payload)) ns
+  nodes-count : (ns : List Node) (ws : List Written) (next : ℕ) → length (inlineNodes go ins ns ws next .code) ≤ sum (λ n. nodeOperations ops (n .payload)) ns
   nodes-count [] ws next = omega arith
   nodes-count (n ∷ ns) ws next =
-      let o = openNode go (address ins ws) next n (n .payload) in
-      let b = openNodes go ins ns (also n o ws) (o .next) in
+      let o = inlineNode go (address ins ws) next n (n .payload) in
+      let b = inlineNodes go ins ns (also n o ws) (o .next) in
       let a : length (o .code) ≤ nodeOperations ops (n .payload) = node-count ws next n (n .payload) in
       let c : length (b .code) ≤ sum (λ n. nodeOperations ops (n .payload)) ns = nodes-count ns (also n o ws) (o .next) in
       let d : length (o .code ++ b .code) ≡ length (o .code) + length (b .code) = length-append (o .code) (b .code) in
       omega arith
 
-function-count : (early : List Function) (f : Function) → Sound early f → Counts (opened early) (operationsOf early) → (ins : List ℕ) (next : ℕ)
-    → length (openFunction (opened early) f ins next .code) ≤ functionOperations (operationsOf early) f
+function-count : (early : List Function) (f : Function) → Sound early f → Counts (inlined early) (operationsOf early) → (ins : List ℕ) (next : ℕ)
+    → length (inlineFunction (inlined early) f ins next .code) ≤ functionOperations (operationsOf early) f
 function-count early f sound h ins next =
-    let a = nodes-count (opened early) (operationsOf early) h ins (schedule (f .nodes)) [] next in
+    let a = nodes-count (inlined early) (operationsOf early) h ins (schedule (f .nodes)) [] next in
     let e = scheduled early f sound .total (λ n. nodeOperations (operationsOf early) (n .payload)) in
-    subst (λ (x : ℕ). length (openFunction (opened early) f ins next .code) ≤ x) e a
+    subst (λ (x : ℕ). length (inlineFunction (inlined early) f ins next .code) ≤ x) e a
 
-pub opened-count : (early : List Function) → AllSound early → Counts (opened early) (operationsOf early)
-unfolding opened operationsOf
-opened-count [] s c ins next = omega arith
-opened-count (f ∷ early) (s, ss) c ins next = pickOne (eqb (f .id) c) (opened-count early ss)
+pub inlined-count : (early : List Function) → AllSound early → Counts (inlined early) (operationsOf early)
+unfolding inlined operationsOf
+inlined-count [] s c ins next = omega arith
+inlined-count (f ∷ early) (s, ss) c ins next = pickOne (eqb (f .id) c) (inlined-count early ss)
   where
-    pickOne : (b : Bool) → Counts (opened early) (operationsOf early)
-        → length (cond b (openFunction (opened early) f ins next) (opened early c ins next) .code)
+    pickOne : (b : Bool) → Counts (inlined early) (operationsOf early)
+        → length (cond b (inlineFunction (inlined early) f ins next) (inlined early c ins next) .code)
         ≤ cond b (functionOperations (operationsOf early) f) (operationsOf early c)
     pickOne true h = function-count early f s h ins next
     pickOne false h = h c ins next
 
 -- ---- words
 
-abbrev Sizes : Open → (ℕ → ℕ) → Type 0
+abbrev Sizes : Inline → (ℕ → ℕ) → Type 0
 Sizes go size = (c : ℕ) (ins : List ℕ) (next : ℕ) → go c ins next .next ≡ next + size c
 
-module _ (go : Open) (size : ℕ → ℕ) (h : Sizes go size) (ins : List ℕ) where
-  node-size : (ws : List Written) (next : ℕ) (n : Node) (p : Payload) → openNode go (address ins ws) next n p .next ≡ next + nodeWords size n p
+module _ (go : Inline) (size : ℕ → ℕ) (h : Sizes go size) (ins : List ℕ) where
+  node-size : (ws : List Written) (next : ℕ) (n : Node) (p : Payload) → inlineNode go (address ins ws) next n p .next ≡ next + nodeWords size n p
   node-size ws next n (consts cs) = refl
   node-size ws next n (refs rs) = refl
   node-size ws next n (calls c rs) = h c (map (address ins ws) rs) next
 
-  nodes-size : (ns : List Node) (ws : List Written) (next : ℕ) → openNodes go ins ns ws next .next ≡ next + sum (λ n. nodeWords size n (n .payload)) ns
+  nodes-size : (ns : List Node) (ws : List Written) (next : ℕ) → inlineNodes go ins ns ws next .next ≡ next + sum (λ n. nodeWords size n (n .payload)) ns
   nodes-size [] ws next = omega arith
   nodes-size (n ∷ ns) ws next =
-      let o = openNode go (address ins ws) next n (n .payload) in
-      let b = openNodes go ins ns (also n o ws) (o .next) in
+      let o = inlineNode go (address ins ws) next n (n .payload) in
+      let b = inlineNodes go ins ns (also n o ws) (o .next) in
       let a : o .next ≡ next + nodeWords size n (n .payload) = node-size ws next n (n .payload) in
       let c : b .next ≡ o .next + sum (λ n. nodeWords size n (n .payload)) ns = nodes-size ns (also n o ws) (o .next) in
       omega arith
 
-function-size : (early : List Function) (f : Function) → Sound early f → Sizes (opened early) (resultWordsOf early) → (ins : List ℕ) (next : ℕ)
-    → openFunction (opened early) f ins next .next ≡ next + resultWords (resultWordsOf early) f
+function-size : (early : List Function) (f : Function) → Sound early f → Sizes (inlined early) (resultWordsOf early) → (ins : List ℕ) (next : ℕ)
+    → inlineFunction (inlined early) f ins next .next ≡ next + resultWords (resultWordsOf early) f
 function-size early f sound h ins next =
-    nodes-size (opened early) (resultWordsOf early) h ins (schedule (f .nodes)) [] next
+    nodes-size (inlined early) (resultWordsOf early) h ins (schedule (f .nodes)) [] next
     ∙ ap (λ (x : ℕ). next + x) (scheduled early f sound .total (λ n. nodeWords (resultWordsOf early) n (n .payload)))
 
-pub opened-size : (early : List Function) → AllSound early → Sizes (opened early) (resultWordsOf early)
-unfolding opened resultWordsOf
-opened-size [] s c ins next = omega arith
-opened-size (f ∷ early) (s, ss) c ins next = pickOne (eqb (f .id) c) (opened-size early ss)
+pub inlined-size : (early : List Function) → AllSound early → Sizes (inlined early) (resultWordsOf early)
+unfolding inlined resultWordsOf
+inlined-size [] s c ins next = omega arith
+inlined-size (f ∷ early) (s, ss) c ins next = pickOne (eqb (f .id) c) (inlined-size early ss)
   where
-    pickOne : (b : Bool) → Sizes (opened early) (resultWordsOf early)
-        → cond b (openFunction (opened early) f ins next) (opened early c ins next) .next
+    pickOne : (b : Bool) → Sizes (inlined early) (resultWordsOf early)
+        → cond b (inlineFunction (inlined early) f ins next) (inlined early c ins next) .next
         ≡ next + cond b (resultWords (resultWordsOf early) f) (resultWordsOf early c)
     pickOne true h = function-size early f s h ins next
     pickOne false h = h c ins next
 
 -- the instructions are at most the operations, and the words are those of the sum
 pub count-of : (early : List Function) (f : Function) → AllSound (f ∷ early) → length (boardListOf early f .instructions) ≤ functionOperations (operationsOf early) f
-count-of early f (s, ss) = function-count early f s (opened-count early ss) (places 0 (f .inputs)) (widths (f .inputs))
+count-of early f (s, ss) = function-count early f s (inlined-count early ss) (places 0 (f .inputs)) (widths (f .inputs))
 
 pub words-of : (early : List Function) (f : Function) → AllSound (f ∷ early) → boardListOf early f .words ≡ functionWords early f
-words-of early f (s, ss) = function-size early f s (opened-size early ss) (places 0 (f .inputs)) (widths (f .inputs))
+words-of early f (s, ss) = function-size early f s (inlined-size early ss) (places 0 (f .inputs)) (widths (f .inputs))
 
 -- ---- the outputs
 
@@ -167,7 +167,7 @@ laid early f sound =
     let m : List ℕ = replicate (b .words) 0 in
     let room : length m ≡ b .words = length-replicate (b .words) 0 in
     let r = whole-served early f sound args (values-typed (f .inputs) [] (sound .0 .resolved .formed .inputTypes)) m (omega arith) in
-    let ports = openFunction (opened early) f (places 0 (f .inputs)) (widths (f .inputs)) .ports in
+    let ports = inlineFunction (inlined early) f (places 0 (f .inputs)) (widths (f .inputs)) .ports in
     let both = spans-below (b .words) outs ports (stand-below _ (b .words) outs ports (r .values) (r .typed) (r .stand)) in
     (r .fit, both .0, both .1)
 

@@ -19,10 +19,10 @@ use Rattle.graph.specs.Sound.{AllSound}
 use Rattle.graph.specs.Meaning.{functionMeans, meaningOf}
 use Rattle.bytecode.specs.Run.{run, places, spans}
 use Rattle.graph.specs.Schedule.{schedule}
-use Rattle.lowering.specs.Compile.{openFunction, opened, boardListOf}
+use Rattle.lowering.specs.Compile.{inlineFunction, inlined, boardListOf}
 use Rattle.bytecode.proofs.Memory.{Keeps, Stand, keeps-sets, stand-placed}
 use Rattle.base.proofs.Stores.{sets-words}
-use Rattle.lowering.proofs.Simulate.{opened-up, nodes-up, Served, serves, function-served}
+use Rattle.lowering.proofs.Simulate.{inlined-up, nodes-up, Served, serves, function-served}
 
 map-append : (g : ℕ → ℕ) (xs ys : List ℕ) → map g (xs ++ ys) ≡ map g xs ++ map g ys
 map-append g [] ys = refl
@@ -50,14 +50,14 @@ pub record Runs (early : List Function) (f : Function) (args : List Value) (m : 
 -- the run of the instructions, once the arguments stand
 pub whole-served : (early : List Function) (f : Function) → AllSound (f ∷ early) → (args : List Value) → Typed (f .inputs) args → (m : List ℕ)
     → boardListOf early f .words ≤ length m
-    → Served (sets m 0 (allWords args)) (widths (f .inputs)) (openFunction (opened early) f (places 0 (f .inputs)) (widths (f .inputs)))
+    → Served (sets m 0 (allWords args)) (widths (f .inputs)) (inlineFunction (inlined early) f (places 0 (f .inputs)) (widths (f .inputs)))
     (outputTypes (f .outputs)) (functionMeans (meaningOf early) f args)
 whole-served early f (sound, sounds) args typed m l =
     let ins = places 0 (f .inputs) in
     let start = widths (f .inputs) in
     let m′ = sets m 0 (allWords args) in
     let count : length (allWords args) ≡ start = typed-widths (f .inputs) args typed in
-    let up : start ≤ openFunction (opened early) f ins start .next = nodes-up (opened early) (opened-up early) ins (schedule (f .nodes)) [] start in
+    let up : start ≤ inlineFunction (inlined early) f ins start .next = nodes-up (inlined early) (inlined-up early) ins (schedule (f .nodes)) [] start in
     let same : length m′ ≡ length m = length-sets m 0 (allWords args) in
     let stood : Stand m′ start ins args =
     stand-placed m′ start (f .inputs) args 0 typed (omega arith) (sets-words (allWords args) m 0 (omega arith)) in
@@ -68,10 +68,10 @@ pub runs : (early : List Function) (f : Function) → AllSound (f ∷ early) →
 runs early f sound args typed m l =
     let ins = places 0 (f .inputs) in
     let start = widths (f .inputs) in
-    let o = openFunction (opened early) f ins start in
+    let o = inlineFunction (inlined early) f ins start in
     let m′ = sets m 0 (allWords args) in
     let count : length (allWords args) ≡ start = typed-widths (f .inputs) args typed in
-    let up : start ≤ o .next = nodes-up (opened early) (opened-up early) ins (schedule (f .nodes)) [] start in
+    let up : start ≤ o .next = nodes-up (inlined early) (inlined-up early) ins (schedule (f .nodes)) [] start in
     let same : length m′ ≡ length m = length-sets m 0 (allWords args) in
     let first : Keeps 0 start m m′ = keeps-sets m 0 start (allWords args) (omega arith) in
     let r = whole-served early f sound args typed m l in

@@ -17,7 +17,7 @@ use Rattle.graph.specs.Schedule.{schedule}
 use Rattle.graph.specs.Meaning.{nodeMeans, meaningOf, graphMeans}
 use Rattle.graph.specs.Table.{Chosen}
 use Rattle.bytecode.specs.Run.{execute}
-use Rattle.lowering.specs.Compile.{opened}
+use Rattle.lowering.specs.Compile.{inlined}
 use Rattle.bytecode.specs.Code.{encode, decode, guard, then}
 use Rattle.bytecode.specs.Answers.{Buffers, ran}
 use Rattle.lowering.specs.Answers.{compilable, codeOf, compiled}
@@ -212,6 +212,6 @@ cases =
     ∷ []
 
 pub settled : Each Holds cases
-unfolding verdict table need _>>=_ _>>_ via nodeMeans meaningOf results operationsOf resultWordsOf schedule opened encode decode guard then execute compiled ran decimal functionLine listing Ieee.add Ieee.mul Ieee.ofBits Ieee.toBits
+unfolding verdict table need _>>=_ _>>_ via nodeMeans meaningOf results operationsOf resultWordsOf schedule inlined encode decode guard then execute compiled ran decimal functionLine listing Ieee.add Ieee.mul Ieee.ofBits Ieee.toBits
 settled =
     ((refl, refl), (refl, (refl, (refl, (refl, (refl, (refl, (refl, (refl, (refl, ((refl, refl), ((refl, refl), ((refl, refl), ((refl, refl), (refl, (refl, (refl, (refl, (refl, (refl, (refl, (refl, (refl, (refl, (refl, (refl, (refl, (refl, (refl, (refl, (refl, (refl, (refl, (refl, (refl, (refl, (refl, tt)))))))))))))))))))))))))))))))))))))

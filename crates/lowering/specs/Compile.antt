@@ -1,4 +1,4 @@
--- The board list of a function: each result takes the next words, and a call is opened where it stands.
+-- The board list of a function: each result takes the next words, and a call is inlined where it stands.
 use Prim.Native.Nat.{ℕ, zero, suc, _+_}
 use mathlib.Core.Bool.{Bool, true, false, cond}
 use mathlib.Core.List.{List, [], _∷_, _++_, map}
@@ -30,16 +30,16 @@ address ins written r = getD (cond (eqb (r .node) 0) ins (portsAt (r .node) writ
 -- ---- instructions
 
 -- the instructions, the first word behind them, and where the results stand
-pub record Opened : Type 0 where
+pub record Inlined : Type 0 where
   pub code : List Instruction
   pub next : ℕ
   pub ports : List ℕ
 
 -- the function of an id, with the addresses of its arguments, from a word on
-abbrev pub Open : Type 0
-Open = ℕ → List ℕ → ℕ → Opened
+abbrev pub Inline : Type 0
+Inline = ℕ → List ℕ → ℕ → Inlined
 
-abbrev pub single : Node → List ℕ → List ℕ → ℕ → Opened
+abbrev pub single : Node → List ℕ → List ℕ → ℕ → Inlined
 single n operands constants next =
     let out = gives (kindOf (n .kind)) (n .type) in
     record {
@@ -49,43 +49,43 @@ single n operands constants next =
     }
 
 -- a node, by the addresses of what it reads
-abbrev pub openNode : Open → (Ref → ℕ) → ℕ → Node → Payload → Opened
-openNode go from next n (consts ws) = single n [] ws next
-openNode go from next n (refs rs) = single n (map from rs) [] next
-openNode go from next n (calls c rs) = go c (map from rs) next
+abbrev pub inlineNode : Inline → (Ref → ℕ) → ℕ → Node → Payload → Inlined
+inlineNode go from next n (consts ws) = single n [] ws next
+inlineNode go from next n (refs rs) = single n (map from rs) [] next
+inlineNode go from next n (calls c rs) = go c (map from rs) next
 
 pub record Body : Type 0 where
   pub code : List Instruction
   pub next : ℕ
   pub written : List Written
 
-abbrev pub also : Node → Opened → List Written → List Written
+abbrev pub also : Node → Inlined → List Written → List Written
 also n o written = record { id = n .id; ports = o .ports } ∷ written
 
-abbrev pub behind : Opened → Body → Body
+abbrev pub behind : Inlined → Body → Body
 behind o b = record { code = o .code ++ b .code; next = b .next; written = b .written }
 
-abbrev pub openNodes : Open → List ℕ → List Node → List Written → ℕ → Body
-openNodes go ins [] written next = record { code = []; next = next; written = written }
-openNodes go ins (n ∷ ns) written next =
-    let o = openNode go (address ins written) next n (n .payload) in
-    behind o (openNodes go ins ns (also n o written) (o .next))
+abbrev pub inlineNodes : Inline → List ℕ → List Node → List Written → ℕ → Body
+inlineNodes go ins [] written next = record { code = []; next = next; written = written }
+inlineNodes go ins (n ∷ ns) written next =
+    let o = inlineNode go (address ins written) next n (n .payload) in
+    behind o (inlineNodes go ins ns (also n o written) (o .next))
 
-abbrev pub openFunction : Open → Function → List ℕ → ℕ → Opened
-openFunction go f ins next =
-    let b = openNodes go ins (schedule (f .nodes)) [] next in
+abbrev pub inlineFunction : Inline → Function → List ℕ → ℕ → Inlined
+inlineFunction go f ins next =
+    let b = inlineNodes go ins (schedule (f .nodes)) [] next in
     record { code = b .code; next = b .next; ports = map (address ins (b .written)) (outputRefs (f .outputs)) }
 
 -- the functions stand the last first, so that a callee stands behind its caller
-unfoldable pub opened : List Function → Open
-opened [] c ins next = record { code = []; next = next; ports = [] }
-opened (f ∷ early) c ins next =
-    let r = opened early c ins next in
-    cond (eqb (f .id) c) (openFunction (opened early) f ins next) r
+unfoldable pub inlined : List Function → Inline
+inlined [] c ins next = record { code = []; next = next; ports = [] }
+inlined (f ∷ early) c ins next =
+    let r = inlined early c ins next in
+    cond (eqb (f .id) c) (inlineFunction (inlined early) f ins next) r
 
 -- ---- the whole
 
 abbrev pub boardListOf : List Function → Function → BoardList
 boardListOf early f =
-    let o = openFunction (opened early) f (places 0 (f .inputs)) (widths (f .inputs)) in
+    let o = inlineFunction (inlined early) f (places 0 (f .inputs)) (widths (f .inputs)) in
     record { arguments = widths (f .inputs); instructions = o .code; words = o .next; outputs = spans (outputTypes (f .outputs)) (o .ports) }

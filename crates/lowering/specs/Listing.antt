@@ -9,7 +9,7 @@ use Rattle.graph.specs.Graph.{Function}
 use Rattle.graph.specs.Judge.{table}
 use Rattle.graph.specs.Sums.{functionOperations, operationsOf, functionWords}
 use Rattle.lowering.specs.Compile.{boardListOf}
-use Rattle.base.specs.Limits.{operationLimit, wordLimit}
+use Rattle.base.specs.Limits.{operationLimit, wordLimit, withinLimits}
 use Rattle.bytecode.specs.Code.{encode}
 
 -- ---- numbers and words as bytes
@@ -80,8 +80,8 @@ abbrev pub limited : ℕ → ℕ → List ℕ
 limited limit n = cond (leb n limit) (decimal n) overText
 
 -- the code's length, or none where a count is over
-abbrev pub codeSize : Bool → List ℕ → List ℕ
-codeSize within code = cond within (decimal (length code)) noneText
+abbrev pub codeLengthText : Bool → List ℕ → List ℕ
+codeLengthText within code = cond within (decimal (length code)) noneText
 
 unfoldable pub functionLine : List Function → Function → List ℕ
 functionLine early f =
@@ -94,7 +94,7 @@ functionLine early f =
     ++ wordsText
     ++ limited wordLimit words
     ++ codeText
-    ++ codeSize (leb operations operationLimit && leb words wordLimit) (encode (boardListOf early f))
+    ++ codeLengthText (withinLimits operations words) (encode (boardListOf early f))
     ++ newline
 
 -- the functions stand the last first

@@ -135,6 +135,13 @@ exists Constant = true
 exists References = true
 exists Call = true
 
+-- a call
+abbrev pub calling : Form → Bool
+calling Absent = false
+calling Constant = false
+calling References = false
+calling Call = true
+
 -- a kind that an instruction may have: not a call
 abbrev pub executable : Form → Bool
 executable Absent = false

@@ -3,7 +3,7 @@ ghost use mathlib.Core.Path.{_≡_};
 ghost use Prim.Native.Nat.{_<_, _≤_};
 ghost use Rattle.ports.specs.Kinds.{kindOf};
 ghost use Rattle.ports.specs.Ports as Definition;
-ghost use Rattle.ports.specs.Ports.{portsOf, typeFits};
+ghost use Rattle.ports.specs.Ports.{portsOf, typeFits, constantIn, calling};
 
 // What stands behind the head of a node of a kind. Absent: there is no such kind.
 pub enum Form {
@@ -338,17 +338,28 @@ pub fn result_words(row: Ports, ty: u8) -> usize
     }
 }
 
-// The words of the constant of a kind with this row.
+// The words of a node's constant.
 pub fn constant_words(row: Ports) -> usize
-    ensures { λ r. ⌜ r ≡ Definition.constantIn (row .form) (row .words) ⌝ }
-    ensures bounded { λ r. ⌜ r < 256 ⌝ }
+    ensures { λ r. ⌜ (r ≡ constantIn (row .form) (row .words)) × (r < 256) ⌝ }
 {
     let form = row.form;
     match form {
         Form::Absent => 0,
-        Form::Constant => row.words as usize,
+        Form::Constant => base::wide(row.words),
         Form::References => 0,
         Form::Call => 0,
+    }
+}
+
+// Whether a node of this form is a call.
+pub fn is_call(form: Form) -> bool
+    ensures { λ r. ⌜ r ≡ calling form ⌝ }
+{
+    match form {
+        Form::Absent => false,
+        Form::Constant => false,
+        Form::References => false,
+        Form::Call => true,
     }
 }
 

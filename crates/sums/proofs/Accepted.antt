@@ -7,6 +7,7 @@ use native.Mathlib.Omega.{arith}
 use lib.Dec.{leb, eqb}
 use lib.ListN.{length}
 use borrow.Author.Tests.{leb-true, eqb-true, eqb-false}
+use Rattle.base.specs.Limits.{functionLimit, nodeLimit, portLimit}
 use Rattle.base.specs.Outcome.{ok, Part}
 use Rattle.base.specs.Bytes.{byte, u16, Bytes}
 use Rattle.graph.specs.Graph.{Function}
@@ -19,15 +20,10 @@ use Rattle.graph.proofs.Formed.{accepted}
 use Rattle.reader.specs.Layout.{nodeEnd, nodeCount, nodesPlace, functionEnd, functionPlace, functionOf, earlier}
 use Rattle.reader.specs.Find.{ReadsNode, ReadsNodes, ReadsFunction}
 use Rattle.reader.proofs.Standing.{function-read, table-read}
-use Rattle.reader.proofs.Passed.{head-fits, callee-fits, first-reads, rest-reads, function-holds}
+use Rattle.reader.proofs.Passed.{head-fits, callee-fits, first-reads, rest-reads, function-holds, length-earlier}
 use Rattle.sums.specs.Position.{placeOf, NodeFit, NodesFit, Fit, AllFit}
 
 -- ---- the functions by position
-
-earlier-length : (s : List ℕ) (n : ℕ) → length (earlier 8 s n) ≡ n
-unfolding earlier
-earlier-length s zero = refl
-earlier-length s (suc n) = ap suc (earlier-length s n)
 
 module _ (s : List ℕ) (n : ℕ) (e : verdict s ≡ ok n) where
   judged : (fs : List Function) × (table s ≡ ok fs) × (length fs ≡ n)
@@ -36,10 +32,10 @@ module _ (s : List ℕ) (n : ℕ) (e : verdict s ≡ ok n) where
       let (fs, t, l) = took (table s) _ n e in
       (fs, t, ok-is l)
 
-  count-is : n ≡ byte s 5
+  pub count-is : n ≡ byte s 5
   count-is =
       let (fs, t, l) = judged in
-      sym l ∙ ap length (table-read s fs t) ∙ earlier-length s (byte s 5)
+      sym l ∙ ap length (table-read s fs t) ∙ length-earlier 8 s (byte s 5)
 
   -- all functions, the last first
   pub functions-are : table s ≡ ok (earlier 8 s n)
@@ -51,8 +47,8 @@ module _ (s : List ℕ) (n : ℕ) (e : verdict s ≡ ok n) where
   unfolding table
   parsed = let (gs, p, e0) = took (parse version1 s) _ (earlier 8 s n) functions-are in (gs, p)
 
-  -- there are at most 16
-  pub few-functions : n ≤ 16
+  -- there are at most functionLimit
+  pub few-functions : n ≤ functionLimit
   few-functions =
       let (gs, p) = parsed in
       let (t1, e1) = passed _ _ _ _ _ p in
@@ -60,7 +56,7 @@ module _ (s : List ℕ) (n : ℕ) (e : verdict s ≡ ok n) where
       let (t3, e3) = passed _ _ _ _ _ e2 in
       let (t4, e4) = passed _ _ _ _ _ e3 in
       let (t5, e5) = passed _ _ _ _ _ e4 in
-      let m : byte s 5 ≤ 16 = leb-true (byte s 5) 16 (and-inv (leb 1 (byte s 5)) (leb (byte s 5) 16) t5 .1) in
+      let m : byte s 5 ≤ functionLimit = leb-true (byte s 5) functionLimit (and-inv (leb 1 (byte s 5)) (leb (byte s 5) functionLimit) t5 .1) in
       let q = count-is in
       omega arith
 
@@ -74,7 +70,7 @@ module _ (s : List ℕ) (n : ℕ) (e : verdict s ≡ ok n) where
       let (t4, e4) = passed _ _ _ _ _ e3 in
       eqb-true (u16 s 6) (length s) t4
 
-  functions-read : (p : Part (List Function)) × (functions 256 (byte s 5) s 8 ≡ ok p)
+  functions-read : (p : Part (List Function)) × (functions nodeLimit (byte s 5) s 8 ≡ ok p)
   functions-read =
       let (gs, p) = parsed in
       let (t1, e1) = passed _ _ _ _ _ p in
@@ -89,7 +85,7 @@ module _ (s : List ℕ) (n : ℕ) (e : verdict s ≡ ok n) where
 
 module _ (s : List ℕ) where
   -- each function was read where it stands
-  pub at-places : (n k : ℕ) (p : Part (List Function)) → functions 256 n s (functionPlace 8 s k) ≡ ok p → (j : ℕ) → j < n → ReadsFunction s (functionPlace 8 s (k + j))
+  pub at-places : (n k : ℕ) (p : Part (List Function)) → functions nodeLimit n s (functionPlace 8 s k) ≡ ok p → (j : ℕ) → j < n → ReadsFunction s (functionPlace 8 s (k + j))
   unfolding functionPlace
   at-places zero k p e j l = absurd (omega arith)
   at-places (suc n) k p e zero l =
@@ -99,9 +95,9 @@ module _ (s : List ℕ) where
   at-places (suc n) k p e (suc j) l =
       let (x, ex, e1) = took _ _ _ e in
       let (r, er, e2) = took _ _ _ e1 in
-      let w : x .next ≡ functionEnd s (functionPlace 8 s k) = ap (λ (y : Part Function). y .next) (function-read 256 s (functionPlace 8 s k) x ex) in
+      let w : x .next ≡ functionEnd s (functionPlace 8 s k) = ap (λ (y : Part Function). y .next) (function-read nodeLimit s (functionPlace 8 s k) x ex) in
       let z : suc k + j ≡ k + suc j = omega arith in
-      subst (λ (i : ℕ). ReadsFunction s (functionPlace 8 s i)) z (at-places n (suc k) r (ap (functions 256 n s) (sym w) ∙ er) j (omega arith))
+      subst (λ (i : ℕ). ReadsFunction s (functionPlace 8 s i)) z (at-places n (suc k) r (ap (functions nodeLimit n s) (sym w) ∙ er) j (omega arith))
 
   module _ (short : length s < 65536) where
     node-fit : (at : ℕ) → ReadsNode s at → NodeFit s at
@@ -116,17 +112,17 @@ module _ (s : List ℕ) where
         let rest = subst (λ (k : ℕ). ReadsNodes k s (nodeEnd s at)) m (rest-reads s (suc n) at (omega arith) r) in
         (node-fit at (first-reads s (suc n) at (omega arith) r), nodes-fit n (nodeEnd s at) rest)
 
-    few-ports : (at : ℕ) → ReadsFunction s at → (byte s (at + 2) ≤ 8) × (byte s (at + 3) ≤ 8)
+    few-ports : (at : ℕ) → ReadsFunction s at → (byte s (at + 2) ≤ portLimit) × (byte s (at + 3) ≤ portLimit)
     few-ports at (x, e) =
         let nin = byte s (at + 2) in
         let nout = byte s (at + 3) in
         let (t, e1) = passed _ _ _ _ _ e in
         let (u, e2) = passed _ _ _ _ _ e1 in
-        let (u1, u2) = and-inv (leb 1 (u16 s at) && leb nin 8 && (leb 1 nout && leb nout 8)) (leb (u16 s (at + 4)) 256) u in
-        let (u3, u4) = and-inv (leb 1 (u16 s at) && leb nin 8) (leb 1 nout && leb nout 8) u1 in
-        let (u5, u6) = and-inv (leb 1 (u16 s at)) (leb nin 8) u3 in
-        let (u7, u8) = and-inv (leb 1 nout) (leb nout 8) u4 in
-        (leb-true nin 8 u6, leb-true nout 8 u8)
+        let (u1, u2) = and-inv (leb 1 (u16 s at) && leb nin portLimit && (leb 1 nout && leb nout portLimit)) (leb (u16 s (at + 4)) nodeLimit) u in
+        let (u3, u4) = and-inv (leb 1 (u16 s at) && leb nin portLimit) (leb 1 nout && leb nout portLimit) u1 in
+        let (u5, u6) = and-inv (leb 1 (u16 s at)) (leb nin portLimit) u3 in
+        let (u7, u8) = and-inv (leb 1 nout) (leb nout portLimit) u4 in
+        (leb-true nin portLimit u6, leb-true nout portLimit u8)
 
     pub function-fit : (k : ℕ) → ReadsFunction s (placeOf s k) → Fit s k
     function-fit k r =

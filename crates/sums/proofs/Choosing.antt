@@ -8,6 +8,7 @@ use native.Mathlib.Omega.{arith}
 use lib.Dec.{leb, eqb}
 use lib.ListN.{length}
 use borrow.Author.Tests.{leb-true, le-leb, lt-leb}
+use Rattle.sums.specs.Capped.{operationCap, wordCap}
 use Rattle.base.specs.Outcome.{Outcome, ok, fault, _>>=_, _>>_, need, orElse}
 use Rattle.base.specs.Bytes.{u16}
 use Rattle.graph.specs.Graph.{Function}
@@ -41,11 +42,11 @@ is-refused (fault x y) a b e = (cc)
 
 -- ---- the function of an id
 
-chosen-one : (s : List ℕ) (m c : ℕ) → chosen c (before s (suc m)) ≡ cond (eqb (u16 s (placeOf s m)) c) (some (chosenAt s m)) (chosen c (before s m))
+pub chosen-one : (s : List ℕ) (m c : ℕ) → chosen c (before s (suc m)) ≡ cond (eqb (u16 s (placeOf s m)) c) (some (chosenAt s m)) (chosen c (before s m))
 unfolding earlier functionAt
 chosen-one s m c = refl
 
-faulted : (o : Outcome (List Function)) (a b : ℕ) → (o >>= λ fs. ok (length fs)) ≡ fault a b → o ≡ fault a b
+pub faulted : (o : Outcome (List Function)) (a b : ℕ) → (o >>= λ fs. ok (length fs)) ≡ fault a b → o ≡ fault a b
 unfolding _>>=_
 faulted (ok fs) a b e = let z : _≡_ {A = ℕ} 0 1 = cc in absurd (omega arith)
 faulted (fault n p) a b e = (cc)
@@ -113,24 +114,24 @@ pub up-to-over : (limit n : ℕ) → limit < n → Count.Over ≡ upTo limit n
 up-to-over limit n l = rw (lt-leb n limit l)
 
 module _ (s : List ℕ) (c k : ℕ) (e : named s c ≡ ok (chosenAt s k)) (m : Sizes) (em : m ≡ sizesOf s k) where
-  capped-operations : m .operations ≡ min 4097 (functionOperations (operationsOf (earlier 8 s k)) (functionOf 8 s k))
+  capped-operations : m .operations ≡ min operationCap (functionOperations (operationsOf (earlier 8 s k)) (functionOf 8 s k))
   unfolding cappedSizes
   capped-operations = ap (λ (x : Sizes). x .operations) em
 
-  capped-words : m .words ≡ min 8193 (functionWords (earlier 8 s k) (functionOf 8 s k))
+  capped-words : m .words ≡ min wordCap (functionWords (earlier 8 s k) (functionOf 8 s k))
   unfolding cappedSizes
   capped-words = ap (λ (x : Sizes). x .words) em
 
   -- the tests of the capped counts are those of the counts
-  operations-test : leb (m .operations) 4096 ≡ leb (functionOperations (operationsOf (earlier 8 s k)) (functionOf 8 s k)) 4096
-  operations-test = ap (λ (n : ℕ). leb n 4096) capped-operations ∙ leb-cap 4096 (functionOperations (operationsOf (earlier 8 s k)) (functionOf 8 s k))
+  operations-test : leb (m .operations) operationLimit ≡ leb (functionOperations (operationsOf (earlier 8 s k)) (functionOf 8 s k)) operationLimit
+  operations-test = ap (λ (n : ℕ). leb n operationLimit) capped-operations ∙ leb-cap operationLimit (functionOperations (operationsOf (earlier 8 s k)) (functionOf 8 s k))
 
-  words-test : leb (m .words) 8192 ≡ leb (functionWords (earlier 8 s k) (functionOf 8 s k)) 8192
-  words-test = ap (λ (n : ℕ). leb n 8192) capped-words ∙ leb-cap 8192 (functionWords (earlier 8 s k) (functionOf 8 s k))
+  words-test : leb (m .words) wordLimit ≡ leb (functionWords (earlier 8 s k) (functionOf 8 s k)) wordLimit
+  words-test = ap (λ (n : ℕ). leb n wordLimit) capped-words ∙ leb-cap wordLimit (functionWords (earlier 8 s k) (functionOf 8 s k))
 
-  module _ (l : 4096 < m .operations) where
-    many : leb (functionOperations (operationsOf (earlier 8 s k)) (functionOf 8 s k)) 4096 ≡ false
-    many = sym operations-test ∙ lt-leb (m .operations) 4096 l
+  module _ (l : operationLimit < m .operations) where
+    many : leb (functionOperations (operationsOf (earlier 8 s k)) (functionOf 8 s k)) operationLimit ≡ false
+    many = sym operations-test ∙ lt-leb (m .operations) operationLimit l
 
     pub over-operations : Measured.Refused 15 0 ≡ measuredOf (compilable s c)
     over-operations = ap measuredOf (sym (within-found (table s) c (chosenAt s k) e ∙ fails _ 15 0 _ many))
@@ -139,13 +140,13 @@ module _ (s : List ℕ) (c k : ℕ) (e : named s c ≡ ok (chosenAt s k)) (m : S
     unfolding codeCount
     no-code = sym (ap (countOf codeCount) e ∙ rw many)
 
-  module _ (l : m .operations ≤ 4096) where
-    few : leb (functionOperations (operationsOf (earlier 8 s k)) (functionOf 8 s k)) 4096 ≡ true
-    few = sym operations-test ∙ le-leb (m .operations) 4096 l
+  module _ (l : m .operations ≤ operationLimit) where
+    few : leb (functionOperations (operationsOf (earlier 8 s k)) (functionOf 8 s k)) operationLimit ≡ true
+    few = sym operations-test ∙ le-leb (m .operations) operationLimit l
 
-    module _ (h : 8192 < m .words) where
-      long : leb (functionWords (earlier 8 s k) (functionOf 8 s k)) 8192 ≡ false
-      long = sym words-test ∙ lt-leb (m .words) 8192 h
+    module _ (h : wordLimit < m .words) where
+      long : leb (functionWords (earlier 8 s k) (functionOf 8 s k)) wordLimit ≡ false
+      long = sym words-test ∙ lt-leb (m .words) wordLimit h
 
       pub over-words : Measured.Refused 16 0 ≡ measuredOf (compilable s c)
       over-words = ap measuredOf (sym (within-found (table s) c (chosenAt s k) e ∙ passes _ 15 0 _ few ∙ fails _ 16 0 _ long))
@@ -154,9 +155,9 @@ module _ (s : List ℕ) (c k : ℕ) (e : named s c ≡ ok (chosenAt s k)) (m : S
       unfolding codeCount
       no-code-either = sym (ap (countOf codeCount) e ∙ rw (few, long))
 
-    module _ (h : m .words ≤ 8192) where
-      short : leb (functionWords (earlier 8 s k) (functionOf 8 s k)) 8192 ≡ true
-      short = sym words-test ∙ le-leb (m .words) 8192 h
+    module _ (h : m .words ≤ wordLimit) where
+      short : leb (functionWords (earlier 8 s k) (functionOf 8 s k)) wordLimit ≡ true
+      short = sym words-test ∙ le-leb (m .words) wordLimit h
 
       -- within the limits the sizes are exact
       exact : cappedSizes (earlier 8 s k) (functionOf 8 s k) ≡ exactSizes (chosenAt s k)
@@ -164,8 +165,8 @@ module _ (s : List ℕ) (c k : ℕ) (e : named s c ≡ ok (chosenAt s k)) (m : S
       exact =
           let eo = capped-operations in
           let ew = capped-words in
-          let zo : min 4097 (functionOperations (operationsOf (earlier 8 s k)) (functionOf 8 s k)) ≡ functionOperations (operationsOf (earlier 8 s k)) (functionOf 8 s k) = omega arith in
-          let zw : min 8193 (functionWords (earlier 8 s k) (functionOf 8 s k)) ≡ functionWords (earlier 8 s k) (functionOf 8 s k) = omega arith in
+          let zo : min operationCap (functionOperations (operationsOf (earlier 8 s k)) (functionOf 8 s k)) ≡ functionOperations (operationsOf (earlier 8 s k)) (functionOf 8 s k) = omega arith in
+          let zw : min wordCap (functionWords (earlier 8 s k) (functionOf 8 s k)) ≡ functionWords (earlier 8 s k) (functionOf 8 s k) = omega arith in
           rw (few, short, zo, zw)
 
       pub within-limits : Measured.Is m ≡ measuredOf (compilable s c)
@@ -184,11 +185,11 @@ module _ (s : List ℕ) (c k : ℕ) (e : named s c ≡ ok (chosenAt s k)) (m : S
 
   -- ---- each count by itself
 
-  pub its-operations : upTo 4096 (m .operations) ≡ countOf operationCount (named s c)
+  pub its-operations : upTo operationLimit (m .operations) ≡ countOf operationCount (named s c)
   unfolding operationCount
   its-operations =
-      ap (upTo 4096) capped-operations ∙ up-to-cap 4096 (functionOperations (operationsOf (earlier 8 s k)) (functionOf 8 s k)) ∙ sym (ap (countOf operationCount) e)
+      ap (upTo operationLimit) capped-operations ∙ up-to-cap operationLimit (functionOperations (operationsOf (earlier 8 s k)) (functionOf 8 s k)) ∙ sym (ap (countOf operationCount) e)
 
-  pub its-words : upTo 8192 (m .words) ≡ countOf wordCount (named s c)
+  pub its-words : upTo wordLimit (m .words) ≡ countOf wordCount (named s c)
   unfolding wordCount
-  its-words = ap (upTo 8192) capped-words ∙ up-to-cap 8192 (functionWords (earlier 8 s k) (functionOf 8 s k)) ∙ sym (ap (countOf wordCount) e)
+  its-words = ap (upTo wordLimit) capped-words ∙ up-to-cap wordLimit (functionWords (earlier 8 s k) (functionOf 8 s k)) ∙ sym (ap (countOf wordCount) e)

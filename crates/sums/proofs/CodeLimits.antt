@@ -5,6 +5,7 @@ use mathlib.Core.Bool.{Bool, true, false, cond}
 use mathlib.Core.List.{List, [], _∷_}
 use native.Mathlib.Omega.{arith}
 use lib.Dec.{eqb}
+use Rattle.base.specs.Limits.{operationLimit}
 use Rattle.ports.specs.declared.Form.{Form}
 use Rattle.ports.specs.declared.Form.the-variants.{Absent, Constant, References, Call}
 use Rattle.ports.specs.Kinds.{kindOf}
@@ -54,9 +55,12 @@ bytes-few (f ∷ early) c = pickOne (eqb (f .id) c) (bytes-few early)
     pickOne true h = nodes-few (bytesOfFunction early) (operationsOf early) h (f .nodes)
     pickOne false h = h c
 
+pub function-few : (early : List Function) (f : Function) → functionBytes (bytesOfFunction early) f ≤ 162 * functionOperations (operationsOf early) f
+function-few early f = nodes-few (bytesOfFunction early) (operationsOf early) (bytes-few early) (f .nodes)
+
 -- capping changes nothing
-pub bytes-below : (early : List Function) (f : Function) → functionOperations (operationsOf early) f ≤ 4096
+pub bytes-below : (early : List Function) (f : Function) → functionOperations (operationsOf early) f ≤ operationLimit
     → min byteCap (functionBytes (bytesOfFunction early) f) ≡ functionBytes (bytesOfFunction early) f
 bytes-below early f l =
-    let h : functionBytes (bytesOfFunction early) f ≤ 162 * functionOperations (operationsOf early) f = nodes-few (bytesOfFunction early) (operationsOf early) (bytes-few early) (f .nodes) in
+    let h : functionBytes (bytesOfFunction early) f ≤ 162 * functionOperations (operationsOf early) f = function-few early f in
     omega arith

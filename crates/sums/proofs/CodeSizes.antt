@@ -7,6 +7,8 @@ use mathlib.Core.Logic.{inl, inr}
 use native.Mathlib.Omega.{arith}
 use lib.Dec.{eqb}
 use lib.ListN.{length, length-append, length-map}
+use Rattle.bytecode.proofs.Back.{instruction-length}
+use Rattle.base.proofs.Stands.{all-length}
 use Rattle.ports.specs.Kinds.{kindOf}
 use Rattle.ports.specs.Ports.{widths, takes, arity, constantWords}
 use Rattle.ports.proofs.Laws.{length-takes}
@@ -19,8 +21,8 @@ use Rattle.graph.specs.Sound.{FormedPayload, FormedNode, Shaped, Sound, AllSoun
 use Rattle.base.proofs.Outcomes.{is-each}
 use Rattle.graph.proofs.Order.{scheduled, schedule-within}
 use Rattle.bytecode.specs.Run.{Instruction, places}
-use Rattle.lowering.specs.Compile.{Written, address, Open, single, openNode, also, openNodes, openFunction, opened, boardListOf}
-use Rattle.base.specs.Bytes.{bytesOf, allBytes}
+use Rattle.lowering.specs.Compile.{Written, address, Inline, single, inlineNode, also, inlineNodes, inlineFunction, inlined, boardListOf}
+use Rattle.base.specs.Bytes.{allBytes}
 use Rattle.bytecode.specs.Code.{instructionCode, instructionsCode, headerCode, encode}
 use Rattle.lowering.proofs.Limits.{output-words}
 use Rattle.sums.specs.CodeSums.{nodeInstructions, nodeBytes, functionInstructions, functionBytes, instructionsOf, bytesOfFunction}
@@ -32,25 +34,25 @@ pub record Measure (size : List Instruction → ℕ) : Type 0 where
   pub empty : size [] ≡ 0
   pub append : (is js : List Instruction) → size (is ++ js) ≡ size is + size js
 
--- the size of a node's code, wherever it is opened
-abbrev pub NodeSize : (List Instruction → ℕ) → Open → (Node → ℕ) → Node → Type 0
-NodeSize size go weight n = (from : Ref → ℕ) (next : ℕ) → size (openNode go from next n (n .payload) .code) ≡ weight n
+-- the size of a node's code, wherever it is inlined
+abbrev pub NodeSize : (List Instruction → ℕ) → Inline → (Node → ℕ) → Node → Type 0
+NodeSize size go weight n = (from : Ref → ℕ) (next : ℕ) → size (inlineNode go from next n (n .payload) .code) ≡ weight n
 
-module _ (size : List Instruction → ℕ) (measure : Measure size) (go : Open) (weight : Node → ℕ) (ins : List ℕ) where
+module _ (size : List Instruction → ℕ) (measure : Measure size) (go : Inline) (weight : Node → ℕ) (ins : List ℕ) where
   -- the nodes' sizes add up
   pub nodes-measure : (ns : List Node) → ((n : Node) → Is n ns → NodeSize size go weight n) → (written : List Written) (next : ℕ)
-      → size (openNodes go ins ns written next .code) ≡ sum weight ns
+      → size (inlineNodes go ins ns written next .code) ≡ sum weight ns
   nodes-measure [] h written next = measure .empty
   nodes-measure (n ∷ ns) h written next =
-      let o = openNode go (address ins written) next n (n .payload) in
-      let b = openNodes go ins ns (also n o written) (o .next) in
+      let o = inlineNode go (address ins written) next n (n .payload) in
+      let b = inlineNodes go ins ns (also n o written) (o .next) in
       let x : size (o .code) ≡ weight n = h n (inl refl) (address ins written) next in
       let y : size (b .code) ≡ sum weight ns = nodes-measure ns (λ m i. h m (inr i)) (also n o written) (o .next) in
       measure .append (o .code) (b .code) ∙ omega arith
 
   -- a sound function's size is the sum over its nodes
   pub function-measure : (early : List Function) (f : Function) → Sound early f → ((n : Node) → Is n (f .nodes) → NodeSize size go weight n) → (next : ℕ)
-      → size (openFunction go f ins next .code) ≡ sum weight (f .nodes)
+      → size (inlineFunction go f ins next .code) ≡ sum weight (f .nodes)
   function-measure early f sound h next =
       nodes-measure (schedule (f .nodes)) (λ n i. h n (schedule-within (f .nodes) n i)) [] next ∙ scheduled early f sound .total weight
 
@@ -61,35 +63,35 @@ pub counts : Measure length
 counts = record { empty = refl; append = length-append }
 
 -- a node's instructions
-pub node-instructions : (go : Open) (callee : ℕ → ℕ) → ((c : ℕ) (ins : List ℕ) (next : ℕ) → length (go c ins next .code) ≡ callee c)
-    → (from : Ref → ℕ) (next : ℕ) (n : Node) (p : Payload) → length (openNode go from next n p .code) ≡ nodeInstructions callee p
+pub node-instructions : (go : Inline) (callee : ℕ → ℕ) → ((c : ℕ) (ins : List ℕ) (next : ℕ) → length (go c ins next .code) ≡ callee c)
+    → (from : Ref → ℕ) (next : ℕ) (n : Node) (p : Payload) → length (inlineNode go from next n p .code) ≡ nodeInstructions callee p
 node-instructions go callee h from next n (consts ws) = refl
 node-instructions go callee h from next n (refs rs) = refl
 node-instructions go callee h from next n (calls c rs) = h c (map from rs) next
 
 function-instructions-by : (early : List Function) (f : Function) → Sound early f
-    → ((c : ℕ) (ins : List ℕ) (next : ℕ) → length (opened early c ins next .code) ≡ instructionsOf early c) → (ins : List ℕ) (next : ℕ)
-    → length (openFunction (opened early) f ins next .code) ≡ functionInstructions (instructionsOf early) f
+    → ((c : ℕ) (ins : List ℕ) (next : ℕ) → length (inlined early c ins next .code) ≡ instructionsOf early c) → (ins : List ℕ) (next : ℕ)
+    → length (inlineFunction (inlined early) f ins next .code) ≡ functionInstructions (instructionsOf early) f
 function-instructions-by early f sound h ins next =
-    function-measure length counts (opened early) (λ n. nodeInstructions (instructionsOf early) (n .payload)) ins early f sound
-    (λ n i from next. node-instructions (opened early) (instructionsOf early) h from next n (n .payload)) next
+    function-measure length counts (inlined early) (λ n. nodeInstructions (instructionsOf early) (n .payload)) ins early f sound
+    (λ n i from next. node-instructions (inlined early) (instructionsOf early) h from next n (n .payload)) next
 
 -- the instructions of the function of an id
-pub opened-instructions : (early : List Function) → AllSound early → (c : ℕ) (ins : List ℕ) (next : ℕ) → length (opened early c ins next .code) ≡ instructionsOf early c
-unfolding opened instructionsOf
-opened-instructions [] sound c ins next = refl
-opened-instructions (f ∷ early) (s, sound) c ins next = pickOne (eqb (f .id) c) (opened-instructions early sound)
+pub inlined-instructions : (early : List Function) → AllSound early → (c : ℕ) (ins : List ℕ) (next : ℕ) → length (inlined early c ins next .code) ≡ instructionsOf early c
+unfolding inlined instructionsOf
+inlined-instructions [] sound c ins next = refl
+inlined-instructions (f ∷ early) (s, sound) c ins next = pickOne (eqb (f .id) c) (inlined-instructions early sound)
   where
-    pickOne : (b : Bool) → ((c : ℕ) (ins : List ℕ) (next : ℕ) → length (opened early c ins next .code) ≡ instructionsOf early c)
-        → length (cond b (openFunction (opened early) f ins next) (opened early c ins next) .code)
+    pickOne : (b : Bool) → ((c : ℕ) (ins : List ℕ) (next : ℕ) → length (inlined early c ins next .code) ≡ instructionsOf early c)
+        → length (cond b (inlineFunction (inlined early) f ins next) (inlined early c ins next) .code)
         ≡ cond b (functionInstructions (instructionsOf early) f) (instructionsOf early c)
     pickOne true h = function-instructions-by early f s h ins next
     pickOne false h = h c ins next
 
 -- the instructions of a function over those before it
 pub function-instructions : (early : List Function) (f : Function) → AllSound (f ∷ early) → (ins : List ℕ) (next : ℕ)
-    → length (openFunction (opened early) f ins next .code) ≡ functionInstructions (instructionsOf early) f
-function-instructions early f (s, sound) ins next = function-instructions-by early f s (opened-instructions early sound) ins next
+    → length (inlineFunction (inlined early) f ins next .code) ≡ functionInstructions (instructionsOf early) f
+function-instructions early f (s, sound) ins next = function-instructions-by early f s (inlined-instructions early sound) ins next
 
 -- ---- they are at most the operations
 
@@ -128,45 +130,24 @@ instructions-limit early f limit l = let h = function-operations early f in omeg
 
 -- ---- bytes
 
--- so many bytes of a number
-pub bytes-length : (n x : ℕ) → length (bytesOf n x) ≡ n
-bytes-length zero x = refl
-bytes-length (suc n) x = ap suc (bytes-length n _)
-
--- so many bytes of each number
-pub all-bytes-length : (n : ℕ) (xs : List ℕ) → length (allBytes n xs) ≡ n * length xs
-all-bytes-length n [] = omega arith
-all-bytes-length n (x ∷ xs) =
-    let a : length (bytesOf n x) ≡ n = bytes-length n x in
-    let b : length (allBytes n xs) ≡ n * length xs = all-bytes-length n xs in
-    length-append (bytesOf n x) (allBytes n xs) ∙ omega arith
-
--- the bytes of one instruction
-pub instruction-length : (i : Instruction) → length (instructionCode i) ≡ 2 + 2 * length (i .operands) + 8 * length (i .constants)
-instruction-length i =
-    let a : length (allBytes 2 (i .operands)) ≡ 2 * length (i .operands) = all-bytes-length 2 (i .operands) in
-    let b : length (allBytes 8 (i .constants)) ≡ 8 * length (i .constants) = all-bytes-length 8 (i .constants) in
-    let c : length (allBytes 2 (i .operands) ++ allBytes 8 (i .constants)) ≡ length (allBytes 2 (i .operands)) + length (allBytes 8 (i .constants)) = length-append (allBytes 2 (i .operands)) (allBytes 8 (i .constants)) in
-    omega arith
-
 -- the code of instructions in two parts
 pub code-append : (is js : List Instruction) → instructionsCode (is ++ js) ≡ instructionsCode is ++ instructionsCode js
 code-append [] js = refl
 code-append (i ∷ is) js =
     ap (λ (xs : List ℕ). instructionCode i ++ xs) (code-append is js) ∙ sym (append-assoc (instructionCode i) (instructionsCode is) (instructionsCode js))
 
-abbrev pub codeLength : List Instruction → ℕ
-codeLength is = length (instructionsCode is)
+abbrev pub instructionBytes : List Instruction → ℕ
+instructionBytes is = length (instructionsCode is)
 
 -- the number of bytes adds up
-pub code-lengths : Measure codeLength
+pub code-lengths : Measure instructionBytes
 code-lengths = record {
   empty = refl;
   append = λ is js. ap length (code-append is js) ∙ length-append (instructionsCode is) (instructionsCode js);
 }
 
 -- the bytes of a node's own instruction, by its operands and constants
-pub single-length : (n : Node) (operands constants : List ℕ) (next : ℕ) → codeLength (single n operands constants next .code) ≡ 2 + 2 * length operands + 8 * length constants
+pub single-length : (n : Node) (operands constants : List ℕ) (next : ℕ) → instructionBytes (single n operands constants next .code) ≡ 2 + 2 * length operands + 8 * length constants
 single-length n operands constants next =
     let i : Instruction = record { kind = n .kind; type = n .type; operands = operands; constants = constants; result = next } in
     let a : length (instructionCode i ++ []) ≡ length (instructionCode i) + 0 = length-append (instructionCode i) [] in
@@ -174,9 +155,9 @@ single-length n operands constants next =
     omega arith
 
 -- a node's bytes: its own instruction has 2, and 2 for each operand and 8 for each word of a constant
-pub node-bytes : (early : List Function) (go : Open) (callee : ℕ → ℕ) → ((c : ℕ) (ins : List ℕ) (next : ℕ) → codeLength (go c ins next .code) ≡ callee c)
+pub node-bytes : (early : List Function) (go : Inline) (callee : ℕ → ℕ) → ((c : ℕ) (ins : List ℕ) (next : ℕ) → instructionBytes (go c ins next .code) ≡ callee c)
     → (from : Ref → ℕ) (next : ℕ) (n : Node) (p : Payload) → FormedPayload (kindOf (n .kind)) p → Shaped early n p
-    → codeLength (openNode go from next n p .code) ≡ nodeBytes callee n p
+    → instructionBytes (inlineNode go from next n p .code) ≡ nodeBytes callee n p
 node-bytes early go callee h from next n (consts ws) (form, l, t, u) shape =
     let k = kindOf (n .kind) in
     let a : length (takes k (n .type)) ≡ arity k = length-takes k (n .type) in
@@ -192,31 +173,31 @@ node-bytes early go callee h from next n (refs rs) (form, l) shape =
 node-bytes early go callee h from next n (calls c rs) formed shape = h c (map from rs) next
 
 function-bytes-by : (early : List Function) (f : Function) → Sound early f
-    → ((c : ℕ) (ins : List ℕ) (next : ℕ) → codeLength (opened early c ins next .code) ≡ bytesOfFunction early c) → (ins : List ℕ) (next : ℕ)
-    → codeLength (openFunction (opened early) f ins next .code) ≡ functionBytes (bytesOfFunction early) f
+    → ((c : ℕ) (ins : List ℕ) (next : ℕ) → instructionBytes (inlined early c ins next .code) ≡ bytesOfFunction early c) → (ins : List ℕ) (next : ℕ)
+    → instructionBytes (inlineFunction (inlined early) f ins next .code) ≡ functionBytes (bytesOfFunction early) f
 function-bytes-by early f sound h ins next =
-    function-measure codeLength code-lengths (opened early) (λ n. nodeBytes (bytesOfFunction early) n (n .payload)) ins early f sound
+    function-measure instructionBytes code-lengths (inlined early) (λ n. nodeBytes (bytesOfFunction early) n (n .payload)) ins early f sound
     (λ n i from next.
-    node-bytes early (opened early) (bytesOfFunction early) h from next n (n .payload)
+    node-bytes early (inlined early) (bytesOfFunction early) h from next n (n .payload)
     (is-each FormedNode (f .nodes) (sound .resolved .formed .nodes) n i .payload) (sound .resolved .shaped n i))
     next
 
 -- the bytes of the function of an id
-pub opened-bytes : (early : List Function) → AllSound early → (c : ℕ) (ins : List ℕ) (next : ℕ) → length (instructionsCode (opened early c ins next .code)) ≡ bytesOfFunction early c
-unfolding opened bytesOfFunction
-opened-bytes [] sound c ins next = refl
-opened-bytes (f ∷ early) (s, sound) c ins next = pickOne (eqb (f .id) c) (opened-bytes early sound)
+pub inlined-bytes : (early : List Function) → AllSound early → (c : ℕ) (ins : List ℕ) (next : ℕ) → length (instructionsCode (inlined early c ins next .code)) ≡ bytesOfFunction early c
+unfolding inlined bytesOfFunction
+inlined-bytes [] sound c ins next = refl
+inlined-bytes (f ∷ early) (s, sound) c ins next = pickOne (eqb (f .id) c) (inlined-bytes early sound)
   where
-    pickOne : (b : Bool) → ((c : ℕ) (ins : List ℕ) (next : ℕ) → codeLength (opened early c ins next .code) ≡ bytesOfFunction early c)
-        → codeLength (cond b (openFunction (opened early) f ins next) (opened early c ins next) .code)
+    pickOne : (b : Bool) → ((c : ℕ) (ins : List ℕ) (next : ℕ) → instructionBytes (inlined early c ins next .code) ≡ bytesOfFunction early c)
+        → instructionBytes (cond b (inlineFunction (inlined early) f ins next) (inlined early c ins next) .code)
         ≡ cond b (functionBytes (bytesOfFunction early) f) (bytesOfFunction early c)
     pickOne true h = function-bytes-by early f s h ins next
     pickOne false h = h c ins next
 
 -- the bytes of a function over those before it
 pub function-bytes : (early : List Function) (f : Function) → AllSound (f ∷ early) → (ins : List ℕ) (next : ℕ)
-    → length (instructionsCode (openFunction (opened early) f ins next .code)) ≡ functionBytes (bytesOfFunction early) f
-function-bytes early f (s, sound) ins next = function-bytes-by early f s (opened-bytes early sound) ins next
+    → length (instructionsCode (inlineFunction (inlined early) f ins next .code)) ≡ functionBytes (bytesOfFunction early) f
+function-bytes early f (s, sound) ins next = function-bytes-by early f s (inlined-bytes early sound) ins next
 
 -- ---- the whole list
 
@@ -231,6 +212,6 @@ encode-length early f sound =
     let outs = allBytes 2 (b .outputs) in
     let h : length head ≡ 12 = refl in
     let c : length code ≡ functionBytes (bytesOfFunction early) f = function-bytes early f sound (places 0 (f .inputs)) (widths (f .inputs)) in
-    let o : length outs ≡ 2 * length (b .outputs) = all-bytes-length 2 (b .outputs) in
+    let o : length outs ≡ 2 * length (b .outputs) = all-length 2 (b .outputs) in
     let w : length (b .outputs) ≡ widths (outputTypes (f .outputs)) = output-words early f sound in
     length-append (head ++ code) outs ∙ ap (λ (x : ℕ). x + length outs) (length-append head code) ∙ omega arith

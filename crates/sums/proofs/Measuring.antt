@@ -7,6 +7,7 @@ use native.Mathlib.Omega.{arith}
 use lib.Dec.{leb}
 use lib.ListN.{length, getD}
 use borrow.Author.Tests.{leb-true, leb-false, le-leb, lt-leb}
+use Rattle.base.specs.Limits.{operationLimit, withinLimits, wordLimit}
 use Rattle.ports.specs.Ports.{widths}
 use Rattle.graph.specs.Graph.{Function}
 use Rattle.graph.specs.Judge.{outputTypes}
@@ -18,7 +19,7 @@ use Rattle.reader.specs.Layout.{functionAt, functionPlace, functionOf, earlier}
 use Rattle.sums.specs.declared.Sizes.{Sizes}
 use Rattle.sums.specs.CodeSums.{functionBytes, bytesOfFunction}
 use Rattle.sums.specs.Capped.{operationCap, wordCap, byteCap, operationsAt, wordsAt, bytesAt, Summed}
-use Rattle.sums.specs.Answers.{limitsHold, codeSize, cappedSizes, sizesOf, Sized}
+use Rattle.sums.specs.Answers.{codeLength, cappedSizes, sizesOf, Sized}
 use Rattle.sums.proofs.CodeSizes.{encode-length}
 use Rattle.sums.proofs.CodeLimits.{bytes-below}
 
@@ -32,23 +33,23 @@ leb-cap limit n = by-limit (leb n limit) refl
     by-limit false e = let h : limit < n = leb-false n limit e in lt-leb (min (suc limit) n) limit (omega arith) ∙ sym e
 
 module _ (o w b u : ℕ) where
-  pub code-within : o ≤ 4096 → w ≤ 8192 → 12 + b + 2 * u ≡ codeSize o w b u
-  unfolding codeSize
-  code-within l m = rw (le-leb o 4096 l, le-leb w 8192 m)
+  pub code-within : o ≤ operationLimit → w ≤ wordLimit → 12 + b + 2 * u ≡ codeLength o w b u
+  unfolding codeLength
+  code-within l m = rw (le-leb o operationLimit l, le-leb w wordLimit m)
 
-  pub words-over : o ≤ 4096 → 8192 < w → 0 ≡ codeSize o w b u
-  unfolding codeSize
-  words-over l m = rw (le-leb o 4096 l, lt-leb w 8192 m)
+  pub words-over : o ≤ operationLimit → wordLimit < w → 0 ≡ codeLength o w b u
+  unfolding codeLength
+  words-over l m = rw (le-leb o operationLimit l, lt-leb w wordLimit m)
 
-  pub operations-over : 4096 < o → 0 ≡ codeSize o w b u
-  unfolding codeSize
-  operations-over l = rw (lt-leb o 4096 l)
+  pub operations-over : operationLimit < o → 0 ≡ codeLength o w b u
+  unfolding codeLength
+  operations-over l = rw (lt-leb o operationLimit l)
 
 module _ (early : List Function) (f : Function) (sound : AllSound (f ∷ early)) where
-  code-is : (outputs : ℕ) → outputs ≡ widths (outputTypes (f .outputs)) → (a b : Bool) → leb (functionOperations (operationsOf early) f) 4096 ≡ a
+  code-is : (outputs : ℕ) → outputs ≡ widths (outputTypes (f .outputs)) → (a b : Bool) → leb (functionOperations (operationsOf early) f) operationLimit ≡ a
       → cond (a && b) (12 + min byteCap (functionBytes (bytesOfFunction early) f) + 2 * outputs) 0 ≡ cond (a && b) (length (encode (boardListOf early f))) 0
   code-is outputs e true true q =
-      ap (λ (n : ℕ). 12 + n + 2 * outputs) (bytes-below early f (leb-true _ 4096 q))
+      ap (λ (n : ℕ). 12 + n + 2 * outputs) (bytes-below early f (leb-true _ operationLimit q))
       ∙ ap (λ (n : ℕ). 12 + functionBytes (bytesOfFunction early) f + 2 * n) e
       ∙ sym (encode-length early f sound)
   code-is outputs e true false q = refl
@@ -57,16 +58,16 @@ module _ (early : List Function) (f : Function) (sound : AllSound (f ∷ early))
   -- the sizes by the capped sums
   pub sizes-are : (p o r w b c a u : ℕ) → p ≡ f .place → o ≡ min operationCap (functionOperations (operationsOf early) f)
       → r ≡ min wordCap (resultWords (resultWordsOf early) f) → b ≡ min byteCap (functionBytes (bytesOfFunction early) f)
-      → a ≡ widths (f .inputs) → u ≡ widths (outputTypes (f .outputs)) → w ≡ min wordCap (a + r) → c ≡ codeSize o w b u
+      → a ≡ widths (f .inputs) → u ≡ widths (outputTypes (f .outputs)) → w ≡ min wordCap (a + r) → c ≡ codeLength o w b u
       → record { place = p; operations = o; words = w; code = c; arguments = a; outputs = u } ≡ cappedSizes early f
-  unfolding codeSize cappedSizes
+  unfolding codeLength cappedSizes
   sizes-are p o r w b c a u ep eo er eb ea eu ew ec =
       let operations = functionOperations (operationsOf early) f in
       let fw : w ≡ min wordCap (functionWords early f) = omega arith in
-      let lo : leb o 4096 ≡ leb operations 4096 = ap (λ (n : ℕ). leb n 4096) eo ∙ leb-cap 4096 operations in
-      let lw : leb w 8192 ≡ leb (functionWords early f) 8192 = ap (λ (n : ℕ). leb n 8192) fw ∙ leb-cap 8192 (functionWords early f) in
-      let fc : c ≡ cond (limitsHold operations (functionWords early f)) (length (encode (boardListOf early f))) 0 =
-      ec ∙ rw (lo, lw, eb) (code-is u eu (leb operations 4096) (leb (functionWords early f) 8192) refl) in
+      let lo : leb o operationLimit ≡ leb operations operationLimit = ap (λ (n : ℕ). leb n operationLimit) eo ∙ leb-cap operationLimit operations in
+      let lw : leb w wordLimit ≡ leb (functionWords early f) wordLimit = ap (λ (n : ℕ). leb n wordLimit) fw ∙ leb-cap wordLimit (functionWords early f) in
+      let fc : c ≡ cond (withinLimits operations (functionWords early f)) (length (encode (boardListOf early f))) 0 =
+      ec ∙ rw (lo, lw, eb) (code-is u eu (leb operations operationLimit) (leb (functionWords early f) wordLimit) refl) in
       rw (ep, eo, fw, fc, ea, eu)
 
 -- ---- of the function at position k
@@ -90,7 +91,7 @@ module _ (s : List ℕ) (k : ℕ) where
 
   pub measured-at : AllSound (functionOf 8 s k ∷ earlier 8 s k) → (os ws cs bs : List ℕ) → Summed s os ws cs bs k → (p o r w b c a u : ℕ) → p ≡ functionPlace 8 s k
       → o ≡ getD os k 0 → r ≡ getD ws k 0 → b ≡ getD bs k 0
-      → a ≡ widths (functionOf 8 s k .inputs) → u ≡ widths (outputTypes (functionOf 8 s k .outputs)) → w ≡ min wordCap (a + r) → c ≡ codeSize o w b u
+      → a ≡ widths (functionOf 8 s k .inputs) → u ≡ widths (outputTypes (functionOf 8 s k .outputs)) → w ≡ min wordCap (a + r) → c ≡ codeLength o w b u
       → record { place = p; operations = o; words = w; code = c; arguments = a; outputs = u } ≡ sizesOf s k
   measured-at sound os ws cs bs x p o r w b c a u ep eo er eb =
       sizes-are (earlier 8 s k) (functionOf 8 s k) sound p o r w b c a u (ep ∙ place-is)

@@ -1,5 +1,5 @@
 -- A node as the code meets it: its references, the place behind it, the nodes in turn.
-use Prim.Native.Nat.{ℕ, suc, _+_, _-_, _*_, _≤_, _<_}
+use Prim.Native.Nat.{ℕ, suc, _+_, _-_, _*_, _≤_, _<_, _^_}
 use mathlib.Core.Path.{_≡_, refl, sym, ap, _∙_, subst}
 use mathlib.Core.Bool.{true, false}
 use mathlib.Core.List.{List}
@@ -11,12 +11,12 @@ use Rattle.ports.specs.declared.Form.{Form}
 use Rattle.ports.specs.declared.Form.the-variants.{Absent, Constant, References, Call}
 use Rattle.ports.specs.declared.Ports.{Ports}
 use Rattle.ports.specs.Kinds.{Kind, kindOf}
-use Rattle.ports.specs.Ports.{portsOf, arity, formOf, constantIn, constantWords}
+use Rattle.ports.specs.Ports.{portsOf, arity, formOf, constantIn, constantWords, calling}
 use Rattle.base.specs.Bytes.{byte, u16}
 use Rattle.graph.specs.Graph.{calls}
 use Rattle.graph.specs.Read.{references}
 use Rattle.reader.specs.Layout.{kindAt, payloadAt, payloadEnd, nodeAt, nodeEnd, nodePlace, nodesPlace, nodeCount, functionEnd, functionPlace}
-use Rattle.sums.specs.Position.{tabulate, placeOf, calling, NodeFit, NodesFit}
+use Rattle.sums.specs.Position.{tabulate, placeOf, NodeFit, NodesFit}
 use Rattle.sums.proofs.Rows.{operandsBy, Narrow, narrow}
 use Rattle.sums.proofs.Tabulate.{tabulate-none, tabulate-more}
 
@@ -86,17 +86,17 @@ module _ (s : List ℕ) (at n : ℕ) where
   -- i of n nodes are passed
   pub record Passing (q i : ℕ) : Type 0 where
     pub index : i ≤ n
-    pub near : q < 1048576
+    pub near : q < 2 ^ 20
     pub fit : NodesFit s (n - i) q
     pub rest : nodePlace s at n ≡ nodePlace s q (n - i)
 
-  pub pass-start : at < 1048576 → NodesFit s n at → Passing at 0
+  pub pass-start : at < 2 ^ 20 → NodesFit s n at → Passing at 0
   pass-start l h = let z : n - 0 ≡ n = omega arith in record { index = omega arith; near = l; fit = rw z h; rest = rw z }
 
   pub pass-here : (q i : ℕ) → Passing q i → i < n → NodeFit s q
   pass-here q i h lt = let e : n - i ≡ suc (n - (i + 1)) = omega arith in let f = h .fit in (rw e at f) .0
 
-  pub pass-step : (q i r : ℕ) → Passing q i → i < n → r ≡ nodeEnd s q → r < 1048576 → Passing r (i + 1)
+  pub pass-step : (q i r : ℕ) → Passing q i → i < n → r ≡ nodeEnd s q → r < 2 ^ 20 → Passing r (i + 1)
   unfolding nodePlace
   pass-step q i r h lt er l =
       let e : n - i ≡ suc (n - (i + 1)) = omega arith in

@@ -7,6 +7,7 @@ use mathlib.Core.Logic.{_⊎_, inl, inr, ⊎-elim}
 use native.Mathlib.Omega.{arith}
 use lib.Dec.{eqb}
 use borrow.Author.Tests.{eq-eqb, ne-eqb}
+use Rattle.base.specs.Limits.{functionLimit}
 use Rattle.base.specs.Bytes.{u16}
 use Rattle.graph.specs.Graph.{Function}
 use Rattle.graph.specs.Sums.{operationsOf, resultWordsOf}
@@ -29,12 +30,12 @@ position-miss s (suc m) c h e =
     let z : suc m - 1 ≡ m = omega arith in
     rw (ne-eqb (u16 s (placeOf s m)) c (λ q. e (rw z q)), z)
 
-pub position-range : (s : List ℕ) (k c : ℕ) → (positionOf s k c < k) ⊎ (positionOf s k c ≡ 16)
+pub position-range : (s : List ℕ) (k c : ℕ) → (positionOf s k c < k) ⊎ (positionOf s k c ≡ functionLimit)
 unfolding positionOf
 position-range s zero c = inr refl
 position-range s (suc m) c = pickOne (eqb (u16 s (placeOf s m)) c) (position-range s m c)
   where
-    pickOne : (b : Bool) → (positionOf s m c < m) ⊎ (positionOf s m c ≡ 16) → (cond b m (positionOf s m c) < suc m) ⊎ (cond b m (positionOf s m c) ≡ 16)
+    pickOne : (b : Bool) → (positionOf s m c < m) ⊎ (positionOf s m c ≡ functionLimit) → (cond b m (positionOf s m c) < suc m) ⊎ (cond b m (positionOf s m c) ≡ functionLimit)
     pickOne true h = inl (omega arith)
     pickOne false h = ⊎-elim (λ l. inl (omega arith)) (λ e. inr e) h
 
@@ -42,7 +43,7 @@ position-range s (suc m) c = pickOne (eqb (u16 s (placeOf s m)) c) (position-ran
 
 module _ {A : Type 0} (s : List ℕ) (of : List Function → ℕ → A) (own : ℕ → A) (nil : A) (none : (c : ℕ) → of [] c ≡ nil)
     (one : (m c : ℕ) → of (before s (suc m)) c ≡ cond (eqb (u16 s (placeOf s m)) c) (own m) (of (before s m) c)) where
-  pub at-position : (k c : ℕ) → k ≤ 16 → positionOf s k c < k → of (before s k) c ≡ own (positionOf s k c)
+  pub at-position : (k c : ℕ) → k ≤ functionLimit → positionOf s k c < k → of (before s k) c ≡ own (positionOf s k c)
   unfolding positionOf
   at-position zero c b h = absurd (omega arith)
   at-position (suc m) c b h = one m c ∙ pickOne (eqb (u16 s (placeOf s m)) c) (λ l. at-position m c (omega arith) l) h
@@ -97,7 +98,7 @@ unfolding bytesOfFunction
 bytes-nil c = refl
 
 module _ (s : List ℕ) (k c g : ℕ) (eg : g ≡ positionOf s k c) where
-  module _ (b : k ≤ 16) (h : g < k) where
+  module _ (b : k ≤ functionLimit) (h : g < k) where
     below : positionOf s k c < k
     below = subst (λ (q : ℕ). q < k) eg h
 

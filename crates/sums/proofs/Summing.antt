@@ -1,5 +1,5 @@
 -- The sums over the nodes of a function, capped as they are taken.
-use Prim.Native.Nat.{ℕ, suc, _+_, _-_, _*_, _≤_, _<_, min}
+use Prim.Native.Nat.{ℕ, suc, _+_, _-_, _*_, _≤_, _<_, min, _^_}
 use mathlib.Core.Path.{_≡_, refl, sym, ap, _∙_}
 use mathlib.Core.Bool.{true, false}
 use mathlib.Core.List.{List}
@@ -9,7 +9,7 @@ use Rattle.ports.specs.declared.Form.{Form}
 use Rattle.ports.specs.declared.Form.the-variants.{Absent, Constant, References, Call}
 use Rattle.ports.specs.declared.Ports.{Ports}
 use Rattle.ports.specs.Kinds.{kindOf}
-use Rattle.ports.specs.Ports.{widths, gives, portsOf, arity, formOf, constantIn, constantWords}
+use Rattle.ports.specs.Ports.{widths, gives, portsOf, arity, formOf, constantIn, constantWords, calling}
 use Rattle.ports.specs.Ports as PortList
 use Rattle.ports.proofs.Laws.{words-given}
 use Rattle.base.specs.Bytes.{byte, u16}
@@ -18,7 +18,7 @@ use Rattle.graph.specs.Sums.{sum, nodeOperations, operationsOf, nodeWords, resu
 use Rattle.reader.specs.Layout.{kindAt, payloadAt, nodeAt, nodeEnd, nodesAt, nodesPlace, nodeCount, functionAt}
 use Rattle.sums.specs.declared.Sums.{Sums}
 use Rattle.sums.specs.CodeSums.{nodeInstructions, nodeBytes, instructionsOf, bytesOfFunction}
-use Rattle.sums.specs.Position.{placeOf, before, positionOf, calling, NodesFit}
+use Rattle.sums.specs.Position.{placeOf, before, positionOf, NodesFit}
 use Rattle.sums.specs.Capped.{operationCap, wordCap, byteCap, operationsAt, wordsAt, instructionsAt, bytesAt, addsOperations, addsWords, addsInstructions, addsBytes, Caps, AllSummed}
 use Rattle.sums.proofs.Nodes.{row-is, row-narrow, form-is, call-payload, Passing, pass-start, pass-step}
 use Rattle.sums.proofs.Positions.{operations-at, words-at, instructions-at, bytes-at, operations-none, words-none, instructions-none, bytes-none}
@@ -158,7 +158,7 @@ module _ (s : List ℕ) (k n at : ℕ) where
     pub instructions : min operationCap (sum (addsInstructions s k) (nodesAt n s at)) ≡ min operationCap (m + sum (addsInstructions s k) (nodesAt (n - i) s q))
     pub bytes : min byteCap (sum (addsBytes s k) (nodesAt n s at)) ≡ min byteCap (b + sum (addsBytes s k) (nodesAt (n - i) s q))
 
-  pub sum-start : at < 1048576 → NodesFit s n at → Summing 0 0 0 0 0 at
+  pub sum-start : at < 2 ^ 20 → NodesFit s n at → Summing 0 0 0 0 0 at
   sum-start l h =
       let z : n - 0 ≡ n = omega arith in
       record {
@@ -172,7 +172,7 @@ module _ (s : List ℕ) (k n at : ℕ) where
 
   pub sum-step : (o w m b i q : ℕ) → Summing o w m b i q → i < n → (r : Sums) → Caps s k (nodeAt s q) r → (o' w' m' b' p : ℕ)
       → o' ≡ min operationCap (o + r .operations) → w' ≡ min wordCap (w + r .words) → m' ≡ min operationCap (m + r .instructions) → b' ≡ min byteCap (b + r .bytes)
-      → p ≡ nodeEnd s q → p < 1048576 → Summing o' w' m' b' (i + 1) p
+      → p ≡ nodeEnd s q → p < 2 ^ 20 → Summing o' w' m' b' (i + 1) p
   unfolding nodesAt
   sum-step o w m b i q st lt r c o' w' m' b' p eo ew em eb ep l =
       let e : n - i ≡ suc (n - (i + 1)) = omega arith in

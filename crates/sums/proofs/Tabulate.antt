@@ -8,6 +8,7 @@ use lib.Dec.{eqb}
 use lib.ListN.{length, getD, set, length-append}
 use lib.Seq.{sets, length-sets, getD-set-same, getD-set-other}
 use borrow.Author.Tests.{eqb-true, eqb-false}
+use Rattle.base.specs.Limits.{functionLimit}
 use Rattle.sums.specs.Position.{tabulate, placeOf, Starts}
 use Rattle.sums.specs.Capped.{AllSummed, cappedOperations, cappedWords, cappedInstructions, cappedBytes}
 use Rattle.base.proofs.Stores.{sets-append}
@@ -82,8 +83,8 @@ module _ (s os₀ ws₀ cs₀ bs₀ : List ℕ) where
   )
 
   -- each of them
-  pub summed-in : (os ws cs bs : List ℕ) (k : ℕ) → SumsIn s os₀ ws₀ cs₀ bs₀ os ws cs bs k → (length os₀ ≡ 16) × (length ws₀ ≡ 16) × (length cs₀ ≡ 16) × (length bs₀ ≡ 16)
-      → k ≤ 16 → AllSummed s os ws cs bs k
+  pub summed-in : (os ws cs bs : List ℕ) (k : ℕ) → SumsIn s os₀ ws₀ cs₀ bs₀ os ws cs bs k → (length os₀ ≡ functionLimit) × (length ws₀ ≡ functionLimit) × (length cs₀ ≡ functionLimit) × (length bs₀ ≡ functionLimit)
+      → k ≤ functionLimit → AllSummed s os ws cs bs k
   summed-in os ws cs bs k (eo, ew, ec, eb) (lo, lw, lc, lb) few j l =
       record {
         operations = tabulated-in (cappedOperations s) os₀ os k eo (omega arith) j l;

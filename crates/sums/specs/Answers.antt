@@ -1,7 +1,7 @@
 -- The sizes of a function, and what is answered of them.
 use Prim.Native.Nat.{ℕ, zero, suc, _+_, _*_, _<_, min}
 use mathlib.Core.Path.{_≡_}
-use mathlib.Core.Bool.{Bool, true, _&&_, cond}
+use mathlib.Core.Bool.{true, cond}
 use mathlib.Core.List.{List, [], _∷_}
 use lib.Dec.{leb}
 use lib.ListN.{length}
@@ -14,17 +14,14 @@ use Rattle.graph.specs.Sums.{functionOperations, operationsOf, functionWords}
 use Rattle.graph.specs.Table.{Chosen, chosen}
 use Rattle.lowering.specs.Answers.{codeOf}
 use Rattle.lowering.specs.Compile.{boardListOf}
-use Rattle.base.specs.Limits.{operationLimit, wordLimit}
+use Rattle.base.specs.Limits.{operationLimit, withinLimits, wordLimit}
 use Rattle.bytecode.specs.Code.{encode}
 use Rattle.reader.specs.Layout.{functionPlace, functionOf, earlier}
+use Rattle.sums.specs.Capped.{operationCap, wordCap}
 use Rattle.sums.specs.declared.Sizes.{Sizes}
 use Rattle.sums.specs.declared.Named.{Named}
 use Rattle.sums.specs.declared.Measured.{Measured}
 use Rattle.sums.specs.declared.Count.{Count}
-
--- both counts are within their limits
-abbrev pub limitsHold : ℕ → ℕ → Bool
-limitsHold operations words = leb operations operationLimit && leb words wordLimit
 
 -- n type bytes, each `step` behind the one before it
 abbrev pub typesBy : ℕ → ℕ → List ℕ → ℕ → List ℕ
@@ -32,8 +29,8 @@ typesBy step zero s at = []
 typesBy step (suc n) s at = byte s at ∷ typesBy step n s (at + step)
 
 -- the header, the instructions, and an address for each output word
-unfoldable pub codeSize : ℕ → ℕ → ℕ → ℕ → ℕ
-codeSize operations words bytes outputs = cond (limitsHold operations words) (12 + bytes + 2 * outputs) 0
+unfoldable pub codeLength : ℕ → ℕ → ℕ → ℕ → ℕ
+codeLength operations words bytes outputs = cond (withinLimits operations words) (12 + bytes + 2 * outputs) 0
 
 -- ---- of a function over those before it
 
@@ -44,9 +41,9 @@ cappedSizes early f =
     let words = functionWords early f in
     record {
       place = f .place;
-      operations = min (suc operationLimit) operations;
-      words = min (suc wordLimit) words;
-      code = cond (limitsHold operations words) (length (encode (boardListOf early f))) 0;
+      operations = min operationCap operations;
+      words = min wordCap words;
+      code = cond (withinLimits operations words) (length (encode (boardListOf early f))) 0;
       arguments = widths (f .inputs);
       outputs = widths (outputTypes (f .outputs));
     }
@@ -59,9 +56,9 @@ sizesOf s k = cappedSizes (earlier 8 s k) (functionOf 8 s k)
 pub record Sized (s : List ℕ) (k : ℕ) (r : Sizes) : Type 0 where
   pub place : r .place ≡ functionPlace 8 s k
   pub near : r .place < 65536
-  pub operations : r .operations ≡ min 4097 (functionOperations (operationsOf (earlier 8 s k)) (functionOf 8 s k))
-  pub words : r .words ≡ min 8193 (functionWords (earlier 8 s k) (functionOf 8 s k))
-  pub code : limitsHold (functionOperations (operationsOf (earlier 8 s k)) (functionOf 8 s k)) (functionWords (earlier 8 s k) (functionOf 8 s k)) ≡ true
+  pub operations : r .operations ≡ min operationCap (functionOperations (operationsOf (earlier 8 s k)) (functionOf 8 s k))
+  pub words : r .words ≡ min wordCap (functionWords (earlier 8 s k) (functionOf 8 s k))
+  pub code : withinLimits (functionOperations (operationsOf (earlier 8 s k)) (functionOf 8 s k)) (functionWords (earlier 8 s k) (functionOf 8 s k)) ≡ true
       → r .code ≡ length (encode (boardListOf (earlier 8 s k) (functionOf 8 s k)))
   pub arguments : r .arguments ≡ widths (functionOf 8 s k .inputs)
   pub outputs : r .outputs ≡ widths (outputTypes (functionOf 8 s k .outputs))
@@ -117,4 +114,4 @@ wordCount x = upTo wordLimit (functionWords (x .early) (x .function))
 -- of a function within both limits
 unfoldable pub codeCount : Chosen → Count
 codeCount x =
-    cond (limitsHold (functionOperations (operationsOf (x .early)) (x .function)) (functionWords (x .early) (x .function))) (Count.Exactly (length (codeOf x))) Count.Over
+    cond (withinLimits (functionOperations (operationsOf (x .early)) (x .function)) (functionWords (x .early) (x .function))) (Count.Exactly (length (codeOf x))) Count.Over

@@ -1,23 +1,24 @@
 -- The sums of a function by its position, capped.
-use Prim.Native.Nat.{ℕ, _≤_, _<_, min}
+use Prim.Native.Nat.{ℕ, _+_, _≤_, _<_, min}
 use mathlib.Core.Path.{_≡_}
 use mathlib.Core.List.{List}
 use lib.ListN.{getD}
+use Rattle.base.specs.Limits.{codeLimit, operationLimit, wordLimit}
 use Rattle.graph.specs.Graph.{Node}
 use Rattle.graph.specs.Sums.{nodeOperations, functionOperations, operationsOf, nodeWords, resultWords, resultWordsOf}
 use Rattle.sums.specs.CodeSums.{nodeInstructions, nodeBytes, functionInstructions, functionBytes, instructionsOf, bytesOfFunction}
 use Rattle.sums.specs.Position.{functionIn, before}
 use Rattle.sums.specs.declared.Sums.{Sums}
 
--- one more than the limits, and more than the bytes of any list within them
+-- sums saturate at one more than their limits
 abbrev pub operationCap : ℕ
-operationCap = 4097
+operationCap = operationLimit + 1
 
 abbrev pub wordCap : ℕ
-wordCap = 8193
+wordCap = wordLimit + 1
 
 abbrev pub byteCap : ℕ
-byteCap = 1048576
+byteCap = codeLimit + 1
 
 -- of the function at a position
 unfoldable pub operationsAt : List ℕ → ℕ → ℕ

@@ -1,12 +1,12 @@
 -- The functions of a table by their position, and what the code needs of a node's place.
 use Prim.Native.Nat.{ℕ, zero, suc, _+_, _≤_, _<_}
 use mathlib.Core.Path.{_≡_}
-use mathlib.Core.Bool.{Bool, true, false, cond}
+use mathlib.Core.Bool.{cond}
 use mathlib.Core.List.{List, [], _∷_, _++_}
 use lib.Dec.{eqb}
 use lib.ListN.{getD}
-use Rattle.ports.specs.declared.Form.{Form}
-use Rattle.ports.specs.declared.Form.the-variants.{Absent, Constant, References, Call}
+use Rattle.base.specs.Limits.{functionLimit, nodeLimit, portLimit}
+use Rattle.ports.specs.declared.Form.the-variants.{Call}
 use Rattle.ports.specs.Ports.{formOf}
 use Rattle.base.specs.Bytes.{byte, u16}
 use Rattle.graph.specs.Graph.{Function}
@@ -23,9 +23,9 @@ functionIn s k = functionOf 8 s k
 abbrev pub before : List ℕ → ℕ → List Function
 before s k = earlier 8 s k
 
--- the position of the function of an id among those before k; 16 where there is none
+-- the position of the function of an id among those before k; functionLimit where there is none
 unfoldable pub positionOf : List ℕ → ℕ → ℕ → ℕ
-positionOf s zero c = 16
+positionOf s zero c = functionLimit
 positionOf s (suc m) c = cond (eqb (u16 s (placeOf s m)) c) m (positionOf s m c)
 
 -- f of each number below n, in their order
@@ -37,17 +37,11 @@ tabulate f (suc n) = tabulate f n ++ (f n ∷ [])
 abbrev pub Starts : List ℕ → List ℕ → ℕ → Type 0
 Starts s starts k = (j : ℕ) → j < k → getD starts j 0 ≡ placeOf s j
 
-abbrev pub calling : Form → Bool
-calling Absent = false
-calling Constant = false
-calling References = false
-calling Call = true
-
 -- ---- places that the code can take
 
 pub record NodeFit (s : List ℕ) (p : ℕ) : Type 0 where
   pub near : p < 65536
-  pub arguments : formOf (kindAt s p) ≡ Call → byte s (p + 4 + 2) ≤ 8
+  pub arguments : formOf (kindAt s p) ≡ Call → byte s (p + 4 + 2) ≤ portLimit
   pub reads : ReadsNode s p
 
 -- n nodes from a place on
@@ -57,9 +51,9 @@ NodesFit s (suc n) p = NodeFit s p × NodesFit s n (nodeEnd s p)
 
 pub record Fit (s : List ℕ) (k : ℕ) : Type 0 where
   pub place : placeOf s k < 65536
-  pub inputs : inputCount s (placeOf s k) ≤ 8
-  pub outputs : outputCount s (placeOf s k) ≤ 8
-  pub count : nodeCount s (placeOf s k) ≤ 256
+  pub inputs : inputCount s (placeOf s k) ≤ portLimit
+  pub outputs : outputCount s (placeOf s k) ≤ portLimit
+  pub count : nodeCount s (placeOf s k) ≤ nodeLimit
   pub nodes : NodesFit s (nodeCount s (placeOf s k)) (nodesPlace s (placeOf s k))
 
 abbrev pub AllFit : List ℕ → ℕ → Type 0

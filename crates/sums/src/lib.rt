@@ -3,52 +3,36 @@ ghost use mathlib.Core.Path.{_≡_};
 ghost use Prim.Native.Nat.{suc, _+_, _*_, _<_, _≤_, _^_, min};
 ghost use lib.ListN.{length, set};
 ghost use lib.Seq.{sets};
-ghost use Rattle.ports.specs.Ports.{constantIn, widths};
+ghost use Rattle.base.specs.Limits.{functionLimit, valueLimit};
+ghost use Rattle.ports.specs.Ports.{constantIn, widths, calling};
 ghost use Rattle.base.specs.Outcome.{ok};
 ghost use Rattle.base.specs.Bytes.{byte, u16};
 ghost use Rattle.graph.specs.Judge.{verdict};
 ghost use Rattle.lowering.specs.Answers.{compilable};
 ghost use Rattle.reader.specs.Layout.{nodeAt, nodeEnd, nodePlace, nodesPlace};
-ghost use Rattle.sums.specs.Position.{tabulate, placeOf, positionOf, Starts, calling, NodesFit, Fit, AllFit};
+ghost use Rattle.sums.specs.Position.{tabulate, placeOf, positionOf, Starts, NodesFit, Fit, AllFit};
 ghost use Rattle.sums.specs.Capped.{Caps, AllSummed, cappedOperations, cappedWords, cappedInstructions, cappedBytes};
-ghost use Rattle.sums.specs.Answers.{typesBy, codeSize, sizesOf, Names, measuredOf, upTo, countOf, named, operationCount, wordCount, codeCount};
+ghost use Rattle.sums.specs.Answers.{typesBy, codeLength, sizesOf, Names, measuredOf, upTo, countOf, named, operationCount, wordCount, codeCount};
+use base::CODE_LIMIT;
+use base::FUNCTION_LIMIT;
+use base::OPERATION_LIMIT;
+use base::WORD_LIMIT;
+use base::padded_byte;
+use base::padded_u16;
+use base::wide;
+use base::wide16;
+use base::wide32;
 use checker::Verdict;
-use ports::Form;
 use ports::Ports;
 
 // ---- numbers
 
-fn wide(x: u8) -> usize
-    ensures { λ r. ⌜ (r ≡ x) × (r < 256) ⌝ }
-{
-    x as usize
-}
+// Sums saturate at one more than their limits.
+const OPERATION_CAP: usize = OPERATION_LIMIT + 1;
 
-fn wide16(x: u16) -> usize
-    ensures { λ r. ⌜ (r ≡ x) × (r < 65536) ⌝ }
-{
-    x as usize
-}
+const WORD_CAP: usize = WORD_LIMIT + 1;
 
-fn wide32(x: u32) -> usize
-    ensures { λ r. ⌜ (r ≡ x) × (r < 2 ^ 32) ⌝ }
-{
-    x as usize
-}
-
-// A byte of the table; behind its end 0.
-fn byte_at(t: &[u8], at: usize) -> u8
-    ensures { λ r. ⌜ r ≡ byte (now (t .entry)) at ⌝ }
-{
-    if at < t.len() { t[at] } else { 0 }
-}
-
-fn u16_at(t: &[u8], at: usize) -> usize
-    requires { ⌜ at < 2 ^ 32 ⌝ }
-    ensures { λ r. ⌜ (r ≡ u16 (now (t .entry)) at) × (r < 65536) ⌝ }
-{
-    wide(byte_at(t, at)) + wide(byte_at(t, at + 1)) * 256
-}
+const BYTE_CAP: usize = CODE_LIMIT + 1;
 
 fn capped(x: usize, cap: usize) -> usize
     ensures { λ r. ⌜ r ≡ min cap x ⌝ }
@@ -58,40 +42,17 @@ fn capped(x: usize, cap: usize) -> usize
 
 // ---- nodes
 
-fn is_call(form: Form) -> bool
-    ensures { λ r. ⌜ r ≡ calling form ⌝ }
-{
-    match form {
-        Form::Absent => false,
-        Form::Constant => false,
-        Form::References => false,
-        Form::Call => true,
-    }
-}
-
-// The words of a kind's constant.
-fn constant_words(form: Form, words: u8) -> usize
-    ensures { λ r. ⌜ (r ≡ constantIn form words) × (r < 256) ⌝ }
-{
-    match form {
-        Form::Absent => 0,
-        Form::Constant => wide(words),
-        Form::References => 0,
-        Form::Call => 0,
-    }
-}
-
 // The place behind the node at p.
 fn node_end(t: &[u8], p: usize) -> usize
     requires { ⌜ p < 65536 ⌝ }
     ensures { λ r. ⌜ (r ≡ nodeEnd (now (t .entry)) p) × (r < 2 ^ 20) ⌝ }
 {
-    let row = ports::ports_of(byte_at(t, p + 2));
+    let row = ports::ports_of(padded_byte(t, p + 2));
     let form = row.form;
-    if is_call(form) {
-        p + 4 + 3 + 3 * wide(byte_at(t, p + 4 + 2))
+    if ports::is_call(form) {
+        p + 4 + 3 + 3 * wide(padded_byte(t, p + 4 + 2))
     } else {
-        p + 4 + 3 * wide(row.operands) + 8 * constant_words(form, row.words)
+        p + 4 + 3 * wide(row.operands) + 8 * ports::constant_words(row)
     }
 }
 
@@ -100,7 +61,7 @@ pub fn nodes_place(t: &[u8], p: usize) -> usize
     requires { ⌜ p < 65536 ⌝ }
     ensures { λ r. ⌜ (r ≡ nodesPlace (now (t .entry)) p) × (r < 2 ^ 20) ⌝ }
 {
-    p + 6 + wide(byte_at(t, p + 2)) + 4 * wide(byte_at(t, p + 3))
+    p + 6 + wide(padded_byte(t, p + 2)) + 4 * wide(padded_byte(t, p + 3))
 }
 
 // The place behind n nodes from `at` on.
@@ -118,33 +79,33 @@ fn nodes_end(t: &[u8], at: usize, n: usize) -> usize
 }
 
 // The places of n functions.
-pub fn find_starts(t: &[u8], n: usize, starts: &mut [u16; 16])
-    requires { ⌜ (n ≤ 16) × AllFit (now t) n × (length (now starts) ≡ 16) ⌝ }
+pub fn find_starts(t: &[u8], n: usize, starts: &mut [u16; FUNCTION_LIMIT])
+    requires { ⌜ (n ≤ functionLimit) × AllFit (now t) n × (length (now starts) ≡ functionLimit) ⌝ }
     ensures { λ _. ⌜ now (starts .exit) ≡ sets (now (starts .entry)) 0 (tabulate (placeOf (now (t .entry))) n) ⌝ }
 {
     let mut p = 8;
     let mut k = 0;
     while k < n {
         starts[k] = p as u16;
-        let count = u16_at(t, p + 4);
+        let count = padded_u16(t, p + 4);
         p = nodes_end(t, nodes_place(t, p), count);
         k += 1;
     }
 }
 
-// The position of the function of an id among those before k, or 16.
-pub fn position_of(t: &[u8], starts: &[u16; 16], k: usize, c: usize) -> usize
-    requires { ⌜ (k ≤ 16) × Starts (now t) (now starts) k ⌝ }
+// The position of the function of an id among those before k, or FUNCTION_LIMIT.
+pub fn position_of(t: &[u8], starts: &[u16; FUNCTION_LIMIT], k: usize, c: usize) -> usize
+    requires { ⌜ (k ≤ functionLimit) × Starts (now t) (now starts) k ⌝ }
     ensures { λ r. ⌜ r ≡ positionOf (now (t .entry)) k c ⌝ }
 {
     let mut m = k;
     while 0 < m {
         m -= 1;
-        if u16_at(t, wide16(starts[m])) == c {
+        if padded_u16(t, wide16(starts[m])) == c {
             return m;
         }
     }
-    16
+    FUNCTION_LIMIT
 }
 
 // ---- sums
@@ -160,22 +121,22 @@ pub struct Sums {
 // What the node at p adds to the sums of the function at position k.
 fn node_sums(
     t: &[u8],
-    starts: &[u16; 16],
+    starts: &[u16; FUNCTION_LIMIT],
     k: usize,
-    ops: &[u32; 16],
-    words: &[u32; 16],
-    counts: &[u32; 16],
-    sizes: &[u32; 16],
+    ops: &[u32; FUNCTION_LIMIT],
+    words: &[u32; FUNCTION_LIMIT],
+    counts: &[u32; FUNCTION_LIMIT],
+    sizes: &[u32; FUNCTION_LIMIT],
     p: usize,
 ) -> Sums
-    requires { ⌜ (k ≤ 16) × (p < 65536) × Starts (now t) (now starts) k ⌝ }
+    requires { ⌜ (k ≤ functionLimit) × (p < 65536) × Starts (now t) (now starts) k ⌝ }
     requires { ⌜ AllSummed (now t) (now ops) (now words) (now counts) (now sizes) k ⌝ }
     ensures { λ r. ⌜ Caps (now (t .entry)) k (nodeAt (now (t .entry)) p) r ⌝ }
 {
-    let row = ports::ports_of(byte_at(t, p + 2));
+    let row = ports::ports_of(padded_byte(t, p + 2));
     let form = row.form;
-    if is_call(form) {
-        let g = position_of(t, starts, k, u16_at(t, p + 4));
+    if ports::is_call(form) {
+        let g = position_of(t, starts, k, padded_u16(t, p + 4));
         if g < k {
             let o = wide32(ops[g]);
             let w = wide32(words[g]);
@@ -196,9 +157,9 @@ fn node_sums(
             }
         }
     } else {
-        let w = ports::result_words(row, byte_at(t, p + 3));
+        let w = ports::result_words(row, padded_byte(t, p + 3));
         let n = wide(row.operands);
-        let c = constant_words(form, row.words);
+        let c = ports::constant_words(row);
         Sums {
             operations: 1,
             words: w,
@@ -211,14 +172,14 @@ fn node_sums(
 // The sums of the function at position k, behind those of the functions before it.
 fn function_sums(
     t: &[u8],
-    starts: &[u16; 16],
+    starts: &[u16; FUNCTION_LIMIT],
     k: usize,
-    ops: &mut [u32; 16],
-    words: &mut [u32; 16],
-    counts: &mut [u32; 16],
-    sizes: &mut [u32; 16],
+    ops: &mut [u32; FUNCTION_LIMIT],
+    words: &mut [u32; FUNCTION_LIMIT],
+    counts: &mut [u32; FUNCTION_LIMIT],
+    sizes: &mut [u32; FUNCTION_LIMIT],
 )
-    requires { ⌜ (k < 16) × Fit (now t) k × Starts (now t) (now starts) (suc k) ⌝ }
+    requires { ⌜ (k < functionLimit) × Fit (now t) k × Starts (now t) (now starts) (suc k) ⌝ }
     requires { ⌜ AllSummed (now t) (now ops) (now words) (now counts) (now sizes) k ⌝ }
     ensures { λ _. ⌜ (now (ops .exit) ≡ set (now (ops .entry)) k (cappedOperations (now (t .entry)) k))
         × (now (words .exit) ≡ set (now (words .entry)) k (cappedWords (now (t .entry)) k))
@@ -226,7 +187,7 @@ fn function_sums(
         × (now (sizes .exit) ≡ set (now (sizes .entry)) k (cappedBytes (now (t .entry)) k)) ⌝ }
 {
     let p = wide16(starts[k]);
-    let n = u16_at(t, p + 4);
+    let n = padded_u16(t, p + 4);
     let mut q = nodes_place(t, p);
     let mut o = 0;
     let mut w = 0;
@@ -235,10 +196,10 @@ fn function_sums(
     let mut i = 0;
     while i < n {
         let r = node_sums(t, starts, k, ops, words, counts, sizes, q);
-        o = capped(o + r.operations, 4097);
-        w = capped(w + r.words, 8193);
-        m = capped(m + r.instructions, 4097);
-        b = capped(b + r.bytes, 1048576);
+        o = capped(o + r.operations, OPERATION_CAP);
+        w = capped(w + r.words, WORD_CAP);
+        m = capped(m + r.instructions, OPERATION_CAP);
+        b = capped(b + r.bytes, BYTE_CAP);
         q = node_end(t, q);
         i += 1;
     }
@@ -251,15 +212,15 @@ fn function_sums(
 // The sums of the first n functions.
 pub fn all_sums(
     t: &[u8],
-    starts: &[u16; 16],
+    starts: &[u16; FUNCTION_LIMIT],
     n: usize,
-    ops: &mut [u32; 16],
-    words: &mut [u32; 16],
-    counts: &mut [u32; 16],
-    sizes: &mut [u32; 16],
+    ops: &mut [u32; FUNCTION_LIMIT],
+    words: &mut [u32; FUNCTION_LIMIT],
+    counts: &mut [u32; FUNCTION_LIMIT],
+    sizes: &mut [u32; FUNCTION_LIMIT],
 )
-    requires { ⌜ (n ≤ 16) × AllFit (now t) n × Starts (now t) (now starts) n ⌝ }
-    requires { ⌜ (length (now ops) ≡ 16) × (length (now words) ≡ 16) × (length (now counts) ≡ 16) × (length (now sizes) ≡ 16) ⌝ }
+    requires { ⌜ (n ≤ functionLimit) × AllFit (now t) n × Starts (now t) (now starts) n ⌝ }
+    requires { ⌜ (length (now ops) ≡ functionLimit) × (length (now words) ≡ functionLimit) × (length (now counts) ≡ functionLimit) × (length (now sizes) ≡ functionLimit) ⌝ }
     ensures { λ _. ⌜ (now (ops .exit) ≡ sets (now (ops .entry)) 0 (tabulate (cappedOperations (now (t .entry))) n))
         × (now (words .exit) ≡ sets (now (words .entry)) 0 (tabulate (cappedWords (now (t .entry))) n))
         × (now (counts .exit) ≡ sets (now (counts .entry)) 0 (tabulate (cappedInstructions (now (t .entry))) n))
@@ -277,13 +238,13 @@ pub fn all_sums(
 // The words of n types, the first at p and each `step` bytes behind the one before it.
 pub fn widths_at(t: &[u8], p: usize, step: usize, n: usize) -> usize
     requires { ⌜ (p < 2 ^ 20) × (step ≤ 4) × (n < 256) ⌝ }
-    ensures { λ r. ⌜ (r ≡ widths (typesBy step n (now (t .entry)) p)) × (r < 65536) × (r ≤ 16 * n) ⌝ }
+    ensures { λ r. ⌜ (r ≡ widths (typesBy step n (now (t .entry)) p)) × (r < 65536) × (r ≤ valueLimit * n) ⌝ }
 {
     let mut total = 0;
     let mut q = p;
     let mut i = 0;
     while i < n {
-        total += ports::width(byte_at(t, q));
+        total += ports::width(padded_byte(t, q));
         q += step;
         i += 1;
     }
@@ -293,10 +254,10 @@ pub fn widths_at(t: &[u8], p: usize, step: usize, n: usize) -> usize
 // The length of the code; 0 where a count is above its limit.
 fn code_size(operations: usize, words: usize, bytes: usize, outputs: usize) -> usize
     requires { ⌜ (bytes < 2 ^ 32) × (outputs < 65536) ⌝ }
-    ensures { λ r. ⌜ r ≡ codeSize operations words bytes outputs ⌝ }
+    ensures { λ r. ⌜ r ≡ codeLength operations words bytes outputs ⌝ }
 {
-    if operations <= 4096 {
-        if words <= 8192 {
+    if operations <= OPERATION_LIMIT {
+        if words <= WORD_LIMIT {
             12 + bytes + 2 * outputs
         } else {
             0
@@ -322,12 +283,12 @@ pub fn measure(table: &[u8], count: usize, k: usize) -> Sizes
     requires { ⌜ (verdict (now table) ≡ ok count) × (k < count) ⌝ }
     ensures { λ r. ⌜ (r ≡ sizesOf (now (table .entry)) k) × (r .place < 65536) ⌝ }
 {
-    let mut starts = [0u16; 16];
+    let mut starts = [0u16; FUNCTION_LIMIT];
     find_starts(table, k + 1, &mut starts);
-    let mut ops = [0u32; 16];
-    let mut results = [0u32; 16];
-    let mut counts = [0u32; 16];
-    let mut sizes = [0u32; 16];
+    let mut ops = [0u32; FUNCTION_LIMIT];
+    let mut results = [0u32; FUNCTION_LIMIT];
+    let mut counts = [0u32; FUNCTION_LIMIT];
+    let mut sizes = [0u32; FUNCTION_LIMIT];
     all_sums(
         table,
         &starts,
@@ -341,10 +302,10 @@ pub fn measure(table: &[u8], count: usize, k: usize) -> Sizes
     let operations = wide32(ops[k]);
     let own = wide32(results[k]);
     let bytes = wide32(sizes[k]);
-    let inputs = wide(byte_at(table, p + 2));
+    let inputs = wide(padded_byte(table, p + 2));
     let arguments = widths_at(table, p + 6, 1, inputs);
-    let outputs = widths_at(table, p + 6 + inputs, 4, wide(byte_at(table, p + 3)));
-    let words = capped(arguments + own, 8193);
+    let outputs = widths_at(table, p + 6 + inputs, 4, wide(padded_byte(table, p + 3)));
+    let words = capped(arguments + own, WORD_CAP);
     let code = code_size(operations, words, bytes, outputs);
     Sizes {
         place: p,
@@ -370,7 +331,7 @@ fn find_named(table: &[u8], id: u16) -> Named
     let answer = checker::check(table);
     match answer {
         Verdict::Accepted(count) => {
-            let mut starts = [0u16; 16];
+            let mut starts = [0u16; FUNCTION_LIMIT];
             find_starts(table, count, &mut starts);
             let k = position_of(table, &starts, count, wide16(id));
             if k < count {
@@ -399,8 +360,8 @@ pub fn measure_named(table: &[u8], id: u16) -> Measured
             let m = measure(table, count, k);
             let operations = m.operations;
             let words = m.words;
-            if operations <= 4096 {
-                if words <= 8192 {
+            if operations <= OPERATION_LIMIT {
+                if words <= WORD_LIMIT {
                     Measured::Is(m)
                 } else {
                     Measured::Refused(16, 0)
@@ -438,7 +399,7 @@ pub fn operations(table: &[u8], id: u16) -> Count
     match answer {
         Named::At(count, k) => {
             let m = measure(table, count, k);
-            up_to(4096, m.operations)
+            up_to(OPERATION_LIMIT, m.operations)
         }
         Named::Refused(number, place) => Count::Refused(number, place),
     }
@@ -452,7 +413,7 @@ pub fn words(table: &[u8], id: u16) -> Count
     match answer {
         Named::At(count, k) => {
             let m = measure(table, count, k);
-            up_to(8192, m.words)
+            up_to(WORD_LIMIT, m.words)
         }
         Named::Refused(number, place) => Count::Refused(number, place),
     }
@@ -468,8 +429,8 @@ pub fn code_length(table: &[u8], id: u16) -> Count
             let m = measure(table, count, k);
             let operations = m.operations;
             let words = m.words;
-            if operations <= 4096 {
-                if words <= 8192 {
+            if operations <= OPERATION_LIMIT {
+                if words <= WORD_LIMIT {
                     Count::Exactly(m.code)
                 } else {
                     Count::Over

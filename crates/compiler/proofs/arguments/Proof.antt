@@ -3,18 +3,18 @@ use Prim.Native.Nat.{ℕ, _-_, _+_}
 use mathlib.Core.Path.{_≡_, _∙_, ap}
 use native.Mathlib.Omega.{arith}
 use Rattle.compiler.specs.Emit.{addressOf}
-use Rattle.compiler.proofs.Loops.{Laying, lay-start, lay-step, lay-done}
+use Rattle.compiler.proofs.Loops.{NodePorts, allocate-start, allocate-step, allocate-done}
 use Rattle.compiler.proofs.arguments.Statement.{statement}
 use Rattle.compiler.proofs.arguments.Tie as tie
 
 abbrev Inv-loop : tie.InvT-loop
-Inv-loop spots spot n ins first args₀ j₀ args j = Laying spots ins first spot n args₀ args 0 j
+Inv-loop locations cell n ins first args₀ j₀ args j = NodePorts locations ins first cell n args₀ args 0 j
 
 abbrev μ-loop : tie.MeasureT-loop
-μ-loop spots spot n ins first args₀ j₀ args j = n - j
+μ-loop locations cell n ins first args₀ j₀ args j = n - j
 
 loop-holds : tie.Need-loop-holds Inv-loop μ-loop
-loop-holds c = let a = c .args in lay-start (a .spots .now) (a .ins .now) (a .first) (a .spot) (a .n) (a .args .now) 0
+loop-holds c = let a = c .args in allocate-start (a .locations .now) (a .ins .now) (a .first) (a .cell) (a .n) (a .args .now) 0
 
 loop-again : tie.Need-loop-again Inv-loop μ-loop
 loop-again c =
@@ -22,7 +22,7 @@ loop-again c =
     let l = c .before .before .before .before .loop in
     let z : 0 + l .j ≡ l .j = omega arith in
     rw z at
-    (lay-step (a .spots .now) (a .ins .now) (a .first) (a .spot) (a .n) (a .args .now) (l .args) 0 (l .j) (c .address .result) (l .inv) (c .before .before .before .loop-test .taken)
+    (allocate-step (a .locations .now) (a .ins .now) (a .first) (a .cell) (a .n) (a .args .now) (l .args) 0 (l .j) (c .address .result) (l .inv) (c .before .before .before .loop-test .taken)
     (c .address .ensures ∙ ap (addressOf (a .ins .now) (a .first)) (c .before .wide16 .ensures .0)))
 
 address-requires : tie.Need-address-requires Inv-loop μ-loop
@@ -32,7 +32,7 @@ returns : tie.Need-returns Inv-loop μ-loop
 returns c =
     let a = c .before .before .args in
     let l = c .before .loop in
-    lay-done (a .spots .now) (a .ins .now) (a .first) (a .spot) (a .n) (a .args .now) (l .args) 0 (l .j) (l .inv) (c .loop-test .left)
+    allocate-done (a .locations .now) (a .ins .now) (a .first) (a .cell) (a .n) (a .args .now) (l .args) 0 (l .j) (l .inv) (c .loop-test .left)
 
 pub arguments-spec : {M : Type 1} → statement M
 arguments-spec =

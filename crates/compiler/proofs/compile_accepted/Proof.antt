@@ -3,6 +3,7 @@ use Prim.Native.Nat.{ℕ, suc, _+_, _*_, _≤_, _<_, min}
 use mathlib.Core.Path.{_≡_, sym, ap, _∙_}
 use native.Mathlib.Omega.{arith}
 use lib.ListN.{length, length-replicate}
+use Rattle.base.specs.Limits.{operationLimit, wordLimit}
 use Rattle.ports.specs.Ports.{widths}
 use Rattle.base.specs.Bytes.{byte}
 use Rattle.graph.specs.Judge.{outputTypes}
@@ -109,7 +110,7 @@ returns-2 c =
     let e = refuses-15 (a .t .now) (a .functions) (a .id) (c .before .before .before .before .before .before .before .before .before .position-of .result) (a .code .now) (c .before .before .before .before .before .before .before .before .before .before .before .before .before .before .before .before .pre .0) (c .before .before .before .before .before .before .before .before .before .before .before .before .before .before .before .before .pre .1) (position (c .before .before .before .before .before .before .before .before .before)) (low (c .before .before .before .before .before .before .before .before) .0) (omega arith) in
     (sym (ap answerOf e), sym (ap (codeAfter (a .code .now)) e))
 
-within : (c : tie.Else2) → operationsAt (c .before .before .before .before .before .before .before .before .before .before .before .before .before .before .before .before .args .t .now) (c .before .before .before .before .before .before .before .before .before .position-of .result) ≤ 4096
+within : (c : tie.Else2) → operationsAt (c .before .before .before .before .before .before .before .before .before .before .before .before .before .before .before .before .args .t .now) (c .before .before .before .before .before .before .before .before .before .position-of .result) ≤ operationLimit
 within c = let o = operations (c .before) in let t = c .if2 .left in omega arith
 
 -- the function's place and counts
@@ -118,13 +119,13 @@ place c = c .wide162 .ensures .0 ∙ starts (c .before .before .before .before .
 
 nin : (c : tie.After-wide) → (c .wide .result ≡ inputCount (c .before .before .before .before .before .before .before .before .before .before .before .before .before .before .before .before .before .before .before .args .t .now) (placeOf (c .before .before .before .before .before .before .before .before .before .before .before .before .before .before .before .before .before .before .before .args .t .now) (c .before .before .before .before .before .before .before .before .before .before .before .before .position-of .result))) × (c .wide .result ≤ 8)
 nin c =
-    let e = c .wide .ensures .0 ∙ c .before .byte-at .ensures ∙ ap (λ (q : ℕ). byte (c .before .before .before .before .before .before .before .before .before .before .before .before .before .before .before .before .before .before .before .args .t .now) (q + 2)) (place (c .before .before)) in
+    let e = c .wide .ensures .0 ∙ c .before .padded-byte .ensures ∙ ap (λ (q : ℕ). byte (c .before .before .before .before .before .before .before .before .before .before .before .before .before .before .before .before .before .before .before .args .t .now) (q + 2)) (place (c .before .before)) in
     let f = fit-at (c .before .before .before .before .before .before .before .before .before .before .before .before .before .before .before .before .before .before .before .args .t .now) (c .before .before .before .before .before .before .before .before .before .before .before .before .before .before .before .before .before .before .before .args .functions) (c .before .before .before .before .before .before .before .before .before .before .before .before .before .before .before .before .before .before .before .pre .0) (c .before .before .before .before .before .before .before .before .before .before .before .before .position-of .result) (low (c .before .before .before .before .before .before .before .before .before .before .before) .0) .inputs in
     (e, omega arith)
 
 nout : (c : tie.After-wide2) → (c .wide2 .result ≡ outputCount (c .before .before .before .before .before .before .before .before .before .before .before .before .before .before .before .before .before .before .before .before .before .args .t .now) (placeOf (c .before .before .before .before .before .before .before .before .before .before .before .before .before .before .before .before .before .before .before .before .before .args .t .now) (c .before .before .before .before .before .before .before .before .before .before .before .before .before .before .position-of .result))) × (c .wide2 .result ≤ 8)
 nout c =
-    let e = c .wide2 .ensures .0 ∙ c .before .byte-at2 .ensures ∙ ap (λ (q : ℕ). byte (c .before .before .before .before .before .before .before .before .before .before .before .before .before .before .before .before .before .before .before .before .before .args .t .now) (q + 3)) (place (c .before .before .before .before)) in
+    let e = c .wide2 .ensures .0 ∙ c .before .padded-byte2 .ensures ∙ ap (λ (q : ℕ). byte (c .before .before .before .before .before .before .before .before .before .before .before .before .before .before .before .before .before .before .before .before .before .args .t .now) (q + 3)) (place (c .before .before .before .before)) in
     let f = fit-at (c .before .before .before .before .before .before .before .before .before .before .before .before .before .before .before .before .before .before .before .before .before .args .t .now) (c .before .before .before .before .before .before .before .before .before .before .before .before .before .before .before .before .before .before .before .before .before .args .functions) (c .before .before .before .before .before .before .before .before .before .before .before .before .before .before .before .before .before .before .before .before .before .pre .0) (c .before .before .before .before .before .before .before .before .before .before .before .before .before .before .position-of .result) (low (c .before .before .before .before .before .before .before .before .before .before .before .before .before) .0) .outputs in
     (e, omega arith)
 
@@ -157,7 +158,7 @@ returns-3 c =
     refuses-16 (a .t .now) (a .functions) (a .id) (c .before .before .before .before .before .before .before .before .before .before .before .before .before .before .before .before .before .position-of .result) (a .code .now) (c .before .before .before .before .before .before .before .before .before .before .before .before .before .before .before .before .before .before .before .before .before .before .before .before .pre .0) (c .before .before .before .before .before .before .before .before .before .before .before .before .before .before .before .before .before .before .before .before .before .before .before .before .pre .1) (position (c .before .before .before .before .before .before .before .before .before .before .before .before .before .before .before .before .before)) (low (c .before .before .before .before .before .before .before .before .before .before .before .before .before .before .before .before) .0) (within (c .before .before .before .before .before .before .before .before)) (omega arith) in
     (sym (ap answerOf e), sym (ap (codeAfter (a .code .now)) e))
 
-narrow : (c : tie.Else3) → (c .before .wide322 .result ≡ wordsAt (c .before .before .before .before .before .before .before .before .before .before .before .before .before .before .before .before .before .before .before .before .before .before .before .before .args .t .now) (c .before .before .before .before .before .before .before .before .before .before .before .before .before .before .before .before .before .position-of .result)) × (c .before .before .widths-at .result + wordsAt (c .before .before .before .before .before .before .before .before .before .before .before .before .before .before .before .before .before .before .before .before .before .before .before .before .args .t .now) (c .before .before .before .before .before .before .before .before .before .before .before .before .before .before .before .before .before .position-of .result) ≤ 8192)
+narrow : (c : tie.Else3) → (c .before .wide322 .result ≡ wordsAt (c .before .before .before .before .before .before .before .before .before .before .before .before .before .before .before .before .before .before .before .before .before .before .before .before .args .t .now) (c .before .before .before .before .before .before .before .before .before .before .before .before .before .before .before .before .before .position-of .result)) × (c .before .before .widths-at .result + wordsAt (c .before .before .before .before .before .before .before .before .before .before .before .before .before .before .before .before .before .before .before .before .before .before .before .before .args .t .now) (c .before .before .before .before .before .before .before .before .before .before .before .before .before .before .before .before .before .position-of .result) ≤ wordLimit)
 narrow c =
     let w = results (c .before) in
     let t = c .if3 .left in

@@ -5,9 +5,9 @@ use Prim.Native.Nat.{ℕ, _+_, _*_, _≤_, _<_}
 use native.Mathlib.Omega.{arith}
 use lib.ListN.{length, length-set}
 use lib.Seq.{sets}
+use Rattle.ports.specs.Ports.{calling}
 use Rattle.compiler.specs.Emit.{copied, addressesIn}
 use Rattle.base.specs.Bytes.{allBytes}
-use Rattle.sums.specs.Position.{calling}
 use Rattle.sums.proofs.Nodes.{form-is, plain-end}
 use Rattle.compiler.proofs.Single.{Taken, taken, head-length, head-then, operands-length}
 use Rattle.compiler.proofs.emit_single.Statement.{statement}
@@ -16,13 +16,13 @@ use Rattle.compiler.proofs.emit_single.Tie as tie
 -- the node as it was read
 node : (c : tie.After-result-words) →
     let a = c .before .before .before .before .before .before .before .before .args in
-    Taken (a .t .now) (a .spots .now) (a .k) (a .p) (a .spot) (a .ins .now) (a .first) (a .next) (λ q. omega (arith, c .before .before .before .before .before .before .before .shared-slice-known .given q))
-    (c .before .before .before .before .before .byte-at .result) (c .before .before .before .before .byte-at2 .result) (c .before .before .before .ports-of .result) (c .before .before .before .before .before .byte-at .ensures) (c .before .before .before .before .byte-at2 .ensures) (c .before .before .before .ports-of .ensures) (c .before .before .before .before .before .before .before .before .pre .0 .1)
+    Taken (a .t .now) (a .locations .now) (a .k) (a .p) (a .cell) (a .ins .now) (a .first) (a .next) (λ q. omega (arith, c .before .before .before .before .before .before .before .shared-slice-known .given q))
+    (c .before .before .before .before .before .padded-byte .result) (c .before .before .before .before .padded-byte2 .result) (c .before .before .before .ports-of .result) (c .before .before .before .before .before .padded-byte .ensures) (c .before .before .before .before .padded-byte2 .ensures) (c .before .before .before .ports-of .ensures) (c .before .before .before .before .before .before .before .before .pre .0 .1)
     (c .before .before .wide .result) (c .before .constant-words .result) (c .result-words .result) (c .before .before .wide .ensures .0) (c .before .constant-words .ensures .0) (c .result-words .ensures .0)
 node c =
     let a = c .before .before .before .before .before .before .before .before .args in
-    taken (a .t .now) (a .spots .now) (a .k) (a .p) (a .spot) (a .ins .now) (a .first) (a .next) (λ q. omega (arith, c .before .before .before .before .before .before .before .shared-slice-known .given q))
-    (c .before .before .before .before .before .byte-at .result) (c .before .before .before .before .byte-at2 .result) (c .before .before .before .ports-of .result) (c .before .before .before .before .before .byte-at .ensures) (c .before .before .before .before .byte-at2 .ensures) (c .before .before .before .ports-of .ensures) (c .before .before .before .before .before .before .before .before .pre .0 .1)
+    taken (a .t .now) (a .locations .now) (a .k) (a .p) (a .cell) (a .ins .now) (a .first) (a .next) (λ q. omega (arith, c .before .before .before .before .before .before .before .shared-slice-known .given q))
+    (c .before .before .before .before .before .padded-byte .result) (c .before .before .before .before .padded-byte2 .result) (c .before .before .before .ports-of .result) (c .before .before .before .before .before .padded-byte .ensures) (c .before .before .before .before .padded-byte2 .ensures) (c .before .before .before .ports-of .ensures) (c .before .before .before .before .before .before .before .before .pre .0 .1)
     (c .before .before .wide .result) (c .before .constant-words .result) (c .result-words .result) (c .before .before .wide .ensures .0) (c .before .constant-words .ensures .0) (c .result-words .ensures .0)
 
 -- the room for the whole
@@ -56,12 +56,12 @@ copy-requires c κs =
     let (x, x') = fits (c .before .before .before .before .before) in
     let b = c .before .before .before .before .before .before .before .before .before .before .before .before .before in
     let a = b .args in
-    let kind = c .before .before .before .before .before .before .before .before .before .before .byte-at in
+    let kind = c .before .before .before .before .before .before .before .before .before .before .padded-byte in
     let row = c .before .before .before .before .before .before .before .before .ports-of in
     let f = ap calling (form-is (a .t .now) (a .p) (kind .result) (row .result) (kind .ensures) (row .ensures)) ∙ b .pre .0 .1 in
     let end = plain-end (a .t .now) (a .p) (kind .result) (row .result) (kind .ensures) (row .ensures) f (c .before .before .before .before .before .before .before .wide .result) (c .before .before .before .before .before .before .constant-words .result) (c .before .before .before .before .before .before .before .wide .ensures .0) (c .before .before .before .before .before .before .constant-words .ensures .0) in
     let most = b .pre .0 .2 in
-    let same = c .before .before .before .operands .kept .1 .1 .1 .1 .1 .0 ∙ head-length (a .code .now) (a .at) (kind .result) (c .before .before .before .before .before .before .before .before .before .byte-at2 .result) in
+    let same = c .before .before .before .operands .kept .1 .1 .1 .1 .1 .0 ∙ head-length (a .code .now) (a .at) (kind .result) (c .before .before .before .before .before .before .before .before .before .padded-byte2 .result) in
     (omega arith, omega arith)
 
 add-t18 : tie.Need-add-t18
@@ -82,7 +82,7 @@ add-t30 c = let x = node (c .before .before .before .before .before .before .bef
 same-length : tie.Need-same-length
 same-length c =
     let a = c .before .before .before .before .before .before .before .before .before .before .before .before .before .before .before .before .args in
-    c .before .before .copy .kept .1 .1 .1 .0 ∙ c .before .before .before .before .before .before .operands .kept .1 .1 .1 .1 .1 .0 ∙ head-length (a .code .now) (a .at) (c .before .before .before .before .before .before .before .before .before .before .before .before .before .byte-at .result) (c .before .before .before .before .before .before .before .before .before .before .before .before .byte-at2 .result)
+    c .before .before .copy .kept .1 .1 .1 .0 ∙ c .before .before .before .before .before .before .operands .kept .1 .1 .1 .1 .1 .0 ∙ head-length (a .code .now) (a .at) (c .before .before .before .before .before .before .before .before .before .before .before .before .before .padded-byte .result) (c .before .before .before .before .before .before .before .before .before .before .before .before .padded-byte2 .result)
 
 returns : tie.Need-returns
 returns c =
@@ -90,18 +90,18 @@ returns c =
     let d = node (c .before .before .before .before .before .before .before .before) in
     let n = c .before .before .before .before .before .before .before .before .before .before .wide .result in
     let v = c .before .before .before .before .before .before .before .before .before .constant-words .result in
-    let xs = allBytes 2 (addressesIn (a .spots .now) (a .ins .now) (a .first) (a .spot) n) in
+    let xs = allBytes 2 (addressesIn (a .locations .now) (a .ins .now) (a .first) (a .cell) n) in
     let ys = copied (8 * v) (a .t .now) (a .p + 4) in (
       record {
         written =
             c .before .before .copy .ensures
             ∙ ap (λ (l : List ℕ). sets l (a .at + 2 + 2 * n) ys) (c .before .before .before .before .before .before .operands .ensures)
-            ∙ head-then (a .code .now) (a .at) (c .before .before .before .before .before .before .before .before .before .before .before .before .before .byte-at .result) (c .before .before .before .before .before .before .before .before .before .before .before .before .byte-at2 .result) (2 * n) xs ys (operands-length (a .spots .now) (a .ins .now) (a .first) (a .spot) n)
+            ∙ head-then (a .code .now) (a .at) (c .before .before .before .before .before .before .before .before .before .before .before .before .before .padded-byte .result) (c .before .before .before .before .before .before .before .before .before .before .before .before .padded-byte2 .result) (2 * n) xs ys (operands-length (a .locations .now) (a .ins .now) (a .first) (a .cell) n)
             ∙ ap (λ (l : List ℕ). sets (a .code .now) (a .at) l) (sym (d .text));
         end = let x = d .size in omega arith;
         words = sym (d .words);
       },
-      ap (λ (m : ℕ). a .spot + m) (sym (d .count)),
+      ap (λ (m : ℕ). a .cell + m) (sym (d .count)),
     )
 
 pub emit-single-spec : {M : Type 1} → statement M

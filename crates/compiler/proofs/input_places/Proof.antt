@@ -30,7 +30,7 @@ loop-again c =
     let a = c .before .before .before .before .before .args in
     let l = c .before .before .before .loop in
     let s = a .t .now in
-    let y = c .width .ensures .0 ∙ ap width (c .before .byte-at .ensures) in
+    let y = c .width .ensures .0 ∙ ap width (c .before .padded-byte .ensures) in
     let b = c .width .ensures .1 in
     let z : 0 + l .j ≡ l .j = omega arith in (
       omega arith,

@@ -8,19 +8,19 @@ use Rattle.compiler.proofs.operands.Statement.{statement}
 use Rattle.compiler.proofs.operands.Tie as tie
 
 abbrev Inv-loop : tie.InvT-loop
-Inv-loop spots spot n ins first code₀ at j₀ code j = Spelling spots ins first spot n code₀ code at j
+Inv-loop locations cell n ins first code₀ at j₀ code j = Spelling locations ins first cell n code₀ code at j
 
 abbrev μ-loop : tie.MeasureT-loop
-μ-loop spots spot n ins first code₀ at j₀ code j = n - j
+μ-loop locations cell n ins first code₀ at j₀ code j = n - j
 
 loop-holds : tie.Need-loop-holds Inv-loop μ-loop
-loop-holds c = let a = c .before .args in spell-start (a .spots .now) (a .ins .now) (a .first) (a .spot) (a .n) (a .code .now) (a .at)
+loop-holds c = let a = c .before .args in spell-start (a .locations .now) (a .ins .now) (a .first) (a .cell) (a .n) (a .code .now) (a .at)
 
 loop-again : tie.Need-loop-again Inv-loop μ-loop
 loop-again c =
     let a = c .before .before .before .before .before .before .before .before .before .before .args in
     let l = c .before .before .before .before .before .before .before .before .loop in
-    spell-step (a .spots .now) (a .ins .now) (a .first) (a .spot) (a .n) (a .code .now) (l .code) (c .before .before .put16 .last .0) (a .at) (l .j) (c .before .before .before .before .address .result) (l .inv) (c .before .before .before .before .before .before .before .loop-test .taken)
+    spell-step (a .locations .now) (a .ins .now) (a .first) (a .cell) (a .n) (a .code .now) (l .code) (c .before .before .put16 .last .0) (a .at) (l .j) (c .before .before .before .before .address .result) (l .inv) (c .before .before .before .before .before .before .before .loop-test .taken)
     (c .before .before .before .before .address .ensures ∙ ap (addressOf (a .ins .now) (a .first)) (c .before .before .before .before .before .wide16 .ensures .0)) (c .before .before .put16 .ensures)
 
 address-requires : tie.Need-address-requires Inv-loop μ-loop
@@ -33,7 +33,7 @@ returns : tie.Need-returns Inv-loop μ-loop
 returns c =
     let a = c .before .before .before .args in
     let l = c .before .loop in
-    spell-done (a .spots .now) (a .ins .now) (a .first) (a .spot) (a .n) (a .code .now) (l .code) (a .at) (l .j) (l .inv) (c .loop-test .left)
+    spell-done (a .locations .now) (a .ins .now) (a .first) (a .cell) (a .n) (a .code .now) (l .code) (a .at) (l .j) (l .inv) (c .loop-test .left)
 
 pub operands-spec : {M : Type 1} → statement M
 operands-spec =

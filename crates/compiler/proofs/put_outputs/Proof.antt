@@ -25,7 +25,7 @@ addressed : (c : tie.After-wide162 Inv-loop μ-loop) → let a = c .before .befo
 addressed c = let a = c .before .before .before .before .before .before .before .before .args in c .wide162 .ensures .0 ∙ c .before .address .ensures ∙ ap (addressOf (a .ins .now) (a .first)) (c .before .before .wide16 .ensures .0)
 
 wide : (c : tie.After-width Inv-loop μ-loop) → c .width .result ≡ width (byte (c .before .before .before .before .before .before .before .before .before .before .args .t .now) (c .before .before .before .before .before .before .before .loop .q))
-wide c = c .width .ensures .0 ∙ ap width (c .before .byte-at .ensures)
+wide c = c .width .ensures .0 ∙ ap width (c .before .padded-byte .ensures)
 
 -- there is room for the words at hand
 room : (c : tie.After-width Inv-loop μ-loop) → c .before .before .before .before .before .before .before .loop .here + 2 * c .width .result ≤ length (c .before .before .before .before .before .before .before .before .before .before .args .code .now)

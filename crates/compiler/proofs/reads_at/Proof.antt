@@ -1,23 +1,35 @@
 use borrow.Author.Needs.{needs}
 use mathlib.Core.Path.{sym, _∙_}
+use native.Mathlib.Omega.{arith}
+use Rattle.sums.proofs.Nodes.{called}
 use Rattle.compiler.proofs.References.{call-reads, plain-reads}
 use Rattle.compiler.proofs.reads_at.Statement.{statement}
 use Rattle.compiler.proofs.reads_at.Tie as tie
 
+-- the place at which the kind's row is known
+abbrev start : tie.After-ports-of → tie.Start
+start r = r .before .before .before
+
 returns : tie.Need-returns
 returns c =
-    let a = c .before .before .before .before .before .before .before .args in
-    let k = c .before .before .before .before .before .byte-at in
-    let r = c .before .before .before .before .ports-of in
-    call-reads (a .t .now) (a .p) (k .result) (r .result) (k .ensures) (r .ensures) (sym (c .before .before .before .is-call .ensures) ∙ c .before .before .if1 .taken)
-    (c .wide .result) (c .wide .ensures .0 ∙ c .before .byte-at2 .ensures) (c .wide .ensures .1)
+    let b = c .before .before in
+    let q = b .before in
+    let r = q .before in
+    let a = start r .args in
+    let s = a .t .now in
+    let k = r .before .padded-byte in
+    let f = sym (q .is-call .ensures) ∙ b .if1 .taken in
+    let e = c .wide .ensures .0 ∙ c .before .padded-byte2 .ensures in
+    let few = start r .pre .arguments (called s (a .p) (k .result) (r .ports-of .result) (k .ensures) (r .ports-of .ensures) f) in
+    call-reads s (a .p) (k .result) (r .ports-of .result) (k .ensures) (r .ports-of .ensures) f (c .wide .result) e (omega arith)
 
 returns-2 : tie.Need-returns-2
 returns-2 c =
-    let a = c .before .before .before .before .before .before .args in
-    let k = c .before .before .before .before .byte-at in
-    let r = c .before .before .before .ports-of in
-    plain-reads (a .t .now) (a .p) (k .result) (r .result) (k .ensures) (r .ensures) (sym (c .before .before .is-call .ensures) ∙ c .before .if1 .left)
+    let q = c .before .before in
+    let r = q .before in
+    let a = start r .args in
+    let k = r .before .padded-byte in
+    plain-reads (a .t .now) (a .p) (k .result) (r .ports-of .result) (k .ensures) (r .ports-of .ensures) (sym (q .is-call .ensures) ∙ c .before .if1 .left)
     (c .wide2 .result) (c .wide2 .ensures .0)
 
 pub reads-at-spec : {M : Type 1} → statement M

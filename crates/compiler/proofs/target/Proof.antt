@@ -16,13 +16,13 @@ find-node-requires : tie.Need-find-node-requires
 find-node-requires c κs = c .before .before .before .pre .2
 
 returns : tie.Need-returns
-returns c = let e = sym (c .before .u16-at .ensures .0) ∙ c .if1 .taken in rw (eq-eqb (u16 (c .before .before .before .args .t .now) (c .before .before .before .args .q)) 0 e)
+returns c = let e = sym (c .before .padded-u16 .ensures .0) ∙ c .if1 .taken in rw (eq-eqb (u16 (c .before .before .before .args .t .now) (c .before .before .before .args .q)) 0 e)
 
 -- what was found
 index : (c : tie.After-known-told) →
     let ns = nodesAt (c .before .before .before .before .before .before .before .args .n) (c .before .before .before .before .before .before .before .args .t .now) (c .before .before .before .before .before .before .before .args .at) in
-    (c .before .found .given .0 .0 ≡ indexOf (c .before .before .before .before .before .u16-at .result) ns) × (indexOf (c .before .before .before .before .before .u16-at .result) ns < length ns)
-index c = found-index (c .before .before .before .before .before .u16-at .result) (nodesAt (c .before .before .before .before .before .before .before .args .n) (c .before .before .before .before .before .before .before .args .t .now) (c .before .before .before .before .before .before .before .args .at)) (c .before .found .given .0 .0) _ (sym (c .before .found .given .1) ∙ c .before .before .before .find-node .ensures)
+    (c .before .found .given .0 .0 ≡ indexOf (c .before .before .before .before .before .padded-u16 .result) ns) × (indexOf (c .before .before .before .before .before .padded-u16 .result) ns < length ns)
+index c = found-index (c .before .before .before .before .before .padded-u16 .result) (nodesAt (c .before .before .before .before .before .before .before .args .n) (c .before .before .before .before .before .before .before .args .t .now) (c .before .before .before .before .before .before .before .args .at)) (c .before .found .given .0 .0) _ (sym (c .before .found .given .1) ∙ c .before .before .before .find-node .ensures)
 
 cast-result : tie.Need-cast-result
 cast-result c =
@@ -36,7 +36,7 @@ returns-2 c =
     let a = c .before .before .before .before .before .before .before .args in
     let s = a .t .now in
     let ns = nodesAt (a .n) s (a .at) in
-    let y = c .before .before .before .before .before .u16-at .ensures .0 in
+    let y = c .before .before .before .before .before .padded-u16 .ensures .0 in
     rw (ne-eqb (u16 s (a .q)) 0 (λ z. c .before .before .before .before .if1 .left (y ∙ z))) (index c .0 ∙ ap (λ (i : ℕ). indexOf i ns) y)
 
 returns-3 : tie.Need-returns-3
@@ -44,8 +44,8 @@ returns-3 c =
     let a = c .before .before .before .before .before .before .args in
     let s = a .t .now in
     let ns = nodesAt (a .n) s (a .at) in
-    let x = none-index (c .before .before .before .before .u16-at .result) ns (sym (c .enum-told .given .1) ∙ c .before .before .find-node .ensures) in
-    let y = c .before .before .before .before .u16-at .ensures .0 in
+    let x = none-index (c .before .before .before .before .padded-u16 .result) ns (sym (c .enum-told .given .1) ∙ c .before .before .find-node .ensures) in
+    let y = c .before .before .before .before .padded-u16 .ensures .0 in
     rw (ne-eqb (u16 s (a .q)) 0 (λ z. c .before .before .before .if1 .left (y ∙ z))) (sym (ap (λ (i : ℕ). indexOf i ns) (sym y) ∙ x ∙ length-nodes (a .n) s (a .at)))
 
 pub target-spec : {M : Type 1} → statement M

@@ -5,13 +5,15 @@ use mathlib.Core.List.{List}
 use native.Mathlib.Omega.{arith}
 use lib.ListN.{length, replicate, length-replicate}
 use lib.Seq.{sets}
+use Rattle.compiler.specs.Sizes.{outputLimit, orderLimit}
+use Rattle.base.specs.Limits.{functionLimit, referenceLimit}
 use Rattle.base.specs.Bytes.{byte, allBytes}
 use Rattle.reader.specs.Layout.{inputCount, outputCount, outputsPlace, functionAt}
 use Rattle.bytecode.specs.Run.{places, spans}
 use Rattle.sums.specs.Position.{placeOf, functionIn}
 use Rattle.sums.specs.Capped.{wordsAt}
-use Rattle.compiler.specs.Emit.{addressesIn, closedAt}
-use Rattle.compiler.specs.Spotting.{PortsCoded}
+use Rattle.compiler.specs.Emit.{addressesIn, summaryAt}
+use Rattle.compiler.specs.Locating.{PortsCoded}
 use Rattle.sums.specs.Answers.{typesBy}
 use Rattle.sums.proofs.Widths.{inputs-are}
 use Rattle.compiler.proofs.Accepting.{few, fit-at}
@@ -41,13 +43,13 @@ place c = c .wide16 .ensures .0 ∙ c .before .before .before .before .pre .0 .1
 
 nin : (c : tie.After-wide) → (c .wide .result ≡ inputCount (c .before .before .before .before .before .before .args .t .now) (placeOf (c .before .before .before .before .before .before .args .t .now) (c .before .before .before .before .before .before .args .k))) × (c .wide .result ≤ 8)
 nin c =
-    let e = c .wide .ensures .0 ∙ c .before .byte-at .ensures ∙ ap (λ (q : ℕ). byte (c .before .before .before .before .before .before .args .t .now) (q + 2)) (place (c .before .before)) in
+    let e = c .wide .ensures .0 ∙ c .before .padded-byte .ensures ∙ ap (λ (q : ℕ). byte (c .before .before .before .before .before .before .args .t .now) (q + 2)) (place (c .before .before)) in
     let f = fit-at (c .before .before .before .before .before .before .args .t .now) (suc (c .before .before .before .before .before .before .args .k)) (c .before .before .before .before .before .before .pre .0 .0) (c .before .before .before .before .before .before .args .k) (omega arith) .inputs in
     (e, omega arith)
 
 nout : (c : tie.After-wide2) → (c .wide2 .result ≡ outputCount (c .before .before .before .before .before .before .before .before .args .t .now) (placeOf (c .before .before .before .before .before .before .before .before .args .t .now) (c .before .before .before .before .before .before .before .before .args .k))) × (c .wide2 .result ≤ 8)
 nout c =
-    let e = c .wide2 .ensures .0 ∙ c .before .byte-at2 .ensures ∙ ap (λ (q : ℕ). byte (c .before .before .before .before .before .before .before .before .args .t .now) (q + 3)) (place (c .before .before .before .before)) in
+    let e = c .wide2 .ensures .0 ∙ c .before .padded-byte2 .ensures ∙ ap (λ (q : ℕ). byte (c .before .before .before .before .before .before .before .before .args .t .now) (q + 3)) (place (c .before .before .before .before)) in
     let f = fit-at (c .before .before .before .before .before .before .before .before .args .t .now) (suc (c .before .before .before .before .before .before .before .before .args .k)) (c .before .before .before .before .before .before .before .before .pre .0 .0) (c .before .before .before .before .before .before .before .before .args .k) (omega arith) .outputs in
     (e, omega arith)
 
@@ -58,25 +60,25 @@ words c =
     let w = c .before .before .before .before .before .before .before .before .before .before .pre .1 .0 .words in
     omega arith
 
-lay-functions-requires : tie.Need-lay-functions-requires
-lay-functions-requires c κs =
+allocate-functions-requires : tie.Need-allocate-functions-requires
+allocate-functions-requires c κs =
     let a = c .before .before .before .before .before .before .before .before .before .before .before .before .before .before .args in (
       (fewer (a .t .now) (suc (a .k)) (a .k) (c .before .before .before .before .before .before .before .before .before .before .before .before .before .before .pre .0 .0) (omega arith), (λ j l. c .before .before .before .before .before .before .before .before .before .before .before .before .before .before .pre .0 .1 j (omega arith)), (λ j l. c .before .before .before .before .before .before .before .before .before .before .before .before .before .before .pre .0 .2 j (omega arith))),
-      (length-replicate {A = ℕ} 128 0, length-replicate {A = ℕ} 4096 0, length-replicate {A = ℕ} 20166 0, length-replicate {A = ℕ} 16 0),
+      (length-replicate {A = ℕ} outputLimit 0, length-replicate {A = ℕ} orderLimit 0, length-replicate {A = ℕ} referenceLimit 0, length-replicate {A = ℕ} functionLimit 0),
     )
 
-lay-next-requires : tie.Need-lay-next-requires
-lay-next-requires c κs = (c .before .before .before .before .before .before .before .before .before .before .before .before .before .before .before .before .before .before .before .pre .0, c .before .before .before .before .lay-functions .ensures)
+allocate-next-requires : tie.Need-allocate-next-requires
+allocate-next-requires c κs = (c .before .before .before .before .before .before .before .before .before .before .before .before .before .before .before .before .before .before .before .pre .0, c .before .before .before .before .allocate-functions .ensures)
 
 input-places-requires : tie.Need-input-places-requires
 input-places-requires c κs = let (x, y) = nin (c .before .before .before .before .before .before .before .before .before .before .before .before .before .before .before) in let p = c .before .before .before .before .before .before .before .before .before .before .before .before .before .before .before .before .before .wide16 .ensures .1 in (omega arith, y)
 
--- what was laid
-laid : (c : tie.After-lay-next) → PortsCoded (closedAt (c .before .before .before .before .before .before .before .before .before .before .before .before .before .before .before .before .before .before .before .before .args .t .now) (c .before .before .before .before .before .before .before .before .before .before .before .before .before .before .before .before .before .before .before .before .args .k) .outputs) (c .lay-next .last .1 .1 .1 .1 .0) (8 * c .before .before .before .before .before .before .before .before .before .before .before .before .before .before .before .before .before .before .before .before .args .k)
-laid c =
+-- what was allocated
+allocated : (c : tie.After-allocate-next) → PortsCoded (summaryAt (c .before .before .before .before .before .before .before .before .before .before .before .before .before .before .before .before .before .before .before .before .args .t .now) (c .before .before .before .before .before .before .before .before .before .before .before .before .before .before .before .before .before .before .before .before .args .k) .outputs) (c .allocate-next .last .1 .1 .1 .1 .0) (8 * c .before .before .before .before .before .before .before .before .before .before .before .before .before .before .before .before .before .before .before .before .args .k)
+allocated c =
     let a = c .before .before .before .before .before .before .before .before .before .before .before .before .before .before .before .before .before .before .before .before .args in
     let w = c .before .before .before .before .before .before .before .before .before .before .before .before .before .before .before .before .before .before .before .before .pre .1 .0 .words in
-    c .lay-next .ensures .ports (a .k) (omega arith) (omega arith)
+    c .allocate-next .ensures .ports (a .k) (omega arith) (omega arith)
 
 -- the addresses of the arguments
 ins-are : (c : tie.After-input-places) → (c .input-places .last .1 .1 .1 .0) ≡ sets (replicate 8 0) 0 (places 0 (functionIn (c .before .before .before .before .before .before .before .before .before .before .before .before .before .before .before .before .before .before .before .before .before .before .args .t .now) (c .before .before .before .before .before .before .before .before .before .before .before .before .before .before .before .before .before .before .before .before .before .before .args .k) .inputs))
@@ -105,7 +107,7 @@ cast-put-header-4 c = let w = words (c .before .before .before .before .before .
 room : (c : tie.After-input-places) → 12 ≤ length (c .before .before .before .before .before .before .before .before .before .before .before .before .before .before .before .before .before .before .before .before .before .before .args .code .now)
 room c =
     let a = c .before .before .before .before .before .before .before .before .before .before .before .before .before .before .before .before .before .before .before .before .before .before .args in
-    let r = emit-room (a .t .now) (a .k) (c .before .before .before .before .before .before .before .before .before .before .before .before .before .before .before .before .before .before .before .before .before .before .pre .0 .0) (a .count) (a .inputs) (a .outputs) (c .before .before .before .before .before .before .before .before .before .before .before .before .before .before .before .before .before .before .before .before .before .before .pre .1 .0) (c .before .before .lay-next .last .1 .1 .1 .1 .0) (c .input-places .last .1 .1 .1 .0) (laid (c .before .before)) (ins-are c) (a .code .now) (c .before .before .before .before .before .before .before .before .before .before .before .before .before .before .before .before .before .before .before .before .before .before .pre .1 .1) .room in
+    let r = emit-room (a .t .now) (a .k) (c .before .before .before .before .before .before .before .before .before .before .before .before .before .before .before .before .before .before .before .before .before .before .pre .0 .0) (a .count) (a .inputs) (a .outputs) (c .before .before .before .before .before .before .before .before .before .before .before .before .before .before .before .before .before .before .before .before .before .before .pre .1 .0) (c .before .before .allocate-next .last .1 .1 .1 .1 .0) (c .input-places .last .1 .1 .1 .0) (allocated (c .before .before)) (ins-are c) (a .code .now) (c .before .before .before .before .before .before .before .before .before .before .before .before .before .before .before .before .before .before .before .before .before .before .pre .1 .1) .room in
     omega arith
 
 put-header-requires : tie.Need-put-header-requires
@@ -119,8 +121,8 @@ emit-requires c κs =
     let a = c .before .before .before .before .before .before .before .before .before .before .before .before .before .before .before .before .before .before .before .before .before .before .before .before .before .before .before .before .before .before .before .args in (
       (low (c .before .before .before .before .before .before .before .before .before .before .before .before .before .before .before .before .before .before .before .before .before .before .before .before .before .before .before .before .before .before .before), c .before .before .before .before .before .before .before .before .before .before .before .before .before .before .before .before .before .before .before .before .before .before .before .before .before .before .before .before .before .before .before .pre .0 .1),
       (
-        c .before .before .before .before .before .before .before .before .before .before .before .lay-next .ensures .laid,
-        emit-room (a .t .now) (a .k) (c .before .before .before .before .before .before .before .before .before .before .before .before .before .before .before .before .before .before .before .before .before .before .before .before .before .before .before .before .before .before .before .pre .0 .0) (a .count) (a .inputs) (a .outputs) (c .before .before .before .before .before .before .before .before .before .before .before .before .before .before .before .before .before .before .before .before .before .before .before .before .before .before .before .before .before .before .before .pre .1 .0) (c .before .before .before .before .before .before .before .before .before .before .before .lay-next .last .1 .1 .1 .1 .0) (c .before .before .before .before .before .before .before .before .before .input-places .last .1 .1 .1 .0) (laid (c .before .before .before .before .before .before .before .before .before .before .before)) (ins-are (c .before .before .before .before .before .before .before .before .before)) (c .before .before .before .before .before .before .before .put-header .last .0)
+        c .before .before .before .before .before .before .before .before .before .before .before .allocate-next .ensures .allocated,
+        emit-room (a .t .now) (a .k) (c .before .before .before .before .before .before .before .before .before .before .before .before .before .before .before .before .before .before .before .before .before .before .before .before .before .before .before .before .before .before .before .pre .0 .0) (a .count) (a .inputs) (a .outputs) (c .before .before .before .before .before .before .before .before .before .before .before .before .before .before .before .before .before .before .before .before .before .before .before .before .before .before .before .before .before .before .before .pre .1 .0) (c .before .before .before .before .before .before .before .before .before .before .before .allocate-next .last .1 .1 .1 .1 .0) (c .before .before .before .before .before .before .before .before .before .input-places .last .1 .1 .1 .0) (allocated (c .before .before .before .before .before .before .before .before .before .before .before)) (ins-are (c .before .before .before .before .before .before .before .before .before)) (c .before .before .before .before .before .before .before .put-header .last .0)
             (let e = same-header (c .before .before .before .before .before .before .before) in let l = c .before .before .before .before .before .before .before .before .before .before .before .before .before .before .before .before .before .before .before .before .before .before .before .before .before .before .before .before .before .before .before .pre .1 .1 in omega arith),
       ),
     )
@@ -149,10 +151,10 @@ put-outputs-requires c κs =
         l,
         low (c .before .before .before .before .before .before .before .before .before .before .before .before .before .before .before .before .before .before .before .before .before .before .before .before .before .before .before .before .before .before .before .before .before .before .before .before .before),
         omega arith,
-        λ j jl. outs-low s (a .k) (c .before .before .before .before .before .before .before .before .before .before .before .before .before .before .before .before .before .before .before .before .before .before .before .before .before .before .before .before .before .before .before .before .before .before .before .before .before .pre .0 .0) (a .count) (a .inputs) (a .outputs) (c .before .before .before .before .before .before .before .before .before .before .before .before .before .before .before .before .before .before .before .before .before .before .before .before .before .before .before .before .before .before .before .before .before .before .before .before .before .pre .1 .0) (c .before .before .before .before .before .before .before .before .before .before .before .before .before .before .before .before .before .lay-next .last .1 .1 .1 .1 .0) (c .before .before .before .before .before .before .before .before .before .before .before .before .before .before .before .input-places .last .1 .1 .1 .0) (laid (c .before .before .before .before .before .before .before .before .before .before .before .before .before .before .before .before .before)) (ins-are (c .before .before .before .before .before .before .before .before .before .before .before .before .before .before .before)) j (omega arith),
+        λ j jl. outs-low s (a .k) (c .before .before .before .before .before .before .before .before .before .before .before .before .before .before .before .before .before .before .before .before .before .before .before .before .before .before .before .before .before .before .before .before .before .before .before .before .before .pre .0 .0) (a .count) (a .inputs) (a .outputs) (c .before .before .before .before .before .before .before .before .before .before .before .before .before .before .before .before .before .before .before .before .before .before .before .before .before .before .before .before .before .before .before .before .before .before .before .before .before .pre .1 .0) (c .before .before .before .before .before .before .before .before .before .before .before .before .before .before .before .before .before .allocate-next .last .1 .1 .1 .1 .0) (c .before .before .before .before .before .before .before .before .before .before .before .before .before .before .before .input-places .last .1 .1 .1 .0) (allocated (c .before .before .before .before .before .before .before .before .before .before .before .before .before .before .before .before .before)) (ins-are (c .before .before .before .before .before .before .before .before .before .before .before .before .before .before .before)) j (omega arith),
       ),
       rw (e, q)
-          (out-room s (a .k) (c .before .before .before .before .before .before .before .before .before .before .before .before .before .before .before .before .before .before .before .before .before .before .before .before .before .before .before .before .before .before .before .before .before .before .before .before .before .pre .0 .0) (a .count) (a .inputs) (a .outputs) (c .before .before .before .before .before .before .before .before .before .before .before .before .before .before .before .before .before .before .before .before .before .before .before .before .before .before .before .before .before .before .before .before .before .before .before .before .before .pre .1 .0) (c .before .before .before .before .before .before .before .before .before .before .before .before .before .before .before .before .before .lay-next .last .1 .1 .1 .1 .0) (c .before .before .before .before .before .before .before .before .before .before .before .before .before .before .before .input-places .last .1 .1 .1 .0) (laid (c .before .before .before .before .before .before .before .before .before .before .before .before .before .before .before .before .before)) (ins-are (c .before .before .before .before .before .before .before .before .before .before .before .before .before .before .before)) (a .code .now) (c .before .before .before .before .before .before .before .before .before .before .before .before .before .put-header .last .0) (c .before .before .before .before .before .emit .last .1 .1 .1 .1 .1 .1 .1 .0) (c .before .before .before .before .before .emit .last .1 .1 .1 .1 .1 .1 .1 .0)
+          (out-room s (a .k) (c .before .before .before .before .before .before .before .before .before .before .before .before .before .before .before .before .before .before .before .before .before .before .before .before .before .before .before .before .before .before .before .before .before .before .before .before .before .pre .0 .0) (a .count) (a .inputs) (a .outputs) (c .before .before .before .before .before .before .before .before .before .before .before .before .before .before .before .before .before .before .before .before .before .before .before .before .before .before .before .before .before .before .before .before .before .before .before .before .before .pre .1 .0) (c .before .before .before .before .before .before .before .before .before .before .before .before .before .before .before .before .before .allocate-next .last .1 .1 .1 .1 .0) (c .before .before .before .before .before .before .before .before .before .before .before .before .before .before .before .input-places .last .1 .1 .1 .0) (allocated (c .before .before .before .before .before .before .before .before .before .before .before .before .before .before .before .before .before)) (ins-are (c .before .before .before .before .before .before .before .before .before .before .before .before .before .before .before)) (a .code .now) (c .before .before .before .before .before .before .before .before .before .before .before .before .before .put-header .last .0) (c .before .before .before .before .before .emit .last .1 .1 .1 .1 .1 .1 .1 .0) (c .before .before .before .before .before .emit .last .1 .1 .1 .1 .1 .1 .1 .0)
           (c .before .before .before .before .before .emit .result) (a .inputs + c .before .before .before .before .before .before .before .before .before .before .before .before .before .before .before .before .before .before .before .before .before .before .before .before .before .before .before .wide32 .result) (ap (λ (n : ℕ). a .inputs + n) (words (c .before .before .before .before .before .before .before .before .before .before .before .before .before .before .before .before .before .before .before .before .before .before .before .before .before .before .before))) (c .before .before .before .before .before .before .before .before .before .before .before .before .before .put-header .ensures) (c .before .before .before .before .before .emit .ensures) (c .before .before .before .before .before .before .before .before .before .before .before .before .before .before .before .before .before .before .before .before .before .before .before .before .before .before .before .before .before .before .before .before .before .before .before .before .before .pre .1 .1)),
     )
 
@@ -165,17 +167,17 @@ returns c =
     let s = a .t .now in
     let (e, l) = nout (c .before .before .before .before .before .before .before .before .before .before .before .before .before .before .before .before .before .before .before .before .before .before .before .before .before .before .before .before .before .before .before .before) in
     let q = entries (c .before .before .before .before .before .before .before .before .before .before .before .before .before .before .before .before .before .before .before .before .before .before .before .before .before .before .before .before .before .before .before .before .before .before) in
-    assembled s (a .k) (c .before .before .before .before .before .before .before .before .before .before .before .before .before .before .before .before .before .before .before .before .before .before .before .before .before .before .before .before .before .before .before .before .before .before .before .before .before .before .before .before .pre .0 .0) (a .count) (a .inputs) (a .outputs) (c .before .before .before .before .before .before .before .before .before .before .before .before .before .before .before .before .before .before .before .before .before .before .before .before .before .before .before .before .before .before .before .before .before .before .before .before .before .before .before .before .pre .1 .0) (c .before .before .before .before .before .before .before .before .before .before .before .before .before .before .before .before .before .before .before .before .lay-next .last .1 .1 .1 .1 .0) (c .before .before .before .before .before .before .before .before .before .before .before .before .before .before .before .before .before .before .input-places .last .1 .1 .1 .0) (laid (c .before .before .before .before .before .before .before .before .before .before .before .before .before .before .before .before .before .before .before .before)) (ins-are (c .before .before .before .before .before .before .before .before .before .before .before .before .before .before .before .before .before .before)) (a .code .now) (c .before .before .before .before .before .before .before .before .before .before .before .before .before .before .before .before .put-header .last .0) (c .before .before .before .before .before .before .before .before .emit .last .1 .1 .1 .1 .1 .1 .1 .0) (c .before .before .put-outputs .last .1 .1 .1 .1 .1 .1 .1 .0)
+    assembled s (a .k) (c .before .before .before .before .before .before .before .before .before .before .before .before .before .before .before .before .before .before .before .before .before .before .before .before .before .before .before .before .before .before .before .before .before .before .before .before .before .before .before .before .pre .0 .0) (a .count) (a .inputs) (a .outputs) (c .before .before .before .before .before .before .before .before .before .before .before .before .before .before .before .before .before .before .before .before .before .before .before .before .before .before .before .before .before .before .before .before .before .before .before .before .before .before .before .before .pre .1 .0) (c .before .before .before .before .before .before .before .before .before .before .before .before .before .before .before .before .before .before .before .before .allocate-next .last .1 .1 .1 .1 .0) (c .before .before .before .before .before .before .before .before .before .before .before .before .before .before .before .before .before .before .input-places .last .1 .1 .1 .0) (allocated (c .before .before .before .before .before .before .before .before .before .before .before .before .before .before .before .before .before .before .before .before)) (ins-are (c .before .before .before .before .before .before .before .before .before .before .before .before .before .before .before .before .before .before)) (a .code .now) (c .before .before .before .before .before .before .before .before .before .before .before .before .before .before .before .before .put-header .last .0) (c .before .before .before .before .before .before .before .before .emit .last .1 .1 .1 .1 .1 .1 .1 .0) (c .before .before .put-outputs .last .1 .1 .1 .1 .1 .1 .1 .0)
     (c .before .before .before .before .before .before .before .before .emit .result) (a .inputs + c .before .before .before .before .before .before .before .before .before .before .before .before .before .before .before .before .before .before .before .before .before .before .before .before .before .before .before .before .before .before .wide32 .result) (ap (λ (n : ℕ). a .inputs + n) (words (c .before .before .before .before .before .before .before .before .before .before .before .before .before .before .before .before .before .before .before .before .before .before .before .before .before .before .before .before .before .before))) (c .before .before .before .before .before .before .before .before .before .before .before .before .before .before .before .before .put-header .ensures) (c .before .before .before .before .before .before .before .before .emit .ensures)
     (c .before .before .put-outputs .ensures
-    ∙ ap (λ (n : ℕ). sets (c .before .before .before .before .before .before .before .before .emit .last .1 .1 .1 .1 .1 .1 .1 .0) (c .before .before .before .before .before .before .before .before .emit .result .at) (allBytes 2 (spans (typesBy 4 n s (c .before .before .before .before .before .before .before .before .before .before .before .before .before .before .before .before .before .before .before .before .before .before .before .before .before .before .before .before .before .before .before .before .before .before .before .before .wide16 .result + 6 + c .before .before .before .before .before .before .before .before .before .before .before .before .before .before .before .before .before .before .before .before .before .before .before .before .before .before .before .before .before .before .before .before .before .before .wide .result)) (addressesIn (c .before .before .before .before .before .before .before .before .before .before .before .before .before .before .before .before .before .before .before .before .lay-next .last .1 .1 .1 .1 .0) (c .before .before .before .before .before .before .before .before .before .before .before .before .before .before .before .before .before .before .input-places .last .1 .1 .1 .0) (a .inputs) (8 * a .k) n)))) e
-    ∙ ap (λ (m : ℕ). sets (c .before .before .before .before .before .before .before .before .emit .last .1 .1 .1 .1 .1 .1 .1 .0) (c .before .before .before .before .before .before .before .before .emit .result .at) (allBytes 2 (spans (typesBy 4 (outputCount s (placeOf s (a .k))) s m) (addressesIn (c .before .before .before .before .before .before .before .before .before .before .before .before .before .before .before .before .before .before .before .before .lay-next .last .1 .1 .1 .1 .0) (c .before .before .before .before .before .before .before .before .before .before .before .before .before .before .before .before .before .before .input-places .last .1 .1 .1 .0) (a .inputs) (8 * a .k) (outputCount s (placeOf s (a .k))))))) q)
+    ∙ ap (λ (n : ℕ). sets (c .before .before .before .before .before .before .before .before .emit .last .1 .1 .1 .1 .1 .1 .1 .0) (c .before .before .before .before .before .before .before .before .emit .result .at) (allBytes 2 (spans (typesBy 4 n s (c .before .before .before .before .before .before .before .before .before .before .before .before .before .before .before .before .before .before .before .before .before .before .before .before .before .before .before .before .before .before .before .before .before .before .before .before .wide16 .result + 6 + c .before .before .before .before .before .before .before .before .before .before .before .before .before .before .before .before .before .before .before .before .before .before .before .before .before .before .before .before .before .before .before .before .before .before .wide .result)) (addressesIn (c .before .before .before .before .before .before .before .before .before .before .before .before .before .before .before .before .before .before .before .before .allocate-next .last .1 .1 .1 .1 .0) (c .before .before .before .before .before .before .before .before .before .before .before .before .before .before .before .before .before .before .input-places .last .1 .1 .1 .0) (a .inputs) (8 * a .k) n)))) e
+    ∙ ap (λ (m : ℕ). sets (c .before .before .before .before .before .before .before .before .emit .last .1 .1 .1 .1 .1 .1 .1 .0) (c .before .before .before .before .before .before .before .before .emit .result .at) (allBytes 2 (spans (typesBy 4 (outputCount s (placeOf s (a .k))) s m) (addressesIn (c .before .before .before .before .before .before .before .before .before .before .before .before .before .before .before .before .before .before .before .before .allocate-next .last .1 .1 .1 .1 .0) (c .before .before .before .before .before .before .before .before .before .before .before .before .before .before .before .before .before .before .input-places .last .1 .1 .1 .0) (a .inputs) (8 * a .k) (outputCount s (placeOf s (a .k))))))) q)
 
 pub write-list-spec : {M : Type 1} → statement M
 write-list-spec =
     tie.close
     (tie.spec mul-wide16 element-copy-out-wide16 (λ c κs. search needs) (λ c. search needs) (λ c κs. search needs) (λ c κs. search needs)
     (λ c. search needs) (λ c κs. search needs) (λ c κs. search needs) mul-wide32 element-copy-out-wide32 (λ c κs. search needs)
-    (λ c. search needs) lay-functions-requires lay-next-requires (λ c. search needs) input-places-requires cast-put-header cast-put-header-2
+    (λ c. search needs) allocate-functions-requires allocate-next-requires (λ c. search needs) input-places-requires cast-put-header cast-put-header-2
     cast-put-header-3 cast-put-header-4 put-header-requires emit-requires add-put-outputs add-put-outputs-2 put-outputs-requires same-length
     returns)

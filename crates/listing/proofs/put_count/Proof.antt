@@ -5,6 +5,7 @@ use mathlib.Core.Bool.{Bool, cond}
 use mathlib.Core.List.{_++_}
 use lib.ListN.{length}
 use denote.Ref.{now}
+use Rattle.listing.specs.Lines.{textLimit}
 use Rattle.lowering.specs.Listing.{decimal}
 use Rattle.listing.proofs.Text.{then, same, room-first, room-rest}
 use Rattle.listing.proofs.put_count.Statement.{statement}
@@ -21,14 +22,14 @@ put-decimal-requires c κs =
     let s = c .before .before .before .before .before .before in
     let a = s .args in
     room-rest (decimal (a .n)) (c .before .before .put-bytes .ensures)
-    (subst (λ (b : Bool). a .at + length (now (a .word) ++ cond b (decimal (a .n)) (now (a .other))) ≤ 2048) (c .before .if1 .taken) (s .pre))
+    (subst (λ (b : Bool). a .at + length (now (a .word) ++ cond b (decimal (a .n)) (now (a .other))) ≤ textLimit) (c .before .if1 .taken) (s .pre))
 
 put-bytes-requires-2 : tie.Need-put-bytes-requires-2
 put-bytes-requires-2 c κs =
     let s = c .before .before .before .before .before .before in
     let a = s .args in
     room-rest (now (a .other)) (c .before .before .put-bytes .ensures)
-    (subst (λ (b : Bool). a .at + length (now (a .word) ++ cond b (decimal (a .n)) (now (a .other))) ≤ 2048) (c .before .if1 .left) (s .pre))
+    (subst (λ (b : Bool). a .at + length (now (a .word) ++ cond b (decimal (a .n)) (now (a .other))) ≤ textLimit) (c .before .if1 .left) (s .pre))
 
 returns : tie.Need-returns
 returns c =

@@ -5,9 +5,9 @@ use mathlib.Core.Bool.{Bool, cond}
 use mathlib.Core.List.{_++_}
 use borrow.Author.Needs.{needs}
 use lib.ListN.{length}
-use Rattle.base.specs.Limits.{operationLimit, wordLimit}
+use Rattle.base.specs.Limits.{wordLimit}
 use Rattle.lowering.specs.Listing.{decimal, limited, newline, wordsText, codeText, noneText}
-use Rattle.listing.specs.Lines.{countsText}
+use Rattle.listing.specs.Lines.{countsText, textLimit}
 use Rattle.listing.proofs.Lines.{counts-rooms}
 use Rattle.listing.proofs.Text.{then, same, room-rest}
 use Rattle.listing.proofs.put_counts.Statement.{statement}
@@ -28,19 +28,19 @@ put-count-requires-2 c κs =
 
 put-count-requires-3 : tie.Need-put-count-requires-3
 put-count-requires-3 c κs =
-    let shown = c .before .within in
+    let shown = c .before .within-limits in
     let two = c .before .before .before .before in
     let one = two .before .before .before .before in
     let s = one .before .before .before .before in
     let a = s .args in
-    subst (λ (b : Bool). two .put-count2 .result + length (codeText ++ cond b (decimal (a .code)) noneText) ≤ 2048) (sym (shown .ensures))
+    subst (λ (b : Bool). two .put-count2 .result + length (codeText ++ cond b (decimal (a .code)) noneText) ≤ textLimit) (sym (shown .ensures))
     (room-rest _ (then (one .put-count .ensures) (two .put-count2 .ensures)) (counts-rooms (a .operations) (a .words) (a .code) (a .at) (s .pre) .2))
 
 put-bytes-requires : tie.Need-put-bytes-requires
 unfolding countsText
 put-bytes-requires c κs =
     let three = c .before .before in
-    let shown = three .before .before .within in
+    let shown = three .before .before .within-limits in
     let two = three .before .before .before .before .before in
     let one = two .before .before .before .before in
     let s = one .before .before .before .before in
@@ -53,7 +53,7 @@ returns : tie.Need-returns
 unfolding countsText
 returns c =
     let three = c .before .before .before in
-    let shown = three .before .before .within in
+    let shown = three .before .before .within-limits in
     let two = three .before .before .before .before .before in
     let one = two .before .before .before .before in
     let a = one .before .before .before .before .args in

@@ -1,55 +1,79 @@
 -- `listing::put_function`: the head is read, and both halves are written.
+use Prim.Native.Nat.{_+_, _≤_}
+use mathlib.Core.Path.{_≡_, _∙_}
 use native.Mathlib.Omega.{arith}
 use borrow.Author.Needs.{needs}
+use lib.ListN.{length}
+use mathlib.Core.List.{_++_}
+use Rattle.listing.specs.Lines.{headText, countsText, lineAt}
 use Rattle.listing.proofs.Lines.{head-length, counts-length, line-is}
 use Rattle.listing.proofs.Text.{then, same}
 use Rattle.listing.proofs.put_function.Statement.{statement}
 use Rattle.listing.proofs.put_function.Tie as tie
 
+-- ---- places: each field of the head is read
+
+abbrev outputs-read : tie.After-padded-u162 → tie.After-wide2
+outputs-read c = c .before
+
+abbrev inputs-read : tie.After-wide2 → tie.After-wide
+inputs-read c = c .before .before
+
+abbrev id-read : tie.After-wide → tie.After-padded-u16
+id-read c = c .before .before
+
+abbrev start : tie.After-padded-u162 → tie.Start
+start c = id-read (inputs-read (outputs-read c)) .before .before
+
+-- ---- how long the halves are
+
+head-room : (r : tie.After-padded-u162) →
+    let o = outputs-read r in
+    let i = inputs-read o in
+    length (headText (id-read i .padded-u16 .result) (i .wide .result) (o .wide2 .result) (r .padded-u162 .result)) ≤ 49
+head-room r =
+    let o = outputs-read r in
+    let i = inputs-read o in
+    let d = id-read i in
+    head-length (d .padded-u16 .result) (i .wide .result) (o .wide2 .result) (r .padded-u162 .result) (d .padded-u16 .ensures .1) (i .wide .ensures .1) (o .wide2 .ensures .1) (r .padded-u162 .ensures .1)
+
+counts-room : (r : tie.After-padded-u162) → let a = start r .args in length (countsText (a .operations) (a .words) (a .code)) ≤ 54
+counts-room r = let a = start r .args in counts-length (a .operations) (a .words) (a .code) (omega arith)
+
+-- the line that they make
+line : (r : tie.After-padded-u162) →
+    let o = outputs-read r in
+    let i = inputs-read o in
+    let a = start r .args in
+    headText (id-read i .padded-u16 .result) (i .wide .result) (o .wide2 .result) (r .padded-u162 .result) ++ countsText (a .operations) (a .words) (a .code)
+    ≡ lineAt (a .table .now) (a .p) (a .operations) (a .words) (a .code)
+line r =
+    let o = outputs-read r in
+    let i = inputs-read o in
+    let a = start r .args in
+    line-is (a .table .now) (a .p) (a .operations) (a .words) (a .code) (id-read i .padded-u16 .ensures .0) (i .wide .ensures .0 ∙ i .before .padded-byte .ensures) (o .wide2 .ensures .0 ∙ o .before .padded-byte2 .ensures) (r .padded-u162 .ensures .0)
+
 put-head-requires : tie.Need-put-head-requires
-put-head-requires c κs =
-    let nodes = c .before .u16-at2 in
-    let outputs = c .before .before .byte-at2 in
-    let inputs = c .before .before .before .byte-at in
-    let id = c .before .before .before .before .u16-at in
-    let s = c .before .before .before .before .before .before in
-    let room = s .pre .0 in
-    omega (arith, head-length (id .result) (inputs .result) (outputs .result) (nodes .result) (id .ensures .1) (inputs .ensures .1) (outputs .ensures .1) (nodes .ensures .1))
+put-head-requires c κs = let r = c .before in omega (arith, start r .pre .0, head-room r)
 
 put-counts-requires : tie.Need-put-counts-requires
 put-counts-requires c κs =
-    let head = c .before .put-head in
     let r = c .before .before .before in
-    let nodes = r .u16-at2 in
-    let outputs = r .before .byte-at2 in
-    let inputs = r .before .before .byte-at in
-    let id = r .before .before .before .u16-at in
-    let s = r .before .before .before .before .before in
-    let a = s .args in
-    let room = s .pre .0 in
-    let end = head .ensures .end in
-    omega (arith, head-length (id .result) (inputs .result) (outputs .result) (nodes .result) (id .ensures .1) (inputs .ensures .1) (outputs .ensures .1) (nodes .ensures .1), counts-length (a .operations) (a .words) (a .code) (omega arith))
+    omega (arith, start r .pre .0, c .before .put-head .ensures .end, head-room r, counts-room r)
 
 returns : tie.Need-returns
 returns c =
-    let head = c .before .before .put-head in
-    let r = c .before .before .before .before in
-    let nodes = r .u16-at2 in
-    let outputs = r .before .byte-at2 in
-    let inputs = r .before .before .byte-at in
-    let id = r .before .before .before .u16-at in
-    let s = r .before .before .before .before .before in
-    let a = s .args in
-    let middle = head .ensures .end in
+    let h = c .before .before in
+    let r = h .before .before in
+    let middle = h .put-head .ensures .end in
     let end = c .put-counts .ensures .end in (
-      same (line-is (a .table .now) (a .p) (a .operations) (a .words) (a .code) (id .ensures .0) (inputs .ensures .0) (outputs .ensures .0) (nodes .ensures .0))
-          (then (head .ensures) (c .put-counts .ensures)),
-      omega (arith, head-length (id .result) (inputs .result) (outputs .result) (nodes .result) (id .ensures .1) (inputs .ensures .1) (outputs .ensures .1) (nodes .ensures .1), counts-length (a .operations) (a .words) (a .code) (omega arith)),
+      same (line r) (then (h .put-head .ensures) (c .put-counts .ensures)),
+      omega (arith, head-room r, counts-room r),
     )
 
 pub put-function-spec : {M : Type 1} → statement M
 put-function-spec =
     tie.close
     (tie.spec
-    (λ c κs. search needs) (λ c. search needs) (λ c κs. search needs) (λ c. search needs) (λ c κs. search needs)
+    (λ c κs. search needs) (λ c. search needs) (λ c κs. search needs) (λ c κs. search needs) (λ c. search needs) (λ c κs. search needs) (λ c κs. search needs)
     (λ c. search needs) (λ c κs. search needs) put-head-requires put-counts-requires returns)

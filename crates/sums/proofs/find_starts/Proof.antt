@@ -28,11 +28,11 @@ fit c =
 cast-starts : tie.Need-cast-starts Inv-loop μ-loop
 cast-starts c = let x = fit c .1 in omega arith
 
-u16-at-requires : tie.Need-u16-at-requires Inv-loop μ-loop
-u16-at-requires c κs = let x = fit c .1 in omega arith
+padded-u16-requires : tie.Need-padded-u16-requires Inv-loop μ-loop
+padded-u16-requires c κs = let x = fit c .1 in omega arith
 
-add-u16-at : tie.Need-add-u16-at Inv-loop μ-loop
-add-u16-at c = let x = fit c .1 in omega arith
+add-padded-u16 : tie.Need-add-padded-u16 Inv-loop μ-loop
+add-padded-u16 c = let x = fit c .1 in omega arith
 
 nodes-place-requires : tie.Need-nodes-place-requires Inv-loop μ-loop
 nodes-place-requires c κs = fit (c .before) .1
@@ -42,7 +42,7 @@ nodes-end-requires c κs =
     let s = c .before .before .before .before .before .args .t .now in
     let f = fit (c .before .before) .0 in
     let e = c .before .before .before .loop .inv .place in
-    let a : c .before .u16-at .result ≡ nodeCount s (placeOf s (c .before .before .before .loop .k)) = c .before .u16-at .ensures .0 ∙ ap (λ (q : ℕ). u16 s (q + 4)) e in
+    let a : c .before .padded-u16 .result ≡ nodeCount s (placeOf s (c .before .before .before .loop .k)) = c .before .padded-u16 .ensures .0 ∙ ap (λ (q : ℕ). u16 s (q + 4)) e in
     let b : c .nodes-place .result ≡ nodesPlace s (placeOf s (c .before .before .before .loop .k)) = c .nodes-place .ensures .0 ∙ ap (nodesPlace s) e in
     (c .nodes-place .ensures .1, rw (a, b) (f .nodes))
 
@@ -50,7 +50,7 @@ loop-again : tie.Need-loop-again Inv-loop μ-loop
 loop-again c =
     let s = c .before .before .before .before .before .before .args .t .now in
     start-step s (c .before .before .before .before .before .before .args .n) (c .before .before .before .before .before .before .args .starts .now) (c .before .before .before .before .loop .starts) (c .before .before .before .before .loop .p) (c .before .before .before .before .loop .k) (c .nodes-end .result) (c .before .before .before .before .loop .inv) (c .before .before .before .loop-test .taken)
-    (c .nodes-end .ensures .0 ∙ ap (λ (q : ℕ). nodePlace s q (c .before .before .u16-at .result)) (c .before .nodes-place .ensures .0) ∙ ap (nodePlace s (nodesPlace s (c .before .before .before .before .loop .p))) (c .before .before .u16-at .ensures .0))
+    (c .nodes-end .ensures .0 ∙ ap (λ (q : ℕ). nodePlace s q (c .before .before .padded-u16 .result)) (c .before .nodes-place .ensures .0) ∙ ap (nodePlace s (nodesPlace s (c .before .before .before .before .loop .p))) (c .before .before .padded-u16 .ensures .0))
 
 returns : tie.Need-returns Inv-loop μ-loop
 returns c =
@@ -60,5 +60,5 @@ returns c =
 pub find-starts-spec : {M : Type 1} → statement M
 find-starts-spec =
     tie.close
-    (tie.spec Inv-loop μ-loop loop-holds cast-starts (λ c. search needs) (λ c. search needs) add-u16-at u16-at-requires nodes-place-requires
+    (tie.spec Inv-loop μ-loop loop-holds cast-starts (λ c. search needs) (λ c. search needs) add-padded-u16 padded-u16-requires nodes-place-requires
     nodes-end-requires (λ c. search needs) (λ c. search needs) loop-again returns)

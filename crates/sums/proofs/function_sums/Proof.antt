@@ -22,25 +22,25 @@ place : (c : tie.After-wide16 Inv-loop μ-loop) → c .wide16 .result ≡ placeO
 place c = c .wide16 .ensures .0 ∙ c .before .before .before .pre .0 .2 (c .before .before .before .args .k) (omega arith)
 
 -- the count of nodes, and where they begin
-count : (c : tie.After-u16-at Inv-loop μ-loop) → c .u16-at .result ≡ nodeCount (c .before .before .before .before .args .t .now) (placeOf (c .before .before .before .before .args .t .now) (c .before .before .before .before .args .k))
-count c = c .u16-at .ensures .0 ∙ ap (λ (q : ℕ). u16 (c .before .before .before .before .args .t .now) (q + 4)) (place (c .before))
+count : (c : tie.After-padded-u16 Inv-loop μ-loop) → c .padded-u16 .result ≡ nodeCount (c .before .before .before .before .args .t .now) (placeOf (c .before .before .before .before .args .t .now) (c .before .before .before .before .args .k))
+count c = c .padded-u16 .ensures .0 ∙ ap (λ (q : ℕ). u16 (c .before .before .before .before .args .t .now) (q + 4)) (place (c .before))
 
 begin : (c : tie.After-nodes-place Inv-loop μ-loop) → c .nodes-place .result ≡ nodesPlace (c .before .before .before .before .before .args .t .now) (placeOf (c .before .before .before .before .before .args .t .now) (c .before .before .before .before .before .args .k))
 begin c = c .nodes-place .ensures .0 ∙ ap (nodesPlace (c .before .before .before .before .before .args .t .now)) (place (c .before .before))
 
 loop-holds : tie.Need-loop-holds Inv-loop μ-loop
 loop-holds c =
-    sum-start (c .before .before .before .before .before .args .t .now) (c .before .before .before .before .before .args .k) (c .before .u16-at .result) (c .nodes-place .result) (c .nodes-place .ensures .1)
+    sum-start (c .before .before .before .before .before .args .t .now) (c .before .before .before .before .before .args .k) (c .before .padded-u16 .result) (c .nodes-place .result) (c .nodes-place .ensures .1)
     (rw (count (c .before), begin c) (c .before .before .before .before .before .pre .0 .1 .nodes))
 
 node-sums-requires : tie.Need-node-sums-requires Inv-loop μ-loop
 node-sums-requires c κs =
-    let near = pass-here (c .before .before .before .before .before .before .before .before .before .before .before .args .t .now) (c .before .before .before .before .before .before .nodes-place .result) (c .before .before .before .before .before .before .before .u16-at .result) (c .before .before .before .before .before .loop .q) (c .before .before .before .before .before .loop .i) (c .before .before .before .before .before .loop .inv .pass) (c .before .before .before .before .loop-test .taken) .near in
+    let near = pass-here (c .before .before .before .before .before .before .before .before .before .before .before .args .t .now) (c .before .before .before .before .before .before .nodes-place .result) (c .before .before .before .before .before .before .before .padded-u16 .result) (c .before .before .before .before .before .loop .q) (c .before .before .before .before .before .loop .i) (c .before .before .before .before .before .loop .inv .pass) (c .before .before .before .before .loop-test .taken) .near in
     ((omega arith, near, λ j lt. c .before .before .before .before .before .before .before .before .before .before .before .pre .0 .2 j (omega arith)), c .before .before .before .before .before .before .before .before .before .before .before .pre .1)
 
 node-end-requires : tie.Need-node-end-requires Inv-loop μ-loop
 node-end-requires c κs =
-    pass-here (c .before .before .before .before .before .before .before .before .before .before .before .before .before .before .before .before .before .before .before .before .args .t .now) (c .before .before .before .before .before .before .before .before .before .before .before .before .before .before .before .nodes-place .result) (c .before .before .before .before .before .before .before .before .before .before .before .before .before .before .before .before .u16-at .result) (c .before .before .before .before .before .before .before .before .before .before .before .before .before .before .loop .q) (c .before .before .before .before .before .before .before .before .before .before .before .before .before .before .loop .i) (c .before .before .before .before .before .before .before .before .before .before .before .before .before .before .loop .inv .pass) (c .before .before .before .before .before .before .before .before .before .before .before .before .before .loop-test .taken) .near
+    pass-here (c .before .before .before .before .before .before .before .before .before .before .before .before .before .before .before .before .before .before .before .before .args .t .now) (c .before .before .before .before .before .before .before .before .before .before .before .before .before .before .before .nodes-place .result) (c .before .before .before .before .before .before .before .before .before .before .before .before .before .before .before .before .padded-u16 .result) (c .before .before .before .before .before .before .before .before .before .before .before .before .before .before .loop .q) (c .before .before .before .before .before .before .before .before .before .before .before .before .before .before .loop .i) (c .before .before .before .before .before .before .before .before .before .before .before .before .before .before .loop .inv .pass) (c .before .before .before .before .before .before .before .before .before .before .before .before .before .loop-test .taken) .near
 
 add-capped : tie.Need-add-capped Inv-loop μ-loop
 add-capped c = let (x1, x2, x3, x4) = c .before .before .before .before .before .before .before .loop .inv .small in let (u1, u2, u3, u4) = c .before .node-sums .ensures .small in omega arith
@@ -57,12 +57,12 @@ add-capped-4 c = let (x1, x2, x3, x4) = c .before .before .before .before .befor
 loop-again : tie.Need-loop-again Inv-loop μ-loop
 loop-again c =
     let l = c .before .before .before .before .before .before .before .before .before .before .before .before .before .before .before .loop in
-    sum-step (c .before .before .before .before .before .before .before .before .before .before .before .before .before .before .before .before .before .before .before .before .before .args .t .now) (c .before .before .before .before .before .before .before .before .before .before .before .before .before .before .before .before .before .before .before .before .before .args .k) (c .before .before .before .before .before .before .before .before .before .before .before .before .before .before .before .before .before .u16-at .result) (c .before .before .before .before .before .before .before .before .before .before .before .before .before .before .before .before .nodes-place .result) (l .o) (l .w) (l .m) (l .b) (l .i) (l .q) (l .inv) (c .before .before .before .before .before .before .before .before .before .before .before .before .before .before .loop-test .taken)
+    sum-step (c .before .before .before .before .before .before .before .before .before .before .before .before .before .before .before .before .before .before .before .before .before .args .t .now) (c .before .before .before .before .before .before .before .before .before .before .before .before .before .before .before .before .before .before .before .before .before .args .k) (c .before .before .before .before .before .before .before .before .before .before .before .before .before .before .before .before .before .padded-u16 .result) (c .before .before .before .before .before .before .before .before .before .before .before .before .before .before .before .before .nodes-place .result) (l .o) (l .w) (l .m) (l .b) (l .i) (l .q) (l .inv) (c .before .before .before .before .before .before .before .before .before .before .before .before .before .before .loop-test .taken)
     (c .before .before .before .before .before .before .before .before .before .node-sums .result) (c .before .before .before .before .before .before .before .before .before .node-sums .ensures) (c .before .before .before .before .before .before .before .capped .result) (c .before .before .before .before .before .capped2 .result) (c .before .before .before .capped3 .result) (c .before .capped4 .result) (c .node-end .result)
     (c .before .before .before .before .before .before .before .capped .ensures) (c .before .before .before .before .before .capped2 .ensures) (c .before .before .before .capped3 .ensures) (c .before .capped4 .ensures) (c .node-end .ensures .0) (c .node-end .ensures .1)
 
 add-i : tie.Need-add-i Inv-loop μ-loop
-add-i c = let x = c .before .before .before .before .before .before .before .before .before .before .before .before .before .before .before .before .before .u16-at .ensures .1 in let y = c .before .before .before .before .before .before .before .before .before .before .before .before .before .before .loop-test .taken in omega arith
+add-i c = let x = c .before .before .before .before .before .before .before .before .before .before .before .before .before .before .before .before .before .padded-u16 .ensures .1 in let y = c .before .before .before .before .before .before .before .before .before .before .before .before .before .before .loop-test .taken in omega arith
 
 cast-ops : tie.Need-cast-ops Inv-loop μ-loop
 cast-ops c = let (x1, x2, x3, x4) = c .before .loop .inv .small in omega arith
@@ -81,7 +81,7 @@ returns c =
     let a = c .before .before .before .before .before .before .before .args in
     let s = a .t .now in
     let l = c .before .loop in
-    let (x1, x2, x3, x4) = sum-done s (a .k) (c .before .before .before .u16-at .result) (c .before .before .nodes-place .result) (l .o) (l .w) (l .m) (l .b) (l .i) (l .q) (l .inv) (c .loop-test .left) in
+    let (x1, x2, x3, x4) = sum-done s (a .k) (c .before .before .before .padded-u16 .result) (c .before .before .nodes-place .result) (l .o) (l .w) (l .m) (l .b) (l .i) (l .q) (l .inv) (c .loop-test .left) in
     let (y1, y2, y3, y4) = sums-are s (a .k) in
     let e = count (c .before .before .before) in
     let f = begin (c .before .before) in (

@@ -73,8 +73,8 @@ returns c =
     let ins = c .before .before .before .before .before .widths-at in
     let outs = c .before .before .widths-at2 in
     let ep : p .result ≡ functionPlace 8 s (a .k) = p .ensures .0 ∙ starts-in s _ _ (a .k + 1) (c .before .before .before .before .before .before .before .before .before .before .before .before .before .before .before .before .before .before .find-starts .ensures) (omega arith) (a .k) here in
-    let ei : i .result ≡ byte s (p .result + 2) = i .ensures .0 ∙ c .before .before .before .before .before .before .before .byte-at .ensures in
-    let en : n .result ≡ byte s (p .result + 3) = n .ensures .0 ∙ c .before .before .before .before .byte-at2 .ensures in (
+    let ei : i .result ≡ byte s (p .result + 2) = i .ensures .0 ∙ c .before .before .before .before .before .before .before .padded-byte .ensures in
+    let en : n .result ≡ byte s (p .result + 3) = n .ensures .0 ∙ c .before .before .before .before .padded-byte2 .ensures in (
       measured-at s (a .k) (sound-here s (a .count) (pre .0) (small d) (a .k) (pre .1)) _ _ _ _ (summed-in s _ _ _ _ _ _ _ _ (a .k + 1) (c .before .before .before .before .before .before .before .before .before .before .before .before .all-sums .ensures) (refl, refl, refl, refl) (omega arith) (a .k) here)
           (p .result) (c .before .before .before .before .before .before .before .before .before .before .wide32 .result) (c .before .before .before .before .before .before .before .before .before .wide322 .result) (c .before .capped .result) (c .before .before .before .before .before .before .before .before .wide323 .result) (c .code-size .result) (ins .result) (outs .result)
           ep (c .before .before .before .before .before .before .before .before .before .before .wide32 .ensures .0) (c .before .before .before .before .before .before .before .before .before .wide322 .ensures .0) (c .before .before .before .before .before .before .before .before .wide323 .ensures .0)

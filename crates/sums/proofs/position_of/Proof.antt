@@ -23,7 +23,7 @@ returns c =
     let a = b .args in
     let l = c .before .before .before .before .before .loop in
     let w = c .before .before .wide16 .ensures .0 ∙ b .pre .1 (l .m - 1) (search needs) in
-    let e = ap (λ (q : ℕ). u16 (a .t .now) q) (sym w) ∙ sym (c .before .u16-at .ensures .0) ∙ c .if1 .taken in
+    let e = ap (λ (q : ℕ). u16 (a .t .now) q) (sym w) ∙ sym (c .before .padded-u16 .ensures .0) ∙ c .if1 .taken in
     sym (l .inv .1 ∙ position-hit (a .t .now) (l .m) (a .c) (search needs) e)
 
 loop-again : tie.Need-loop-again Inv-loop μ-loop
@@ -33,7 +33,7 @@ loop-again c =
     let l = c .before .before .before .before .before .loop in
     let w = c .before .before .wide16 .ensures .0 ∙ b .pre .1 (l .m - 1) (search needs) in (
       omega arith,
-      l .inv .1 ∙ position-miss (a .t .now) (l .m) (a .c) (search needs) (λ e. c .if1 .left (c .before .u16-at .ensures .0 ∙ ap (λ (q : ℕ). u16 (a .t .now) q) w ∙ e)),
+      l .inv .1 ∙ position-miss (a .t .now) (l .m) (a .c) (search needs) (λ e. c .if1 .left (c .before .padded-u16 .ensures .0 ∙ ap (λ (q : ℕ). u16 (a .t .now) q) w ∙ e)),
     )
 
 returns-2 : tie.Need-returns-2 Inv-loop μ-loop

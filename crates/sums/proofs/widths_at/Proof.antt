@@ -19,7 +19,7 @@ loop-holds c = let a = c .before .args in add-start (a .t .now) (a .p) (a .step)
 
 -- the words of the type at hand
 own : (c : tie.After-width Inv-loop μ-loop) → c .width .result ≡ width (byte (c .before .before .before .before .before .args .t .now) (c .before .before .before .loop .q))
-own c = let e : c .width .result ≡ width (c .before .byte-at .result) = c .width .ensures .0 in e ∙ ap width (c .before .byte-at .ensures)
+own c = let e : c .width .result ≡ width (c .before .padded-byte .result) = c .width .ensures .0 in e ∙ ap width (c .before .padded-byte .ensures)
 
 add-total : tie.Need-add-total Inv-loop μ-loop
 add-total c =

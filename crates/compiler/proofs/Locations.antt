@@ -1,0 +1,386 @@
+-- The locations found before a function is inlined are where its values stand once it is inlined.
+use Prim.Native.Nat.{ℕ, _+_, _≤_}
+use mathlib.Core.Path.{_≡_, refl, ap, sym, _∙_, subst}
+use mathlib.Core.Bool.{Bool, true, false, _||_, cond}
+use mathlib.Core.List.{List, [], _∷_, _++_, map, map-map, reverse, reverseAux}
+use mathlib.Core.Option.{some}
+use mathlib.Core.Logic.{_⊎_, inl, inr, ⊎-elim}
+use native.Mathlib.Omega.{arith}
+use lib.Dec.{eqb}
+use lib.ListN.{getD, List·getD-map}
+use borrow.Author.Tests.{eqb-true, eq-eqb}
+use Rattle.ports.specs.Kinds.{kindOf}
+use Rattle.ports.specs.Ports.{width, gives}
+use Rattle.graph.specs.Graph.{Ref, Payload, consts, refs, calls, Node, Function}
+use Rattle.base.specs.Lists.{Each, member, Distinct, Is}
+use Rattle.graph.specs.Look.{readsOf, reads, outputRefs}
+use Rattle.graph.specs.Schedule.{ready, schedule}
+use Rattle.base.specs.Outcome.{ok, _>>_}
+use Rattle.graph.specs.Read.{version1, parse}
+use Rattle.graph.specs.Judge.{judge, judgeAll, table}
+use Rattle.base.specs.Bytes.{Bytes}
+use Rattle.graph.specs.Table.{Chosen, chosen}
+use Rattle.graph.specs.Sums.{sum}
+use Rattle.graph.specs.Sound.{Sound, AllFormed}
+use Rattle.base.proofs.Bools.{and-inv, or-inv}
+use Rattle.base.proofs.Outcomes.{took, after, ok-is}
+use Rattle.graph.proofs.Fresh.{judged-distinct}
+use Rattle.graph.proofs.Order.{ids, Ordered, scheduled, schedule-within, schedule-distinct}
+use Rattle.bytecode.specs.Run.{Instruction, places}
+use Rattle.lowering.specs.Compile.{Written, portsAt, address, Inlined, Inline, single, inlineNode, also, inlineNodes, inlineFunction, inlined}
+use Rattle.compiler.specs.Static.{Location, nowhere, input, offset, addressAt, rebase, Located, locationsOf, locationOf, Summary, Callee, nodeSummary, allocate, functionSummary, summary, emitNodes, Agrees}
+
+-- ---- lists
+
+-- two functions that agree give the same list
+map-same : {A B : Type 0} (f g : A → B) → ((x : A) → f x ≡ g x) → (xs : List A) → map f xs ≡ map g xs
+map-same f g h [] = refl
+map-same f g h (x ∷ xs) = let a = h x in let b = map-same f g h xs in cc
+
+-- ---- a location and its address
+
+-- a port's address is that of its location
+pub location-port : (ins : List ℕ) (base : ℕ) (locations : List Location) (p : ℕ) → getD (map (addressAt ins base) locations) p 0 ≡ addressAt ins base (getD locations p nowhere)
+location-port ins base locations p = List·getD-map (addressAt ins base) locations p nowhere
+
+-- a callee's location, inlined with its arguments' addresses from its first word on, is the caller's location rebase the call
+pub location-rebase : (ins : List ℕ) (base d : ℕ) (args : List Location) (s : Location) → addressAt (map (addressAt ins base) args) (base + d) s ≡ addressAt ins base (rebase d args s)
+location-rebase ins base d args nowhere = refl
+location-rebase ins base d args (input i) = location-port ins base args i
+location-rebase ins base d args (offset e) = omega arith
+
+-- the same of all a callee's locations
+pub locations-rebase : (ins : List ℕ) (base d : ℕ) (args locations : List Location)
+    → map (addressAt (map (addressAt ins base) args) (base + d)) locations ≡ map (addressAt ins base) (map (rebase d args) locations)
+locations-rebase ins base d args locations =
+    map-same (addressAt (map (addressAt ins base) args) (base + d)) (λ s. addressAt ins base (rebase d args s)) (location-rebase ins base d args) locations
+    ∙ sym (map-map (addressAt ins base) (rebase d args) locations)
+
+-- results one after another from a word on are offsets one after another
+pub places-offset : (ins : List ℕ) (base d : ℕ) (ts : List ℕ) → places (base + d) ts ≡ map (addressAt ins base) (map offset (places d ts))
+places-offset ins base d [] = refl
+places-offset ins base d (t ∷ ts) =
+    let e : base + d + width t ≡ base + (d + width t) = omega arith in
+    ap (λ (xs : List ℕ). (base + d) ∷ xs) (ap (λ (q : ℕ). places q ts) e ∙ places-offset ins base (d + width t) ts)
+
+-- ---- the nodes that are written, and those that have their locations
+
+-- every port that is written stands at its location
+pub record Matches (ins : List ℕ) (base : ℕ) (written : List Written) (located : List Located) : Type 0 where
+  pub ports : (i : ℕ) → portsAt i written ≡ map (addressAt ins base) (locationsOf i located)
+
+-- at the start nothing is written
+pub matches-start : (ins : List ℕ) (base : ℕ) → Matches ins base [] []
+matches-start ins base = record { ports = λ i. refl }
+
+-- a node more has its locations
+abbrev pub locating : Node → Summary → List Located → List Located
+locating n c located = record { id = n .id; locations = c .outputs } ∷ located
+
+-- a node more whose ports stand at its locations
+pub matches-also : (ins : List ℕ) (base : ℕ) (written : List Written) (located : List Located) (n : Node) (o : Inlined) (c : Summary) → Matches ins base written located
+    → o .ports ≡ map (addressAt ins base) (c .outputs) → Matches ins base (also n o written) (locating n c located)
+matches-also ins base written located n o c m e = record { ports = λ i. pickOne i (eqb (n .id) i) }
+  where
+    pickOne : (i : ℕ) (b : Bool) → cond b (o .ports) (portsAt i written) ≡ map (addressAt ins base) (cond b (c .outputs) (locationsOf i located))
+    pickOne i true = e
+    pickOne i false = m .ports i
+
+-- the address of a reference is that of its location
+pub address-location : (ins : List ℕ) (base : ℕ) (written : List Written) (located : List Located) → Matches ins base written located → (r : Ref)
+    → address ins written r ≡ addressAt ins base (locationOf located r)
+address-location ins base written located m r = pickOne (eqb (r .node) 0)
+  where
+    pickOne : (b : Bool)
+        → getD (cond b ins (portsAt (r .node) written)) (r .port) 0
+        ≡ addressAt ins base (cond b (input (r .port)) (getD (locationsOf (r .node) located) (r .port) nowhere))
+    pickOne true = refl
+    pickOne false = ap (λ (xs : List ℕ). getD xs (r .port) 0) (m .ports (r .node)) ∙ location-port ins base (locationsOf (r .node) located) (r .port)
+
+-- the same of several references
+pub addresses-locations : (ins : List ℕ) (base : ℕ) (written : List Written) (located : List Located) → Matches ins base written located → (rs : List Ref)
+    → map (address ins written) rs ≡ map (addressAt ins base) (map (locationOf located) rs)
+addresses-locations ins base written located m rs =
+    map-same (address ins written) (λ r. addressAt ins base (locationOf located r)) (address-location ins base written located m) rs
+    ∙ sym (map-map (addressAt ins base) (locationOf located) rs)
+
+-- ---- a node, and the nodes in their order
+
+-- what a function is inlined to stands as its callers see it
+pub record Follows (go : Inline) (call : Callee) : Type 0 where
+  pub ports : (c : ℕ) (ins : List ℕ) (next : ℕ) → go c ins next .ports ≡ map (addressAt ins next) (call c .outputs)
+  pub next : (c : ℕ) (ins : List ℕ) (next : ℕ) → go c ins next .next ≡ next + call c .words
+
+module _ (go : Inline) (call : Callee) (follows : Follows go call) (ins : List ℕ) (base : ℕ) where
+  -- a node's ports stand at its locations
+  pub node-ports : (written : List Written) (located : List Located) → Matches ins base written located → (next d : ℕ) → next ≡ base + d → (n : Node) (p : Payload)
+      → inlineNode go (address ins written) next n p .ports ≡ map (addressAt ins base) (nodeSummary call located d n p .outputs)
+  node-ports written located m next d e n (consts ws) =
+      let out = gives (kindOf (n .kind)) (n .type) in
+      ap (λ (q : ℕ). places q out) e ∙ places-offset ins base d out
+  node-ports written located m next d e n (refs rs) =
+      let out = gives (kindOf (n .kind)) (n .type) in
+      ap (λ (q : ℕ). places q out) e ∙ places-offset ins base d out
+  node-ports written located m next d e n (calls c rs) =
+      follows .ports c (map (address ins written) rs) next
+      ∙ ap (λ (q : ℕ). map (addressAt (map (address ins written) rs) q) (call c .outputs)) e
+      ∙ ap (λ (xs : List ℕ). map (addressAt xs (base + d)) (call c .outputs)) (addresses-locations ins base written located m rs)
+      ∙ locations-rebase ins base d (map (locationOf located) rs) (call c .outputs)
+
+  -- a call opens its callee at its own first word, with its arguments' locations
+  pub call-inlined : (written : List Written) (located : List Located) → Matches ins base written located → (next d : ℕ) → next ≡ base + d → (n : Node) (c : ℕ) (rs : List Ref)
+      → inlineNode go (address ins written) next n (calls c rs) ≡ go c (map (addressAt ins base) (map (locationOf located) rs)) (base + d)
+  call-inlined written located m next d e n c rs =
+      ap (λ (xs : List ℕ). go c xs next) (addresses-locations ins base written located m rs) ∙ ap (λ (q : ℕ). go c (map (addressAt ins base) (map (locationOf located) rs)) q) e
+
+  -- the first word behind a node
+  pub node-next : (from : Ref → ℕ) (located : List Located) (next d : ℕ) → next ≡ base + d → (n : Node) (p : Payload)
+      → inlineNode go from next n p .next ≡ base + (d + nodeSummary call located d n p .words)
+  node-next from located next d e n (consts ws) = omega arith
+  node-next from located next d e n (refs rs) = omega arith
+  node-next from located next d e n (calls c rs) = let h : go c (map from rs) next .next ≡ next + call c .words = follows .next c (map from rs) next in omega arith
+
+  -- a step over a node keeps the match
+  pub matches-step : (written : List Written) (located : List Located) → Matches ins base written located → (next d : ℕ) → next ≡ base + d → (n : Node)
+      → Matches ins base (also n (inlineNode go (address ins written) next n (n .payload)) written) (locating n (nodeSummary call located d n (n .payload)) located)
+  matches-step written located m next d e n =
+      matches-also ins base written located n (inlineNode go (address ins written) next n (n .payload)) (nodeSummary call located d n (n .payload)) m
+      (node-ports written located m next d e n (n .payload))
+
+  -- all nodes: they match behind them too
+  pub matches-nodes : (ns : List Node) (written : List Written) (located : List Located) → Matches ins base written located → (next d : ℕ) → next ≡ base + d
+      → Matches ins base (inlineNodes go ins ns written next .written) (allocate call ns located d .located)
+  matches-nodes [] written located m next d e = m
+  matches-nodes (n ∷ ns) written located m next d e =
+      let o = inlineNode go (address ins written) next n (n .payload) in
+      let c = nodeSummary call located d n (n .payload) in
+      matches-nodes ns (also n o written) (locating n c located) (matches-step written located m next d e n) (o .next) (d + c .words)
+      (node-next (address ins written) located next d e n (n .payload))
+
+  -- the first word behind all nodes
+  pub nodes-next : (ns : List Node) (written : List Written) (located : List Located) (next d : ℕ) → next ≡ base + d
+      → inlineNodes go ins ns written next .next ≡ base + allocate call ns located d .words
+  nodes-next [] written located next d e = e
+  nodes-next (n ∷ ns) written located next d e =
+      let o = inlineNode go (address ins written) next n (n .payload) in
+      let c = nodeSummary call located d n (n .payload) in
+      nodes-next ns (also n o written) (locating n c located) (o .next) (d + c .words)
+      (node-next (address ins written) located next d e n (n .payload))
+
+-- ---- a function
+
+-- the ports of a function that is inlined stand at its outputs' locations
+pub function-ports : (go : Inline) (call : Callee) → Follows go call → (f : Function) (ins : List ℕ) (next : ℕ)
+    → inlineFunction go f ins next .ports ≡ map (addressAt ins next) (functionSummary call f .outputs)
+function-ports go call follows f ins next =
+    let e : next ≡ next + 0 = omega arith in
+    let m = matches-nodes go call follows ins next (schedule (f .nodes)) [] [] (matches-start ins next) next 0 e in
+    addresses-locations ins next _ _ m (outputRefs (f .outputs))
+
+-- the first word behind a function that is inlined
+pub function-next : (go : Inline) (call : Callee) → Follows go call → (f : Function) (ins : List ℕ) (next : ℕ)
+    → inlineFunction go f ins next .next ≡ next + functionSummary call f .words
+function-next go call follows f ins next = nodes-next go call follows ins next (schedule (f .nodes)) [] [] next 0 (omega arith)
+
+-- the functions, inlined, stand as their callers see them
+pub inlined-follows : (early : List Function) → Follows (inlined early) (summary early)
+unfolding inlined summary
+inlined-follows [] = record { ports = λ c ins next. refl; next = λ c ins next. omega arith }
+inlined-follows (f ∷ early) = both (inlined-follows early)
+  where
+    both : Follows (inlined early) (summary early) → Follows (inlined (f ∷ early)) (summary (f ∷ early))
+    both h = record { ports = λ c ins next. ports c ins next (eqb (f .id) c); next = λ c ins next. behind c ins next (eqb (f .id) c) }
+      where
+        ports : (c : ℕ) (ins : List ℕ) (next : ℕ) (b : Bool)
+            → cond b (inlineFunction (inlined early) f ins next) (inlined early c ins next) .ports
+            ≡ map (addressAt ins next) (cond b (functionSummary (summary early) f) (summary early c) .outputs)
+        ports c ins next true = function-ports (inlined early) (summary early) h f ins next
+        ports c ins next false = h .ports c ins next
+
+        behind : (c : ℕ) (ins : List ℕ) (next : ℕ) (b : Bool)
+            → cond b (inlineFunction (inlined early) f ins next) (inlined early c ins next) .next
+            ≡ next + cond b (functionSummary (summary early) f) (summary early c) .words
+        behind c ins next true = function-next (inlined early) (summary early) h f ins next
+        behind c ins next false = h .next c ins next
+
+-- the ports of the function of an id
+pub inlined-ports : (early : List Function) (c : ℕ) (ins : List ℕ) (next : ℕ) → inlined early c ins next .ports ≡ map (addressAt ins next) (summary early c .outputs)
+inlined-ports early c ins next = inlined-follows early .ports c ins next
+
+-- the first word behind the function of an id
+pub inlined-next : (early : List Function) (c : ℕ) (ins : List ℕ) (next : ℕ) → inlined early c ins next .next ≡ next + summary early c .words
+inlined-next early c ins next = inlined-follows early .next c ins next
+
+-- ---- ids that are single
+
+-- no two nodes have one id
+abbrev pub Single : List Node → Type 0
+Single ns = Distinct (ids ns)
+
+-- the schedule of a function whose ids are single has single ids
+pub schedule-single : (early : List Function) (f : Function) → Sound early f → Single (f .nodes) → Single (schedule (f .nodes))
+schedule-single = schedule-distinct
+
+all-single : (early fs : List Function) (u : Unit {0}) → Each (λ f. Single (f .nodes)) early → judgeAll early fs ≡ ok u
+    → Each (λ f. Single (f .nodes)) (reverseAux fs early)
+all-single early [] u h e = h
+all-single early (f ∷ fs) u h e =
+    let (b, p, q) = after (judge early f) (judgeAll (f ∷ early) fs) u e in
+    all-single (f ∷ early) fs u (judged-distinct early f b p, h) q
+
+-- every function of an accepted table has single ids
+pub accepted-single : (s : List ℕ) → Bytes s → (fs : List Function) → table s ≡ ok fs → Each (λ f. Single (f .nodes)) fs
+unfolding table
+accepted-single s small fs e =
+    let (gs, p, e1) = took (parse version1 s) (λ fs. judgeAll [] fs >> ok (reverse fs)) fs e in
+    let (u, j, e2) = after (judgeAll [] gs) (ok (reverse gs)) fs e1 in
+    let q : reverse gs ≡ fs = ok-is e2 in
+    subst (λ (hs : List Function). Each (λ f. Single (f .nodes)) hs) q (all-single [] gs u tt j)
+
+-- what holds of every function of a table holds of the one of an id, and of those before it
+pub chosen-each : (P : Function → Type 0) (c : ℕ) (fs : List Function) (x : Chosen) → chosen c fs ≡ some x → Each P fs → Each P (x .function ∷ x .early)
+chosen-each P c [] x e h = let z : _≡_ {A = ℕ} 0 1 = cc in absurd (omega arith)
+chosen-each P c (f ∷ early) x e (p, h) = pickOne (eqb (f .id) c) (λ q. chosen-each P c early x q h) e
+  where
+    pickOne : (b : Bool) → (chosen c early ≡ some x → Each P (x .function ∷ x .early))
+        → cond b (some (record { function = f; early = early })) (chosen c early) ≡ some x → Each P (x .function ∷ x .early)
+    pickOne true ih q =
+        let y : Chosen = record { function = f; early = early } in
+        let r : y ≡ x = cc in
+        subst (λ (z : Chosen). Each P (z .function ∷ z .early)) r (p, h)
+    pickOne false ih q = ih q
+
+-- ---- later is the same
+
+-- nodes in two parts: the second is allocate behind the first
+pub allocate-append : (call : Callee) (ms ns : List Node) (located : List Located) (d : ℕ)
+    → allocate call (ms ++ ns) located d ≡ allocate call ns (allocate call ms located d .located) (allocate call ms located d .words)
+allocate-append call [] ns located d = refl
+allocate-append call (m ∷ ms) ns located d =
+    let c = nodeSummary call located d m (m .payload) in
+    allocate-append call ms ns (locating m c located) (d + c .words)
+
+-- nodes with other ids leave the locations of an id
+pub locations-later : (call : Callee) (i : ℕ) (ns : List Node) (located : List Located) (d : ℕ) → member i (ids ns) ≡ false
+    → locationsOf i (allocate call ns located d .located) ≡ locationsOf i located
+locations-later call i [] located d e = refl
+locations-later call i (n ∷ ns) located d e =
+    let c = nodeSummary call located d n (n .payload) in
+    let (a, b) = apart (eqb (n .id) i) e in
+    locations-later call i ns (locating n c located) (d + c .words) b ∙ rw a refl
+  where
+    apart : (b : Bool) → cond b true (member i (ids ns)) ≡ false → (b ≡ false) × (member i (ids ns) ≡ false)
+    apart true h = let z : _≡_ {A = ℕ} 0 1 = cc in absurd (omega arith)
+    apart false h = (refl, h)
+
+-- the location of a reference to an input, or to an id that none of the nodes has
+pub location-later : (call : Callee) (r : Ref) (ns : List Node) (located : List Located) (d : ℕ) → (r .node ≡ 0) ⊎ (member (r .node) (ids ns) ≡ false)
+    → locationOf (allocate call ns located d .located) r ≡ locationOf located r
+location-later call r ns located d (inl e) = rw (eq-eqb (r .node) 0 e) refl
+location-later call r ns located d (inr e) =
+    ap (λ (xs : List Location). cond (eqb (r .node) 0) (input (r .port)) (getD xs (r .port) nowhere)) (locations-later call (r .node) ns located d e)
+
+-- what is done is none of the nodes to come
+abbrev pub Apart : List ℕ → List Node → Type 0
+Apart done ns = (i : ℕ) → member i done ≡ true → member i (ids ns) ≡ false
+
+-- a node more is done
+pub apart-step : (done : List ℕ) (n : Node) (ns : List Node) → Single (n ∷ ns) → Apart done (n ∷ ns) → Apart (n .id ∷ done) ns
+apart-step done n ns (s, ss) apart i e = pickOne (eqb (n .id) i) refl e (apart i)
+  where
+    pickOne : (b : Bool) → eqb (n .id) i ≡ b → cond b true (member i done) ≡ true → (member i done ≡ true → cond b true (member i (ids ns)) ≡ false)
+        → member i (ids ns) ≡ false
+    pickOne true q h k = subst (λ (j : ℕ). member j (ids ns) ≡ false) (eqb-true (n .id) i q) s
+    pickOne false q h k = k h
+
+-- what a node reads at its turn has the same location in all later lists
+pub reads-later : (call : Callee) (done : List ℕ) (rs : List Ref) (ns : List Node) (located : List Located) (d : ℕ) → Apart done ns → ready done rs ≡ true
+    → Each (λ r. locationOf (allocate call ns located d .located) r ≡ locationOf located r) rs
+reads-later call done [] ns located d apart e = tt
+reads-later call done (r ∷ rs) ns located d apart e =
+    let (a, b) = and-inv (eqb (r .node) 0 || member (r .node) done) (ready done rs) e in (
+      location-later call r ns located d (⊎-elim (λ z. inl (eqb-true (r .node) 0 z)) (λ m. inr (apart (r .node) m)) (or-inv (eqb (r .node) 0) (member (r .node) done) a)),
+      reads-later call done rs ns located d apart b,
+    )
+
+-- the last list is a table for all nodes of an order with single ids
+pub last-agrees : (call : Callee) (done : List ℕ) (ns : List Node) (located : List Located) (d : ℕ) → Single ns → Apart done ns → Ordered done ns
+    → Agrees call (locationOf (allocate call ns located d .located)) ns located d
+last-agrees call done [] located d single apart ordered = tt
+last-agrees call done (n ∷ ns) located d (s, single) apart (fit, ordered) =
+    let c = nodeSummary call located d n (n .payload) in (
+      reads-later call done (reads n) (n ∷ ns) located d apart fit,
+      last-agrees call (n .id ∷ done) ns (locating n c located) (d + c .words) single (apart-step done n ns (s, single) apart) ordered,
+    )
+
+-- the last list of a function's schedule is a table for its nodes
+pub function-agrees : (call : Callee) (early : List Function) (f : Function) → Sound early f → Single (f .nodes)
+    → Agrees call (locationOf (allocate call (schedule (f .nodes)) [] 0 .located)) (schedule (f .nodes)) [] 0
+function-agrees call early f sound single =
+    last-agrees call [] (schedule (f .nodes)) [] 0 (schedule-single early f sound single) nothing (scheduled early f sound .ordered)
+  where
+    nothing : Apart [] (schedule (f .nodes))
+    nothing i e = let z : _≡_ {A = ℕ} 0 1 = cc in absurd (omega arith)
+
+-- a table that has the same locations for what the nodes read
+pub agrees-by : (call : Callee) (table other : Ref → Location) (ns : List Node) (located : List Located) (d : ℕ)
+    → ((n : Node) → Is n ns → Each (λ r. other r ≡ table r) (reads n)) → Agrees call table ns located d → Agrees call other ns located d
+agrees-by call table other [] located d h a = tt
+agrees-by call table other (n ∷ ns) located d h (a, b) =
+    let c = nodeSummary call located d n (n .payload) in
+    (both (reads n) (h n (inl refl)) a, agrees-by call table other ns (locating n c located) (d + c .words) (λ m i. h m (inr i)) b)
+  where
+    both : (rs : List Ref) → Each (λ r. other r ≡ table r) rs → Each (λ r. table r ≡ locationOf located r) rs → Each (λ r. other r ≡ locationOf located r) rs
+    both [] p q = tt
+    both (r ∷ rs) (p, ps) (q, qs) = (p ∙ q, both rs ps qs)
+
+-- ---- the code by a table of locations
+
+-- the addresses of what a node reads are those of the table's locations
+pub addresses-table : (ins : List ℕ) (base : ℕ) (written : List Written) (located : List Located) → Matches ins base written located → (table : Ref → Location) (rs : List Ref)
+    → Each (λ r. table r ≡ locationOf located r) rs → map (address ins written) rs ≡ map (λ r. addressAt ins base (table r)) rs
+addresses-table ins base written located m table [] h = refl
+addresses-table ins base written located m table (r ∷ rs) (e, h) =
+    let a : address ins written r ≡ addressAt ins base (table r) = address-location ins base written located m r ∙ ap (addressAt ins base) (sym e) in
+    let b : map (address ins written) rs ≡ map (λ r. addressAt ins base (table r)) rs = addresses-table ins base written located m table rs h in
+    cc
+
+-- a node by the table's locations
+pub node-table : (go : Inline) (ins : List ℕ) (base : ℕ) (written : List Written) (located : List Located) → Matches ins base written located
+    → (table : Ref → Location) (next : ℕ) (n : Node) (p : Payload) → Each (λ r. table r ≡ locationOf located r) (readsOf p)
+    → inlineNode go (address ins written) next n p ≡ inlineNode go (λ r. addressAt ins base (table r)) next n p
+node-table go ins base written located m table next n (consts ws) h = refl
+node-table go ins base written located m table next n (refs rs) h =
+    ap (λ (xs : List ℕ). single n xs [] next) (addresses-table ins base written located m table rs h)
+node-table go ins base written located m table next n (calls c rs) h =
+    ap (λ (xs : List ℕ). go c xs next) (addresses-table ins base written located m table rs h)
+
+-- the code of nodes in their order by the table's locations
+pub nodes-table : (go : Inline) (call : Callee) → Follows go call → (ins : List ℕ) (base : ℕ) (table : Ref → Location) (ns : List Node) (written : List Written) (located : List Located)
+    → Matches ins base written located → (next d : ℕ) → next ≡ base + d → Agrees call table ns located d
+    → inlineNodes go ins ns written next .code ≡ emitNodes go table ins base ns next
+nodes-table go call follows ins base table [] written located m next d e agrees = refl
+nodes-table go call follows ins base table (n ∷ ns) written located m next d e (a, agrees) =
+    let o = inlineNode go (address ins written) next n (n .payload) in
+    let c = nodeSummary call located d n (n .payload) in
+    let same : o ≡ inlineNode go (λ r. addressAt ins base (table r)) next n (n .payload) = node-table go ins base written located m table next n (n .payload) a in
+    let rest =
+    nodes-table go call follows ins base table ns (also n o written) (locating n c located) (matches-step go call follows ins base written located m next d e n)
+    (o .next) (d + c .words) (node-next go call follows ins base (address ins written) located next d e n (n .payload)) agrees in
+    ap (λ (xs : List Instruction). o .code ++ xs) rest ∙ ap (λ (x : Inlined). x .code ++ emitNodes go table ins base ns (x .next)) same
+
+-- the code of a function by a table of locations
+pub function-table : (go : Inline) (call : Callee) → Follows go call → (f : Function) (table : Ref → Location) → Agrees call table (schedule (f .nodes)) [] 0 → (ins : List ℕ) (next : ℕ)
+    → inlineFunction go f ins next .code ≡ emitNodes go table ins next (schedule (f .nodes)) next
+function-table go call follows f table agrees ins next =
+    nodes-table go call follows ins next table (schedule (f .nodes)) [] [] (matches-start ins next) next 0 (omega arith) agrees
+
+-- the code of a function over those before it, by a table that has the last list's locations for what its nodes read
+pub function-emitted : (early : List Function) (f : Function) → Sound early f → Single (f .nodes) → (table : Ref → Location)
+    → ((n : Node) → Is n (f .nodes) → Each (λ r. table r ≡ locationOf (allocate (summary early) (schedule (f .nodes)) [] 0 .located) r) (reads n)) → (ins : List ℕ) (next : ℕ)
+    → inlineFunction (inlined early) f ins next .code ≡ emitNodes (inlined early) table ins next (schedule (f .nodes)) next
+function-emitted early f sound single table h ins next =
+    let last = locationOf (allocate (summary early) (schedule (f .nodes)) [] 0 .located) in
+    let agrees =
+    agrees-by (summary early) last table (schedule (f .nodes)) [] 0 (λ n i. h n (schedule-within (f .nodes) n i)) (function-agrees (summary early) early f sound single) in
+    function-table (inlined early) (summary early) (inlined-follows early) f table agrees ins next

@@ -1,0 +1,43 @@
+use borrow.Author.Needs.{needs}
+use Prim.Native.Nat.{ℕ, suc, _+_, _-_, _≤_, _<_}
+use mathlib.Core.Path.{_≡_, refl, sym, subst}
+use native.Mathlib.Omega.{arith}
+use Rattle.compiler.specs.Emit.{AllAllocated}
+use Rattle.compiler.specs.Locating.{AllOuts, AllocatedTo}
+use Rattle.compiler.proofs.Accepting.{few}
+use Rattle.compiler.proofs.Tables.{fewer, allocated-none}
+use Rattle.compiler.proofs.allocate_functions.Statement.{statement}
+use Rattle.compiler.proofs.allocate_functions.Tie as tie
+
+abbrev Inv-loop : tie.InvT-loop
+Inv-loop t starts words k outs₀ order₀ locations₀ begins₀ cell₀ j₀ outs order locations begins cell j = (j ≤ k) × AllocatedTo t j outs order locations begins cell
+
+abbrev μ-loop : tie.MeasureT-loop
+μ-loop t starts words k outs₀ order₀ locations₀ begins₀ cell₀ j₀ outs order locations begins cell j = k - j
+
+loop-holds : tie.Need-loop-holds Inv-loop μ-loop
+loop-holds c = let a = c .before .args in (omega arith, allocated-none (a .t .now) (a .outs .now) (a .order .now) (a .locations .now) (a .begins .now) (c .before .pre .1))
+
+allocate-next-requires : tie.Need-allocate-next-requires Inv-loop μ-loop
+allocate-next-requires c κs =
+    let a = c .before .before .before .before .before .before .before .args in
+    let t : c .before .before .before .before .before .loop .j < a .k = c .before .before .before .before .loop-test .taken in (
+      (fewer (a .t .now) (a .k) (suc (c .before .before .before .before .before .loop .j)) (c .before .before .before .before .before .before .before .pre .0 .0) (omega arith), (λ j l. c .before .before .before .before .before .before .before .pre .0 .1 j (omega arith)), (λ j l. c .before .before .before .before .before .before .before .pre .0 .2 j (omega arith))),
+      c .before .before .before .before .before .loop .inv .1,
+    )
+
+add-j : tie.Need-add-j Inv-loop μ-loop
+add-j c = let l = few (c .before .before .before .before .before .before .before .before .args .t .now) (c .before .before .before .before .before .before .before .before .args .k) (c .before .before .before .before .before .before .before .before .pre .0 .0) in let t = c .before .before .before .before .before .loop-test .taken in omega arith
+
+loop-again : tie.Need-loop-again Inv-loop μ-loop
+loop-again c = let z : c .before .before .before .before .before .before .loop .j + 1 ≡ suc (c .before .before .before .before .before .before .loop .j) = omega arith in (omega arith, rw z (c .allocate-next .ensures))
+
+returns : tie.Need-returns Inv-loop μ-loop
+returns c =
+    let z : c .before .before .before .args .k ≡ c .before .loop .j = omega arith in
+    rw z (c .before .loop .inv .1)
+
+pub allocate-functions-spec : {M : Type 1} → statement M
+allocate-functions-spec =
+    tie.close
+    (tie.spec Inv-loop μ-loop loop-holds allocate-next-requires add-j (λ c. search needs) loop-again returns)

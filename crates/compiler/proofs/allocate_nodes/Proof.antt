@@ -1,0 +1,177 @@
+use borrow.Author.Needs.{needs}
+use Prim.Native.Nat.{ℕ, suc, _+_, _-_, _≤_, _<_}
+use mathlib.Core.Path.{_≡_, refl, sym, ap, _∙_, subst}
+use native.Mathlib.Omega.{arith}
+use lib.ListN.{length, replicate}
+use lib.Seq.{sets}
+use Rattle.base.specs.Limits.{nodeLimit, referenceLimit, wordLimit}
+use Rattle.graph.specs.Look.{reads}
+use Rattle.graph.proofs.Formed.{refs-length}
+use Rattle.reader.specs.Layout.{nodeAt, nodesPlace, nodeCount}
+use Rattle.order.specs.Indices.{indexOrder}
+use Rattle.sums.specs.Position.{placeOf, NodeFit}
+use Rattle.sums.specs.Capped.{addsWords}
+use Rattle.compiler.specs.Emit.{}
+use Rattle.compiler.specs.Locating.{Accepted, Slots, Places}
+use Rattle.compiler.proofs.Accepting.{few, fit-at}
+use Rattle.compiler.proofs.Allocating.{State, start, index-low, node-fits, advance, finished}
+use Rattle.compiler.proofs.allocate_nodes.Statement.{statement}
+use Rattle.compiler.proofs.allocate_nodes.Tie as tie
+
+abbrev Inv-loop : tie.InvT-loop
+Inv-loop t starts words outs targets places index k n order₀ locations₀ allocated₀ cell here₀ d₀ m₀ order locations allocated here d m =
+    (acc : Accepted t (suc k)) × State t k cell acc outs targets places index order₀ locations₀ order locations allocated here d m
+
+abbrev μ-loop : tie.MeasureT-loop
+μ-loop t starts words outs targets places index k n order₀ locations₀ allocated₀ cell here₀ d₀ m₀ order locations allocated here d m = n - m
+
+-- what is lent, by the function's own node count
+lent : (c : tie.Start Inv-loop μ-loop) →
+    let a = c .args in
+    let s = a .t .now in
+    let at = nodesPlace s (placeOf s (a .k)) in
+    let n = nodeCount s (placeOf s (a .k)) in
+    Slots s at n (a .targets .now) × Places s at (a .places .now) n × (a .index .now ≡ sets (replicate nodeLimit 0) 0 (indexOrder (a .targets .now) n)) × (n ≤ nodeLimit) × (a .k < 16)
+lent c =
+    let a = c .args in
+    let s = a .t .now in
+    let at = nodesPlace s (placeOf s (a .k)) in
+    let e = c .pre .0 .1 in
+    let (x, y, z) = c .pre .1 .1 .0 in
+    let l = few s (suc (a .k)) (c .pre .0 .0) in (
+      subst (λ (n : ℕ). Slots s at n (a .targets .now)) e x,
+      subst (λ (n : ℕ). Places s at (a .places .now) n) e y,
+      subst (λ (n : ℕ). a .index .now ≡ sets (replicate nodeLimit 0) 0 (indexOrder (a .targets .now) n)) e z,
+      fit-at s (suc (a .k)) (c .pre .0 .0) (a .k) (omega arith) .count,
+      omega arith,
+    )
+
+loop-holds : tie.Need-loop-holds Inv-loop μ-loop
+loop-holds c =
+    let a = c .before .args in
+    let (x, y, z, f, l) = lent (c .before) in
+    let (lo, ls, ll) = c .before .pre .1 .1 .1 in (
+      c .before .pre .0 .0,
+      start (a .t .now) (a .k) (a .cell) (c .before .pre .0 .0) (a .outs .now) (a .targets .now) (a .places .now) (a .index .now) (a .order .now) (a .locations .now)
+          (a .order .now) (a .locations .now) (a .allocated .now) x z lo ls ll refl refl,
+    )
+
+-- the index at hand
+low : (c : tie.After-wide16 Inv-loop μ-loop) → c .wide16 .result < nodeCount (c .before .before .before .before .before .args .t .now) (placeOf (c .before .before .before .before .before .args .t .now) (c .before .before .before .before .before .args .k))
+low c =
+    let a = c .before .before .before .before .before .args in
+    let l = c .before .before .before .loop in
+    let (acc, st) = l .inv in
+    let (x, y, z, f, k16) = lent (c .before .before .before .before .before) in
+    let t = c .before .before .loop-test .taken in
+    let e = c .before .before .before .before .before .pre .0 .1 in
+    index-low (a .t .now) (a .k) (a .cell) acc (a .outs .now) (a .targets .now) (a .places .now) (a .index .now) (a .order .now) (a .locations .now)
+    (c .before .before .before .before .before .pre .0 .2) (c .before .before .before .before .before .pre .0 .3) x y (c .before .before .before .before .before .pre .1 .0 .2) (l .order) (l .locations) (l .allocated) (l .here) (l .d) (l .m) st (omega arith) (c .wide16 .result) (c .wide16 .ensures .0)
+
+-- the node at hand
+fits : (c : tie.After-wide32 Inv-loop μ-loop) →
+    let a = c .before .before .before .before .before .before .before .args in
+    let s = a .t .now in
+    let p = c .wide32 .result in
+    NodeFit s p × (length (reads (nodeAt s p)) ≤ 16) × (c .before .before .before .before .before .loop .here + length (reads (nodeAt s p)) ≤ referenceLimit) × (c .before .before .before .before .before .loop .d + addsWords s (a .k) (nodeAt s p) ≤ wordLimit)
+fits c =
+    let a = c .before .before .before .before .before .before .before .args in
+    let l = c .before .before .before .before .before .loop in
+    let (acc, st) = l .inv in
+    let (x, y, z, f, k16) = lent (c .before .before .before .before .before .before .before) in
+    let t = c .before .before .before .before .loop-test .taken in
+    let e = c .before .before .before .before .before .before .before .pre .0 .1 in
+    node-fits (a .t .now) (a .k) (a .cell) acc (a .outs .now) (a .targets .now) (a .places .now) (a .index .now) (a .order .now) (a .locations .now)
+    (c .before .before .before .before .before .before .before .pre .0 .2) (c .before .before .before .before .before .before .before .pre .0 .3) x y (c .before .before .before .before .before .before .before .pre .1 .0 .2) (l .order) (l .locations) (l .allocated) (l .here) (l .d) (l .m) st (omega arith) (c .before .before .wide16 .result) (c .wide32 .result) (c .before .before .wide16 .ensures .0) (c .wide32 .ensures .0)
+
+-- its references
+count : (c : tie.After-reads-at Inv-loop μ-loop) → c .reads-at .result .count ≡ length (reads (nodeAt (c .before .before .before .before .before .before .before .before .args .t .now) (c .before .wide32 .result)))
+count c = sym (ap length (c .reads-at .ensures .refs) ∙ refs-length (c .reads-at .result .count) (c .before .before .before .before .before .before .before .before .args .t .now) (c .reads-at .result .first))
+
+mul-wide16 : tie.Need-mul-wide16 Inv-loop μ-loop
+mul-wide16 c = let (x, y, z, f, k16) = lent (c .before .before .before) in let t = c .loop-test .taken in let e = c .before .before .before .pre .0 .1 in omega arith
+
+mul-wide32 : tie.Need-mul-wide32 Inv-loop μ-loop
+mul-wide32 c = let l = low (c) in let (x, y, z, f, k16) = lent (c .before .before .before .before .before) in omega arith
+
+mul-order-2 : tie.Need-mul-order-2 Inv-loop μ-loop
+mul-order-2 c = let (x, y, z, f, k16) = lent (c .before .before .before .before .before .before .before) in let t = c .before .before .before .before .loop-test .taken in let e = c .before .before .before .before .before .before .before .pre .0 .1 in omega arith
+
+element-copy-out-wide16 : tie.Need-element-copy-out-wide16 Inv-loop μ-loop
+element-copy-out-wide16 c = let (x, y, z, f, k16) = lent (c .before .before .before) in let t = c .loop-test .taken in let e = c .before .before .before .pre .0 .1 in omega arith
+
+element-copy-out-wide32 : tie.Need-element-copy-out-wide32 Inv-loop μ-loop
+element-copy-out-wide32 c = let l = low (c) in let (x, y, z, f, k16) = lent (c .before .before .before .before .before) in omega arith
+
+mul-order : tie.Need-mul-order Inv-loop μ-loop
+mul-order c = let (x, y, z, f, k16) = lent (c .before .before .before .before .before .before .before) in omega arith
+
+add-order : tie.Need-add-order Inv-loop μ-loop
+add-order c = let (x, y, z, f, k16) = lent (c .before .before .before .before .before .before .before) in let t = c .before .before .before .before .loop-test .taken in let e = c .before .before .before .before .before .before .before .pre .0 .1 in omega arith
+
+element-write-order : tie.Need-element-write-order Inv-loop μ-loop
+element-write-order c = let (x, y, z, f, k16) = lent (c .before .before .before .before .before .before .before) in let t = c .before .before .before .before .loop-test .taken in let e = c .before .before .before .before .before .before .before .pre .0 .1 in omega arith
+
+reads-at-requires : tie.Need-reads-at-requires Inv-loop μ-loop
+reads-at-requires c κs = fits c .0
+
+allocate-reads-requires : tie.Need-allocate-reads-requires Inv-loop μ-loop
+allocate-reads-requires c κs =
+    let l = low (c .before .before .before .before .before) in
+    let (x, y, z, f, k16) = lent (c .before .before .before .before .before .before .before .before .before .before) in
+    let (fit, narrow, room, words) = fits (c .before .before .before) in
+    let n = count (c .before .before) in
+    let near = fit .near in
+    let first = c .before .before .reads-at .ensures .first in
+    (omega arith, omega arith, omega arith, omega arith)
+
+allocate-node-requires : tie.Need-allocate-node-requires Inv-loop μ-loop
+allocate-node-requires c κs =
+    let l = low (c .before .before .before .before .before .before .before .before) in
+    let (x, y, z, f, k16) = lent (c .before .before .before .before .before .before .before .before .before .before .before .before .before) in
+    let (fit, narrow, room, words) = fits (c .before .before .before .before .before .before) in
+    let n = count (c .before .before .before .before .before) in
+    let a = c .before .before .before .before .before .before .before .before .before .before .before .before .before .args in (
+      (omega arith, omega arith, fit, c .before .before .before .before .before .before .before .before .before .before .before .before .before .pre .1 .0 .0, c .before .before .before .before .before .before .before .before .before .before .before .before .before .pre .1 .0 .1),
+      (((λ j jl. fit-at (a .t .now) (suc (a .k)) (c .before .before .before .before .before .before .before .before .before .before .before .before .before .pre .0 .0) j (omega arith)), c .before .before .before .before .before .before .before .before .before .before .before .before .before .pre .1 .0 .2, omega arith, n), words),
+    )
+
+add-here : tie.Need-add-here Inv-loop μ-loop
+add-here c =
+    let (fit, narrow, room, words) = fits (c .before .before .before .before .before .before .before) in
+    let n = count (c .before .before .before .before .before .before) in
+    omega arith
+
+add-m : tie.Need-add-m Inv-loop μ-loop
+add-m c = let (x, y, z, f, k16) = lent (c .before .before .before .before .before .before .before .before .before .before .before .before .before .before) in let t = c .before .before .before .before .before .before .before .before .before .before .before .loop-test .taken in let e = c .before .before .before .before .before .before .before .before .before .before .before .before .before .before .pre .0 .1 in omega arith
+
+loop-again : tie.Need-loop-again Inv-loop μ-loop
+loop-again c =
+    let a = c .before .before .before .before .before .before .before .before .before .before .before .before .before .before .args in
+    let l = c .before .before .before .before .before .before .before .before .before .before .before .before .loop in
+    let (acc, st) = l .inv in
+    let (x, y, z, f, k16) = lent (c .before .before .before .before .before .before .before .before .before .before .before .before .before .before) in
+    let t = c .before .before .before .before .before .before .before .before .before .before .before .loop-test .taken in
+    let e = c .before .before .before .before .before .before .before .before .before .before .before .before .before .before .pre .0 .1 in (
+      acc,
+      advance (a .t .now) (a .k) (a .cell) acc (a .outs .now) (a .targets .now) (a .places .now) (a .index .now) (a .order .now) (a .locations .now)
+          (c .before .before .before .before .before .before .before .before .before .before .before .before .before .before .pre .0 .2) (c .before .before .before .before .before .before .before .before .before .before .before .before .before .before .pre .0 .3) x y (c .before .before .before .before .before .before .before .before .before .before .before .before .before .before .pre .1 .0 .2) (l .order) (l .locations) (l .allocated) (l .here) (l .d) (l .m) st (omega arith) (c .before .before .before .before .before .before .before .before .before .wide16 .result) (c .before .before .before .before .before .before .before .wide32 .result) (c .before .before .before .before .before .before .before .before .before .wide16 .ensures .0) (c .before .before .before .before .before .before .before .wide32 .ensures .0)
+          (c .before .before .before .before .before .before .reads-at .result) (c .before .before .before .before .before .before .reads-at .ensures) _ _ _ _ _ refl (c .before .before .before .allocate-reads .ensures) (c .allocate-node .ensures .0) (c .allocate-node .ensures .1) refl,
+    )
+
+returns : tie.Need-returns Inv-loop μ-loop
+returns c =
+    let a = c .before .before .before .args in
+    let l = c .before .loop in
+    let (acc, st) = l .inv in
+    let t = c .loop-test .left in
+    let e = c .before .before .before .pre .0 .1 in
+    finished (a .t .now) (a .k) (a .cell) acc (a .outs .now) (a .targets .now) (a .places .now) (a .index .now) (a .order .now) (a .locations .now)
+    (l .order) (l .locations) (l .allocated) (l .here) (l .d) (l .m) st (omega arith)
+
+pub allocate-nodes-spec : {M : Type 1} → statement M
+allocate-nodes-spec =
+    tie.close
+    (tie.spec Inv-loop μ-loop loop-holds mul-wide16 element-copy-out-wide16 (λ c κs. search needs) mul-wide32 element-copy-out-wide32
+    (λ c κs. search needs) (λ c. let h = fits c .0 .near in omega arith) mul-order add-order mul-order-2 element-write-order reads-at-requires allocate-reads-requires
+    allocate-node-requires add-here add-m (λ c. search needs) loop-again returns)
