@@ -13,7 +13,7 @@ use Rattle.ports.specs.Ports.{portsOf, formOf, gives, givesRow}
 use Rattle.base.specs.Bytes.{byte, u16}
 use Rattle.graph.specs.Graph.{Payload, Node, Function}
 use Rattle.graph.specs.Look.{findFunction}
-use Rattle.graph.specs.Judge.{givesOf, outputsOf, outputTypes}
+use Rattle.graph.specs.Types.{givesOf, outputsOf, outputTypes}
 use Rattle.reader.specs.Layout.{kindAt, payloadAt, nodeAt, inputsAt, outputsAt, functionAt}
 
 pub input-at : (n : ℕ) (s : List ℕ) (at i : ℕ) → i < n → getElem? (inputsAt n s at) i ≡ some (byte s (at + i))

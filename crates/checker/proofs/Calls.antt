@@ -16,7 +16,8 @@ use Rattle.base.specs.Bytes.{byte, u16}
 use Rattle.graph.specs.Graph.{Payload, Node, Function}
 use Rattle.graph.specs.Look.{findFunction, found}
 use Rattle.graph.specs.Read.{references}
-use Rattle.graph.specs.Judge.{callOk, inputsOf}
+use Rattle.graph.specs.Judge.{callOk}
+use Rattle.graph.specs.Types.{inputsOf}
 use Rattle.base.proofs.Outcomes.{takes, stops}
 use Rattle.graph.proofs.Formed.{refs-length}
 use Rattle.reader.specs.Layout.{kindAt, payloadAt, nodeAt, nodeEnd, nodesAt, inputsAt, functionAt}

@@ -16,9 +16,11 @@ use Rattle.base.specs.Outcome.{Outcome, ok, fault, _>>_, each, Part}
 use Rattle.base.specs.Bytes.{byte, u16, Bytes}
 use Rattle.graph.specs.Graph.{Payload, consts, refs, calls, Node, Function}
 use Rattle.graph.specs.Look.{findFunction, found, reads, readsOf}
-use Rattle.graph.specs.Read.{version1, functions, parse}
-use Rattle.graph.specs.Sound.{FormedPayload, FormedNode, Formed}
-use Rattle.graph.specs.Judge.{fresh, callOk, refOk, refsOk, wantsOf, loopFree, judge, judgeAll, table, verdict}
+use Rattle.graph.specs.Format.{version1}
+use Rattle.graph.specs.Read.{functions, parse}
+use Rattle.graph.specs.Formed.{FormedPayload, FormedNode, Formed}
+use Rattle.graph.specs.Judge.{fresh, callOk, refOk, refsOk, loopFree, judge, judgeAll, table, verdict}
+use Rattle.graph.specs.Types.{wantsOf}
 use Rattle.base.proofs.Bools.{and-inv}
 use Rattle.base.proofs.Outcomes.{took, passed, takes, stops, goes, halts, passes, fails, is-each}
 use Rattle.graph.proofs.Formed.{function-formed}

@@ -20,8 +20,10 @@ use Rattle.base.specs.Outcome.{ok, fault, need}
 use Rattle.base.specs.Bytes.{byte, u16}
 use Rattle.graph.specs.Graph.{Function}
 use Rattle.graph.specs.Look.{findNode, findFunction, reads, readsOf}
-use Rattle.graph.specs.Read.{version1, reference, references}
-use Rattle.graph.specs.Judge.{callOk, inputsOf, refType, refOk, wantsOf, givesOf}
+use Rattle.graph.specs.Format.{version1}
+use Rattle.graph.specs.Read.{reference, references}
+use Rattle.graph.specs.Judge.{callOk, refOk}
+use Rattle.graph.specs.Types.{inputsOf, refType, wantsOf, givesOf}
 use Rattle.base.proofs.Outcomes.{takes, stops, goes, halts, needed}
 use Rattle.reader.specs.Layout.{kindAt, payloadAt, nodeAt, nodesAt, nodeCount, nodesPlace, inputsAt, outputsAt, functionAt, earlier}
 use Rattle.checker.specs.declared.PortType.{PortType}

@@ -9,10 +9,12 @@ use Rattle.ports.specs.Ports.{types}
 use Rattle.base.specs.Outcome.{Outcome, ok, fault, each}
 use Rattle.graph.specs.Graph.{Ref, Node, Output, Function}
 use Rattle.graph.specs.Look.{reads}
-use Rattle.graph.specs.Read.{version1, reference}
+use Rattle.graph.specs.Format.{version1}
+use Rattle.graph.specs.Read.{reference}
 use Rattle.graph.specs.Rules.{Gives}
 use mathlib.Core.Path.{_≡_}
-use Rattle.graph.specs.Judge.{callOk, refType, refOk, refsOk, wantsOf}
+use Rattle.graph.specs.Judge.{callOk, refOk, refsOk}
+use Rattle.graph.specs.Types.{refType, wantsOf}
 use Rattle.reader.specs.Layout.{inputsAt, functionAt, earlier}
 use Rattle.checker.specs.declared.Verdict.{Verdict}
 use Rattle.checker.specs.declared.PortType.{PortType}

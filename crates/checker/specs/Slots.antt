@@ -7,7 +7,8 @@ use lib.ListN.{length, getD, getElem?}
 use Rattle.base.specs.Outcome.{ok, Part}
 use Rattle.graph.specs.Graph.{Node, Function}
 use Rattle.graph.specs.Look.{findNode, reads}
-use Rattle.graph.specs.Read.{version1, reference, functions}
+use Rattle.graph.specs.Format.{version1}
+use Rattle.graph.specs.Read.{reference, functions}
 use Rattle.base.specs.Lists.{Is}
 use Rattle.order.specs.Indices.{slot}
 use Rattle.order.specs.Resolve.{target, Resolves}

@@ -13,7 +13,8 @@ use Rattle.base.specs.Outcome.{ok, _>>_, Part}
 use Rattle.base.specs.Bytes.{byte}
 use Rattle.graph.specs.Graph.{Function}
 use Rattle.graph.specs.Judge.{fresh, table, judgeAll}
-use Rattle.graph.specs.Read.{version1, functions, parse}
+use Rattle.graph.specs.Format.{version1}
+use Rattle.graph.specs.Read.{functions, parse}
 use Rattle.graph.specs.Sound.{AllSound}
 use Rattle.graph.proofs.Fresh.{distinct-fresh}
 use Rattle.base.proofs.Bools.{and-inv}

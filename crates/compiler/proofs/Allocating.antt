@@ -21,7 +21,8 @@ use Rattle.graph.specs.Graph.{Ref, Payload, consts, refs, calls, Node}
 use Rattle.graph.specs.Look.{reads, readsOf}
 use Rattle.graph.specs.Read.{references}
 use Rattle.graph.specs.Schedule.{schedule}
-use Rattle.graph.specs.Sound.{FormedPayload, FormedNode, AllSound}
+use Rattle.graph.specs.Formed.{FormedPayload, FormedNode}
+use Rattle.graph.specs.Sound.{AllSound}
 use Rattle.graph.specs.Sums.{sum, nodeWords, resultWordsOf}
 use Rattle.graph.proofs.Order.{ids, sound-closed, scheduled, schedule-within}
 use Rattle.base.proofs.Outcomes.{is-each}

@@ -20,8 +20,10 @@ use Rattle.ports.specs.declared.Form.the-variants.{Absent, Constant, References
 use Rattle.base.specs.Outcome.{Outcome, ok, fault, _>>=_, _>>_, need}
 use Rattle.base.specs.Bytes.{Bytes, byte, u16}
 use Rattle.graph.specs.Graph.{Payload, consts, refs, calls, Node, Function}
-use Rattle.graph.specs.Judge.{table, verdict, judgeAll, outputTypes}
-use Rattle.graph.specs.Read.{version1, parse}
+use Rattle.graph.specs.Judge.{table, verdict, judgeAll}
+use Rattle.graph.specs.Types.{outputTypes}
+use Rattle.graph.specs.Format.{version1}
+use Rattle.graph.specs.Read.{parse}
 use Rattle.graph.specs.Sound.{AllSound}
 use Rattle.base.proofs.Outcomes.{took, passed, ok-is}
 use Rattle.graph.proofs.Formed.{accepted}

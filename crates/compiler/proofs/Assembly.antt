@@ -11,7 +11,7 @@ use Rattle.base.proofs.Stands.{all-length}
 use Rattle.base.specs.Lists.{Each}
 use Rattle.ports.specs.Ports.{width, widths}
 use Rattle.graph.specs.Graph.{Function}
-use Rattle.graph.specs.Judge.{outputTypes}
+use Rattle.graph.specs.Types.{outputTypes}
 use Rattle.graph.specs.Sound.{AllSound}
 use Rattle.graph.specs.Sums.{resultWords, resultWordsOf}
 use Rattle.reader.specs.Layout.{outputCount, outputsPlace, functionAt, earlier}

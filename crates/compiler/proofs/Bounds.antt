@@ -15,7 +15,7 @@ use Rattle.base.specs.Lists.{Each, member, Is}
 use Rattle.graph.specs.Graph.{Ref, Payload, consts, refs, calls, Node, Function}
 use Rattle.graph.specs.Look.{findNode, findFunction, readsOf, reads, outputRefs}
 use Rattle.graph.specs.Schedule.{ready, schedule}
-use Rattle.graph.specs.Judge.{outputTypes, wantsOf, givesOf, givesAt, refType}
+use Rattle.graph.specs.Types.{outputTypes, wantsOf, givesOf, givesAt, refType}
 use Rattle.graph.specs.Sound.{Wired, Shaped, Sound, AllSound}
 use Rattle.graph.proofs.Loops.{In}
 use Rattle.base.proofs.Bools.{and-inv, and-both, or-left, or-right}

@@ -10,7 +10,7 @@ use lib.Dec.{eqb, ltb, leb}
 use lib.ListN.{length, getD, replicate, getElem?, length-map, List·getD-eq-default}
 use lib.Seq.{sets}
 use borrow.Author.Tests.{eqb-true, eqb-false, leb-true, leb-false, lt-ltb, le-ltb}
-use Rattle.base.specs.Limits.{nodeLimit, wordLimit}
+use Rattle.base.specs.Limits.{nodeLimit, wordLimit, noNode}
 use Rattle.base.proofs.Numbers.{lt-or-le}
 use Rattle.base.proofs.Lists.{some-is}
 use Rattle.base.specs.Lists.{Each}
@@ -38,7 +38,6 @@ use Rattle.compiler.proofs.Bounds.{Within}
 use Rattle.sums.proofs.Rows.{narrow}
 use Rattle.sums.proofs.Nodes.{call-payload, call-form}
 use Rattle.sums.proofs.Positions.{at-position, no-position}
-use Rattle.base.specs.Limits.{noNode}
 
 -- ---- lists of numbers
 

@@ -16,12 +16,14 @@ use Rattle.base.specs.Lists.{Each, member, Distinct, Is}
 use Rattle.graph.specs.Look.{readsOf, reads, outputRefs}
 use Rattle.graph.specs.Schedule.{ready, schedule}
 use Rattle.base.specs.Outcome.{ok, _>>_}
-use Rattle.graph.specs.Read.{version1, parse}
+use Rattle.graph.specs.Format.{version1}
+use Rattle.graph.specs.Read.{parse}
 use Rattle.graph.specs.Judge.{judge, judgeAll, table}
 use Rattle.base.specs.Bytes.{Bytes}
 use Rattle.graph.specs.Table.{Chosen, chosen}
 use Rattle.graph.specs.Sums.{sum}
-use Rattle.graph.specs.Sound.{Sound, AllFormed}
+use Rattle.graph.specs.Sound.{Sound}
+use Rattle.graph.specs.Formed.{AllFormed}
 use Rattle.base.proofs.Bools.{and-inv, or-inv}
 use Rattle.base.proofs.Outcomes.{took, after, ok-is}
 use Rattle.graph.proofs.Fresh.{judged-distinct}

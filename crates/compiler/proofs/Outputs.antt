@@ -10,7 +10,7 @@ use Rattle.compiler.specs.Sizes.{outputLimit}
 use Rattle.base.specs.Limits.{nodeLimit}
 use Rattle.base.specs.Lists.{Each}
 use Rattle.graph.specs.Graph.{Ref, Node, Function}
-use Rattle.graph.specs.Judge.{refType, outputTypes}
+use Rattle.graph.specs.Types.{refType, outputTypes}
 use Rattle.graph.specs.Look.{outputRefs}
 use Rattle.graph.specs.Read.{reference}
 use Rattle.graph.specs.Schedule.{schedule}

@@ -6,7 +6,7 @@ use Rattle.base.specs.Limits.{operationLimit, portWordLimit, wordLimit}
 use Rattle.base.specs.Outcome.{Outcome, ok, fault}
 use lib.ListN.{length}
 use Rattle.ports.specs.Ports.{widths}
-use Rattle.graph.specs.Judge.{outputTypes}
+use Rattle.graph.specs.Types.{outputTypes}
 use Rattle.lowering.specs.Compile.{boardListOf}
 use Rattle.bytecode.specs.Code.{encode}
 use Rattle.lowering.specs.Answers as Answers

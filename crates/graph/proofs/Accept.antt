@@ -18,9 +18,11 @@ use Rattle.base.specs.Outcome.{Outcome, ok, fault, _>>=_, _>>_, need, each}
 use Rattle.graph.specs.Graph.{Ref, Payload, consts, refs, calls, Node, Output, Function}
 use Rattle.graph.specs.Look.{findNode, findFunction, found, reads, readsOf, outputRefs}
 use Rattle.graph.specs.Loops.{Leads, loops}
-use Rattle.graph.specs.Judge.{inputsOf, wantsOf, refType, outputTypes, fresh, callOk, typeIs, refOk, refsOk, loopFree, judge, judgeAll}
+use Rattle.graph.specs.Types.{inputsOf, wantsOf, refType, outputTypes}
+use Rattle.graph.specs.Judge.{fresh, callOk, typeIs, refOk, refsOk, loopFree, judge, judgeAll}
 use Rattle.base.specs.Lists.{Is}
-use Rattle.graph.specs.Sound.{Wired, Shaped, FormedPayload, FormedNode, Formed, AllFormed, Resolved, Sound, AllSound}
+use Rattle.graph.specs.Sound.{Wired, Shaped, Resolved, Sound, AllSound}
+use Rattle.graph.specs.Formed.{FormedPayload, FormedNode, Formed, AllFormed}
 use Rattle.base.proofs.Bools.{and-inv}
 use Rattle.graph.proofs.Loops.{Among, leads-node, loops-iff}
 use Rattle.base.proofs.Outcomes.{took, after, passed, needed, each-is, is-each, takes, needs}

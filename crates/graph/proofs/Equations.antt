@@ -21,8 +21,8 @@ use Rattle.value.specs.Results.{results}
 use Rattle.value.proofs.Laws.{results-typed}
 use Rattle.graph.specs.Graph.{Ref, Payload, consts, refs, calls, Node, Function}
 use Rattle.graph.specs.Look.{findNode, findFunction, reads, outputRefs}
-use Rattle.graph.specs.Judge.{outputTypes, wantsOf, givesOf, givesAt, refType}
-use Rattle.graph.specs.Read.{version1}
+use Rattle.graph.specs.Types.{outputTypes, wantsOf, givesOf, givesAt, refType}
+use Rattle.graph.specs.Format.{version1}
 use Rattle.graph.specs.Rules.{Meets}
 use Rattle.graph.specs.Schedule.{ready, schedule}
 use Rattle.graph.specs.Sound.{Wired, Shaped, Sound, AllSound}

@@ -7,7 +7,8 @@ use lib.ListN.{length, length-reverse}
 use Rattle.base.specs.Outcome.{Outcome, ok, fault}
 use Rattle.base.specs.Bytes.{Bytes}
 use Rattle.graph.specs.Graph.{Function}
-use Rattle.graph.specs.Read.{version1, parse}
+use Rattle.graph.specs.Format.{version1}
+use Rattle.graph.specs.Read.{parse}
 use Rattle.graph.specs.Judge.{judgeAll, table, verdict}
 use Rattle.graph.specs.Checks.{Says, tableChecks}
 use Rattle.graph.specs.Rules.{Meets, Fault, of-header, of-reading, of-rules, Gives}

@@ -13,9 +13,11 @@ use Rattle.base.specs.Outcome.{Outcome, ok, fault, _>>=_, _>>_, need, each}
 use Rattle.graph.specs.Graph.{Ref, Payload, consts, refs, calls, Node, Output, Function}
 use Rattle.graph.specs.Look.{findNode, findFunction, found, reads, outputRefs}
 use Rattle.graph.specs.Loops.{Leads, loops}
-use Rattle.graph.specs.Judge.{inputsOf, wantsOf, givesOf, givesAt, refType, outputTypes, fresh, callOk, typeIs, refOk, refsOk, loopFree, judge, judgeAll}
+use Rattle.graph.specs.Types.{inputsOf, wantsOf, givesOf, givesAt, refType, outputTypes}
+use Rattle.graph.specs.Judge.{fresh, callOk, typeIs, refOk, refsOk, loopFree, judge, judgeAll}
 use Rattle.base.specs.Lists.{Is, Distinct}
-use Rattle.graph.specs.Sound.{Formed, Resolved}
+use Rattle.graph.specs.Formed.{Formed}
+use Rattle.graph.specs.Sound.{Resolved}
 use Rattle.graph.specs.Orders.{FirstOnLoop, Orders}
 use Rattle.graph.specs.Checks.{CalleeThere, CalleeWrong, NoPort, no-input, no-node, no-port, Check, check, All, First, Says, idChecks, callChecks, refChecks, nodeRefChecks, loopChecks, linkChecks, functionChecks, tableChecks}
 use Rattle.base.proofs.Lists.{some-is}

@@ -16,9 +16,12 @@ use Rattle.base.specs.Lists.{Word, Each, Is}
 use Rattle.base.specs.Outcome.{Outcome, ok, fault, _>>=_, _>>_, need, each, Part}
 use Rattle.graph.specs.Graph.{Ref, Payload, consts, refs, calls, Node, Output, Function}
 use Rattle.base.specs.Bytes.{byte, u16, u64, Bytes, bytesOf, allBytes, constants}
-use Rattle.graph.specs.Read.{Format, version1, fits, inputs, reference, references, outputs, payload, node, nodes, function, functions, marked, parse}
-use Rattle.graph.specs.Judge.{outputTypes, judgeAll, table}
-use Rattle.graph.specs.Sound.{AllWithin, FormedPayload, FormedNode, Formed, AllFormed, AllSound}
+use Rattle.graph.specs.Format.{Format, version1}
+use Rattle.graph.specs.Read.{fits, inputs, reference, references, outputs, payload, node, nodes, function, functions, marked, parse}
+use Rattle.graph.specs.Types.{outputTypes}
+use Rattle.graph.specs.Judge.{judgeAll, table}
+use Rattle.graph.specs.Formed.{AllWithin, FormedPayload, FormedNode, Formed, AllFormed}
+use Rattle.graph.specs.Sound.{AllSound}
 use Rattle.graph.specs.Written.{flat, refBytes, outputBytes, payloadBytes, nodeBytes, functionBytes, headerBytes, tableBytes, RefsAt, PayloadAt, OutputsAt, NodesAt, FunctionAt, FunctionsAt, Short, ShortRefs, ShortPayload, ShortNode, ShortIds, Written}
 use Rattle.base.proofs.Bools.{and-inv}
 use Rattle.base.proofs.Outcomes.{took, after, passed, ok-is}

@@ -19,7 +19,8 @@ use Rattle.base.specs.Outcome.{Outcome, ok, fault, _>>=_, _>>_, need, Part}
 use Rattle.base.specs.Bytes.{byte, u16, constants}
 use Rattle.graph.specs.Graph.{Payload, Node, Output, Function}
 use Rattle.graph.specs.Read as Read
-use Rattle.graph.specs.Read.{Format, reference, inRange}
+use Rattle.graph.specs.Format.{Format}
+use Rattle.graph.specs.Read.{reference, inRange}
 use Rattle.graph.specs.Checks.{check, All, First, Says}
 use Rattle.graph.specs.Reading.{headerChecks, Shape, head, input, output, node, payload, arguments, size, times, HeadRight, HeadWrong, fields, recordChecks, endChecks, next, Reading, end, stop, on, ReadingOf}
 use Rattle.base.proofs.Bools.{and-inv}

@@ -8,9 +8,9 @@ use Rattle.base.specs.Lists.{Is}
 use Rattle.base.specs.Outcome.{fault}
 use Rattle.base.specs.Bytes.{Bytes}
 use Rattle.graph.specs.Graph.{Node, Function}
-use Rattle.graph.specs.Read.{Format, version1}
+use Rattle.graph.specs.Format.{Format, version1}
 use Rattle.graph.specs.Judge.{verdict}
-use Rattle.graph.specs.Sound.{Formed}
+use Rattle.graph.specs.Formed.{Formed}
 use Rattle.graph.specs.Written.{Written}
 use Rattle.graph.specs.Orders.{FirstOnLoop, Orders}
 use Rattle.graph.specs.Checks.{All, First, loopChecks, linkChecks, functionChecks, tableChecks}

@@ -19,11 +19,13 @@ use Rattle.base.proofs.Bools.{and-inv, or-inv}
 use Rattle.graph.proofs.Accept.{loop-free-iff, among-is}
 use Rattle.base.proofs.Outcomes.{is-each}
 use Rattle.base.specs.Outcome.{Outcome, ok}
-use Rattle.graph.specs.Sound.{Wired, FormedNode, Resolved, Sound}
+use Rattle.graph.specs.Sound.{Wired, Resolved, Sound}
+use Rattle.graph.specs.Formed.{FormedNode}
 use Rattle.graph.specs.Sums.{sum}
 use Rattle.graph.specs.Orders.{Orders}
 pub use Rattle.graph.specs.Orders.{Ordered}
-use Rattle.graph.specs.Judge.{refType, givesAt, wantsOf, loopFree}
+use Rattle.graph.specs.Types.{refType, givesAt, wantsOf}
+use Rattle.graph.specs.Judge.{loopFree}
 
 abbrev pub ids : List Node → List ℕ
 ids = map (λ n. n .id)

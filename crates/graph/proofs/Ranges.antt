@@ -12,8 +12,9 @@ use Rattle.base.specs.Outcome.{ok, fault}
 use Rattle.base.specs.Bytes.{Bytes}
 use Rattle.graph.specs.Graph.{Ref, Payload, consts, refs, calls, Node, Output, Function}
 use Rattle.graph.specs.Look.{reads, readsOf, outputRefs}
-use Rattle.graph.specs.Read.{Format, version1}
-use Rattle.graph.specs.Judge.{wantsOf, outputTypes, verdict}
+use Rattle.graph.specs.Format.{Format, version1}
+use Rattle.graph.specs.Types.{wantsOf, outputTypes}
+use Rattle.graph.specs.Judge.{verdict}
 use Rattle.graph.specs.Written.{flat, refBytes, outputBytes, payloadBytes, nodeBytes, functionBytes, headerBytes, RefsAt, PayloadAt, OutputsAt, NodesAt, FunctionAt, FunctionsAt}
 use Rattle.graph.specs.Checks.{Check, First, idChecks, callChecks, refChecks, nodeRefChecks, loopChecks, linkChecks, functionChecks, tableChecks}
 use Rattle.graph.specs.Reading.{headerChecks, Shape, head, input, output, node, payload, arguments, size, recordChecks, Reading, end, stop, on}

@@ -9,7 +9,7 @@ use lib.ListN.{length}
 use Rattle.graph.specs.Graph.{Ref, Payload, consts, refs, calls, Node, Function}
 use Rattle.graph.specs.Look.{findNode, findFunction, reads, outputRefs}
 use Rattle.graph.specs.Loops.{Leads}
-use Rattle.graph.specs.Judge.{wantsOf, givesOf, refType, outputTypes}
+use Rattle.graph.specs.Types.{wantsOf, givesOf, refType, outputTypes}
 
 pub record Check : Type 1 where
   pub number : ℕ

@@ -7,7 +7,7 @@ use Rattle.value.specs.declared.Value.{Value}
 use Rattle.value.specs.Typed.{Typed}
 use Rattle.graph.specs.Graph.{Node, Function}
 use Rattle.graph.specs.Look.{reads, outputRefs}
-use Rattle.graph.specs.Judge.{outputTypes}
+use Rattle.graph.specs.Types.{outputTypes}
 use Rattle.graph.specs.Meaning.{all, Call, Env, refMeans, payloadMeans}
 
 -- a node's result on its references' meanings, or for a call the callee's outputs on the arguments' meanings

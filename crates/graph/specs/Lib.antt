@@ -1,13 +1,16 @@
 pub mod Graph
+pub mod Format
 pub mod Read
 pub mod Look
 pub mod Loops
+pub mod Types
 pub mod Judge
 pub mod Sums
 pub mod Schedule
 pub mod Table
 pub mod Meaning
 pub mod Equations
+pub mod Formed
 pub mod Sound
 pub mod Orders
 pub mod Written

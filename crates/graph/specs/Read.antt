@@ -13,16 +13,8 @@ use Rattle.base.specs.Lists.{every}
 use Rattle.base.specs.Outcome.{Outcome, ok, fault, _>>=_, _>>_, need, Part}
 use Rattle.base.specs.Bytes.{byte, u16, u64, constants}
 use Rattle.graph.specs.Graph.{Ref, Payload, consts, refs, calls, Node, Output, Function}
-
--- what a table version says: its number, the bytes of its header, its length field, and the most nodes of a function
-pub record Format : Type 0 where
-  pub version : ℕ
-  pub header : ℕ
-  pub size : List ℕ → ℕ
-  pub nodeLimit : ℕ
-
-abbrev pub version1 : Format
-version1 = record { version = 1; header = 8; size = λ s. u16 s 6; nodeLimit = 256 }
+use Rattle.graph.specs.Format.{Format}
+use Rattle.base.specs.Limits.{portLimit, functionLimit}
 
 -- a record of n bytes fits, or fault 5 at its first byte
 abbrev pub fits : List ℕ → ℕ → ℕ → Outcome (Unit {0})
@@ -73,7 +65,7 @@ payload Call k s at =
     let n = byte s (at + 2) in
     do
       fits s at 3
-      need (leb n 8) 6 at
+      need (leb n portLimit) 6 at
       fits s (at + 3) (3 * n)
       ok (record { it = calls (u16 s at) (references n s (at + 3)); next = at + 3 + 3 * n })
 
@@ -97,7 +89,7 @@ nodes (suc n) s at = do
 
 -- the fields of a function's head: id, input count, output count, node count
 abbrev pub inRange : ℕ → ℕ → ℕ → ℕ → ℕ → Bool
-inRange limit id nin nout count = leb 1 id && leb nin 8 && (leb 1 nout && leb nout 8) && leb count limit
+inRange limit id nin nout count = leb 1 id && leb nin portLimit && (leb 1 nout && leb nout portLimit) && leb count limit
 
 abbrev pub function : ℕ → List ℕ → ℕ → Outcome (Part Function)
 function limit s at =
@@ -130,7 +122,7 @@ parse format s = do
   need (marked s) 2 0
   need (eqb (u16 s 3) (format .version)) 3 3
   need (eqb (format .size s) (length s)) 4 6
-  need (leb 1 (byte s 5) && leb (byte s 5) 16) 6 5
+  need (leb 1 (byte s 5) && leb (byte s 5) functionLimit) 6 5
   fs ← functions (format .nodeLimit) (byte s 5) s (format .header)
   need (eqb (fs .next) (length s)) 8 (fs .next)
   ok (fs .it)

@@ -14,8 +14,9 @@ use Rattle.base.specs.Lists.{every, Is}
 use Rattle.value.specs.Typed.{TypeCode}
 use Rattle.base.specs.Outcome.{Outcome, fault}
 use Rattle.base.specs.Bytes.{byte, u16, constants}
-use Rattle.graph.specs.Read.{Format}
+use Rattle.graph.specs.Format.{Format}
 use Rattle.graph.specs.Checks.{Check, check, All, First, Says}
+use Rattle.base.specs.Limits.{functionLimit, portLimit}
 
 abbrev pub NoTypeCode : ℕ → Type 0
 NoTypeCode t = (t ≡ 0) ⊎ (3 < t)
@@ -27,7 +28,7 @@ headerChecks format s =
     ∷ check 2 0 ((byte s 0 ≡ 0x49) × (byte s 1 ≡ 0x46) × (byte s 2 ≡ 0x47)) ((byte s 0 ≢ 0x49) ⊎ ((byte s 1 ≢ 0x46) ⊎ (byte s 2 ≢ 0x47)))
     ∷ check 3 3 (u16 s 3 ≡ format .version) (u16 s 3 ≢ format .version)
     ∷ check 4 6 (format .size s ≡ length s) (format .size s ≢ length s)
-    ∷ check 6 5 ((1 ≤ byte s 5) × (byte s 5 ≤ 16)) ((byte s 5 ≡ 0) ⊎ (16 < byte s 5))
+    ∷ check 6 5 ((1 ≤ byte s 5) × (byte s 5 ≤ functionLimit)) ((byte s 5 ≡ 0) ⊎ (functionLimit < byte s 5))
     ∷ []
 
 -- ---- records
@@ -59,11 +60,11 @@ times (suc n) h hs = h ∷ times n h hs
 
 -- id, input count, output count and node count are in their ranges
 abbrev pub HeadRight : ℕ → ℕ → ℕ → ℕ → ℕ → Type 0
-HeadRight limit id nin nout count = (1 ≤ id) × (nin ≤ 8) × (1 ≤ nout) × (nout ≤ 8) × (count ≤ limit)
+HeadRight limit id nin nout count = (1 ≤ id) × (nin ≤ portLimit) × (1 ≤ nout) × (nout ≤ portLimit) × (count ≤ limit)
 
 -- or one of them is not
 abbrev pub HeadWrong : ℕ → ℕ → ℕ → ℕ → ℕ → Type 0
-HeadWrong limit id nin nout count = (id ≡ 0) ⊎ ((8 < nin) ⊎ ((nout ≡ 0) ⊎ ((8 < nout) ⊎ (limit < count))))
+HeadWrong limit id nin nout count = (id ≡ 0) ⊎ ((portLimit < nin) ⊎ ((nout ≡ 0) ⊎ ((portLimit < nout) ⊎ (limit < count))))
 
 -- ---- the reading
 
@@ -86,7 +87,7 @@ module _ (limit : ℕ) (s : List ℕ) where
       let ws = constants (constantWords k) s at in
       check 7 at (every constantWord ws ≡ true) ((w : ℕ) × Is w ws × (constantWord w ≡ false)) ∷ []
   fields (payload References k) at = []
-  fields (payload Call k) at = check 6 at (byte s (at + 2) ≤ 8) (8 < byte s (at + 2)) ∷ []
+  fields (payload Call k) at = check 6 at (byte s (at + 2) ≤ portLimit) (portLimit < byte s (at + 2)) ∷ []
   fields (arguments n) at = []
 
   -- a record must fit before its fields are judged

@@ -5,7 +5,7 @@ use mathlib.Core.List.{List, [], _∷_, _++_, reverse}
 use lib.ListN.{length}
 use Rattle.base.specs.Outcome.{Outcome, ok, fault}
 use Rattle.graph.specs.Graph.{Node, Function}
-use Rattle.graph.specs.Read.{Format}
+use Rattle.graph.specs.Format.{Format}
 use Rattle.graph.specs.Written.{Written}
 use Rattle.graph.specs.Orders.{FirstOnLoop}
 use Rattle.graph.specs.Checks.{All, First, linkChecks, tableChecks}

@@ -15,28 +15,10 @@ use Rattle.value.specs.Typed.{TypeCode}
 use Rattle.graph.specs.Graph.{Ref, Payload, consts, refs, calls, Node, Output, Function}
 use Rattle.graph.specs.Look.{findNode, findFunction, reads, outputRefs}
 use Rattle.graph.specs.Loops.{Leads}
-use Rattle.graph.specs.Judge.{wantsOf, refType, outputTypes}
+use Rattle.graph.specs.Types.{wantsOf, refType, outputTypes}
+use Rattle.graph.specs.Formed.{Formed}
 
 -- ---- what the reading ensures
-
-abbrev pub FormedPayload : Kind → Payload → Type 0
-FormedPayload k (consts ws) = (formOf k ≡ Constant) × (length ws ≡ constantWords k) × (every constantWord ws ≡ true) × Each Word ws
-FormedPayload k (refs rs) = (formOf k ≡ References) × (length rs ≡ arity k)
-FormedPayload k (calls c rs) = (formOf k ≡ Call) × (length rs ≤ 8)
-
-pub record FormedNode (n : Node) : Type 0 where
-  pub id : 1 ≤ n .id
-  pub legal : legal (kindOf (n .kind)) (n .type) ≡ true
-  pub payload : FormedPayload (kindOf (n .kind)) (n .payload)
-
-pub record Formed (f : Function) : Type 0 where
-  pub id : 1 ≤ f .id
-  pub inputs : length (f .inputs) ≤ 8
-  pub inputTypes : Each TypeCode (f .inputs)
-  pub some-output : 1 ≤ length (f .outputs)
-  pub outputs : length (f .outputs) ≤ 8
-  pub outputTypes : Each TypeCode (outputTypes (f .outputs))
-  pub nodes : Each FormedNode (f .nodes)
 
 -- ---- what the checks ensure
 
@@ -70,10 +52,3 @@ pub record Sound (early : List Function) (f : Function) : Type 0 where
 abbrev pub AllSound : List Function → Type 0
 AllSound [] = Unit {0}
 AllSound (f ∷ early) = Sound early f × AllSound early
-
-abbrev pub AllFormed : List Function → Type 0
-AllFormed = Each Formed
-
--- no function has more nodes than the limit
-abbrev pub AllWithin : ℕ → List Function → Type 0
-AllWithin limit = Each (λ f. length (f .nodes) ≤ limit)

@@ -6,8 +6,9 @@ use lib.ListN.{length}
 use Rattle.base.specs.Lists.{Each}
 use Rattle.base.specs.Bytes.{bytesOf, allBytes}
 use Rattle.graph.specs.Graph.{Ref, Payload, consts, refs, calls, Node, Output, Function}
-use Rattle.graph.specs.Read.{Format}
-use Rattle.graph.specs.Sound.{Formed, AllFormed, AllWithin}
+use Rattle.graph.specs.Format.{Format}
+use Rattle.graph.specs.Formed.{Formed, AllFormed, AllWithin}
+use Rattle.base.specs.Limits.{functionLimit}
 
 -- ---- the bytes
 
@@ -106,7 +107,7 @@ pub record Written (format : Format) (s : List ℕ) (fs : List Function) : Type 
   pub bytes : s ≡ tableBytes format fs
   pub size : length s < 256 ^ (format .header - 6)
   pub some-function : 1 ≤ length fs
-  pub count : length fs ≤ 16
+  pub count : length fs ≤ functionLimit
   -- ranges of counts, ids and type bytes, kinds and their payloads, and finite constants
   pub formed : AllFormed fs
   pub nodes : AllWithin (format .nodeLimit) fs

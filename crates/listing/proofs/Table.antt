@@ -16,7 +16,8 @@ use Rattle.sums.proofs.Measuring.{leb-cap}
 use Rattle.base.specs.Outcome.{Outcome, ok, fault, _>>=_}
 use Rattle.base.specs.Bytes.{byte, u16}
 use Rattle.graph.specs.Graph.{Node, Output, Function}
-use Rattle.graph.specs.Read.{version1, parse}
+use Rattle.graph.specs.Format.{version1}
+use Rattle.graph.specs.Read.{parse}
 use Rattle.graph.specs.Judge.{table, judgeAll, verdict}
 use Rattle.graph.specs.Sums.{functionOperations, operationsOf, functionWords}
 use Rattle.base.proofs.Outcomes.{took, after, passed, ok-is}

@@ -17,9 +17,10 @@ use Rattle.base.specs.Lists.{span, Each}
 use Rattle.value.specs.Typed.{TypeCode, Typed}
 use Rattle.value.proofs.Laws.{values-typed, type-cases}
 use Rattle.graph.specs.Graph.{Ref, Payload, consts, refs, calls, Node, Output, Function}
-use Rattle.graph.specs.Judge.{outputTypes}
+use Rattle.graph.specs.Types.{outputTypes}
 use Rattle.graph.specs.Sums.{sum, nodeOperations, functionOperations, operationsOf, nodeWords, resultWords, resultWordsOf, functionWords}
-use Rattle.graph.specs.Sound.{Formed, Sound, AllSound}
+use Rattle.graph.specs.Formed.{Formed}
+use Rattle.graph.specs.Sound.{Sound, AllSound}
 use Rattle.bytecode.specs.Run.{Instruction, BoardList, places, spans}
 use Rattle.graph.specs.Schedule.{schedule}
 use Rattle.lowering.specs.Compile.{Written, address, Inlined, Inline, inlineNode, Body, also, inlineNodes, inlineFunction, inlined, boardListOf}

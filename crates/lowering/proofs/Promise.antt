@@ -14,7 +14,7 @@ use Rattle.base.specs.Lists.{wordAt, span, wordsAt}
 use Rattle.value.specs.Typed.{Typed}
 use Rattle.value.proofs.Laws.{of-width, typed-widths}
 use Rattle.graph.specs.Graph.{Function}
-use Rattle.graph.specs.Judge.{outputTypes}
+use Rattle.graph.specs.Types.{outputTypes}
 use Rattle.graph.specs.Sound.{AllSound}
 use Rattle.graph.specs.Meaning.{functionMeans, meaningOf}
 use Rattle.bytecode.specs.Run.{run, places, spans}

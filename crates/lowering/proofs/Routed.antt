@@ -18,7 +18,7 @@ use Rattle.base.specs.Lists.{span, Each}
 use Rattle.value.specs.Typed.{Typed}
 use Rattle.value.proofs.Laws.{typed-widths}
 use Rattle.graph.specs.Graph.{Function}
-use Rattle.graph.specs.Judge.{outputTypes}
+use Rattle.graph.specs.Types.{outputTypes}
 use Rattle.graph.specs.Sums.{functionWords}
 use Rattle.graph.specs.Sound.{AllSound}
 use Rattle.graph.specs.Meaning.{functionMeans, meaningOf}

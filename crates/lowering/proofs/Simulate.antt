@@ -22,8 +22,9 @@ use Rattle.value.specs.Results.{results}
 use Rattle.value.proofs.Laws.{of-width, typed-widths, results-typed}
 use Rattle.graph.specs.Graph.{Ref, Payload, consts, refs, calls, Node, Output, Function}
 use Rattle.graph.specs.Look.{findNode, findFunction, reads, readsOf, outputRefs}
-use Rattle.graph.specs.Judge.{outputTypes, outputsOf, inputsOf, wantsOf, givesOf, givesAt, refType}
-use Rattle.graph.specs.Sound.{Wired, Shaped, FormedPayload, FormedNode, Sound, AllSound}
+use Rattle.graph.specs.Types.{outputTypes, outputsOf, inputsOf, wantsOf, givesOf, givesAt, refType}
+use Rattle.graph.specs.Sound.{Wired, Shaped, Sound, AllSound}
+use Rattle.graph.specs.Formed.{FormedPayload, FormedNode}
 use Rattle.base.proofs.Outcomes.{is-each}
 use Rattle.graph.specs.Meaning.{bind, all, Call, Env, refMeans, payloadMeans, nodeStep, nodeMeans, functionMeans, meaningOf}
 use Rattle.graph.proofs.Means.{node-mono}

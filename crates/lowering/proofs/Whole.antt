@@ -17,7 +17,8 @@ use Rattle.base.specs.Lists.{wordAt, every}
 use Rattle.value.proofs.Laws.{values-typed, words-of-values, typed-widths, all-finite}
 use Rattle.base.specs.Outcome.{Outcome, ok, fault, _>>=_, _>>_, need, orElse}
 use Rattle.graph.specs.Graph.{Function}
-use Rattle.graph.specs.Judge.{outputTypes, table}
+use Rattle.graph.specs.Types.{outputTypes}
+use Rattle.graph.specs.Judge.{table}
 use Rattle.graph.specs.Sums.{functionOperations, operationsOf, functionWords}
 use Rattle.graph.specs.Sound.{AllSound}
 use Rattle.graph.specs.Meaning.{meaningOf}

@@ -18,7 +18,7 @@ use Rattle.base.proofs.Lists.{some-is}
 use Rattle.base.proofs.Outcomes.{ok-is}
 use Rattle.value.specs.Results.{results}
 use Rattle.graph.specs.Graph.{Function}
-use Rattle.graph.specs.Read.{version1}
+use Rattle.graph.specs.Format.{version1}
 use Rattle.graph.specs.Loops.{Leads, via, loops}
 use Rattle.graph.specs.Rules.{Meets}
 use Rattle.graph.specs.Sums.{operationsOf, resultWordsOf}

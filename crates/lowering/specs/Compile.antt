@@ -8,7 +8,7 @@ use Rattle.ports.specs.Kinds.{kindOf}
 use Rattle.ports.specs.Ports.{width, widths, gives}
 use Rattle.base.specs.Lists.{span}
 use Rattle.graph.specs.Graph.{Ref, Payload, consts, refs, calls, Node, Output, Function}
-use Rattle.graph.specs.Judge.{outputTypes}
+use Rattle.graph.specs.Types.{outputTypes}
 use Rattle.graph.specs.Look.{outputRefs}
 use Rattle.bytecode.specs.Run.{Instruction, BoardList, places, spans}
 use Rattle.graph.specs.Schedule.{schedule}

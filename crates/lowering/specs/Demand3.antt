@@ -11,9 +11,9 @@ use Rattle.base.specs.Bytes.{Bytes}
 use Rattle.base.specs.Limits.{operationLimit, wordLimit}
 use Rattle.value.specs.Typed.{Finite}
 use Rattle.graph.specs.Graph.{Function}
-use Rattle.graph.specs.Read.{version1}
+use Rattle.graph.specs.Format.{version1}
 use Rattle.graph.specs.Rules.{Meets}
-use Rattle.graph.specs.Judge.{outputTypes}
+use Rattle.graph.specs.Types.{outputTypes}
 use Rattle.graph.specs.Sums.{functionOperations, operationsOf, functionWords}
 use Rattle.graph.specs.Meaning.{graphMeans}
 use Rattle.graph.specs.Table.{Chosen, chosen}

@@ -15,7 +15,7 @@ use Rattle.value.specs.Values.{argumentWord}
 use Rattle.base.specs.Outcome.{Outcome, ok, fault, _>>=_}
 use Rattle.base.specs.Bytes.{Bytes}
 use Rattle.graph.specs.Graph.{Function}
-use Rattle.graph.specs.Judge.{outputTypes}
+use Rattle.graph.specs.Types.{outputTypes}
 use Rattle.graph.specs.Sums.{functionWords}
 use Rattle.graph.specs.Table.{Chosen}
 use Rattle.base.proofs.Outcomes.{takes, stops, passes, fails}

@@ -17,7 +17,8 @@ use Rattle.base.specs.Outcome.{Outcome, ok, fault, _>>=_, _>>_, need, orElse}
 use Rattle.base.proofs.Outcomes.{took, passed, stops}
 use Rattle.value.specs.Values.{argumentWord}
 use Rattle.graph.specs.Graph.{Function}
-use Rattle.graph.specs.Judge.{table, verdict, outputTypes}
+use Rattle.graph.specs.Judge.{table, verdict}
+use Rattle.graph.specs.Types.{outputTypes}
 use Rattle.graph.specs.Sums.{functionOperations, operationsOf, functionWords}
 use Rattle.graph.specs.Table.{Chosen, chosen}
 use Rattle.graph.proofs.Ranges.{fault-bounds, count-bounds}

@@ -13,7 +13,8 @@ use Rattle.base.specs.Outcome.{Outcome, ok, fault, _>>=_, _>>_, need, Part}
 use Rattle.graph.specs.Graph as Graph
 use Rattle.graph.specs.Graph.{Output, Function}
 use Rattle.base.specs.Bytes.{byte, u16}
-use Rattle.graph.specs.Read.{version1, reference, inputs, outputs, node, nodes, inRange, function, functions, marked, parse}
+use Rattle.graph.specs.Format.{version1}
+use Rattle.graph.specs.Read.{reference, inputs, outputs, node, nodes, inRange, function, functions, marked, parse}
 use Rattle.base.proofs.Outcomes.{takes, stops, passes, fails}
 use Rattle.reader.specs.Layout.{outputsPlace, nodesPlace}
 use Rattle.reader.specs.Records.{seen, next, behind, nodeOf, nodeRead}

@@ -20,7 +20,8 @@ use Rattle.base.specs.Outcome.{Outcome, ok, fault, Part}
 use Rattle.base.specs.Bytes.{byte, u16}
 use Rattle.graph.specs.Graph.{Payload, Node, Output, Function}
 use Rattle.graph.specs.Look.{findNode, findFunction}
-use Rattle.graph.specs.Read.{version1, inRange, inputs, outputs, payload, node, nodes, function, functions, parse}
+use Rattle.graph.specs.Format.{version1}
+use Rattle.graph.specs.Read.{inRange, inputs, outputs, payload, node, nodes, function, functions, parse}
 use Rattle.base.proofs.Bools.{and-inv}
 use Rattle.base.proofs.Outcomes.{took, passed}
 use Rattle.reader.specs.Layout.{kindAt, payloadEnd, nodeAt, nodeEnd, nodesAt, nodePlace, inputCount, outputCount, nodeCount, outputsPlace, nodesPlace, functionAt, functionEnd, functionPlace, earlier}

@@ -10,7 +10,8 @@ use Rattle.ports.specs.Ports.{arity, constantWords, formOf}
 use Rattle.base.specs.Outcome.{Outcome, ok, fault, Part}
 use Rattle.base.specs.Bytes.{byte, u16}
 use Rattle.graph.specs.Graph.{Payload, consts, refs, calls, Node, Output, Function}
-use Rattle.graph.specs.Read.{Format, version1, inputs, outputs, payload, node, nodes, function, functions, parse}
+use Rattle.graph.specs.Format.{Format, version1}
+use Rattle.graph.specs.Read.{inputs, outputs, payload, node, nodes, function, functions, parse}
 use Rattle.graph.specs.Judge.{table, judgeAll}
 use Rattle.base.proofs.Outcomes.{took, after, passed, ok-is}
 use Rattle.reader.specs.Layout.{kindAt, payloadAt, payloadEnd, nodeAt, nodeEnd, nodesAt, nodePlace, inputsAt, outputsAt, functionAt, functionEnd, functionsAt, functionPlace, functionOf, earlier, nodesPlace, outputsPlace}

@@ -7,7 +7,8 @@ use lib.Dec.{eqb}
 use lib.ListN.{length, getD}
 use Rattle.base.specs.Outcome.{Outcome, ok, Part}
 use Rattle.graph.specs.Graph.{Node, Function}
-use Rattle.graph.specs.Read.{version1, node, nodes, function}
+use Rattle.graph.specs.Format.{version1}
+use Rattle.graph.specs.Read.{node, nodes, function}
 use Rattle.reader.specs.Layout.{functionPlace}
 use Rattle.reader.specs.declared.Found.{Found}
 use Rattle.reader.specs.declared.Found.the-variants.{At, Nothing}

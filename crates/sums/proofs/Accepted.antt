@@ -11,7 +11,8 @@ use Rattle.base.specs.Limits.{functionLimit, nodeLimit, portLimit}
 use Rattle.base.specs.Outcome.{ok, Part}
 use Rattle.base.specs.Bytes.{byte, u16, Bytes}
 use Rattle.graph.specs.Graph.{Function}
-use Rattle.graph.specs.Read.{version1, functions, parse}
+use Rattle.graph.specs.Format.{version1}
+use Rattle.graph.specs.Read.{functions, parse}
 use Rattle.graph.specs.Judge.{table, verdict}
 use Rattle.graph.specs.Sound.{AllSound}
 use Rattle.base.proofs.Bools.{and-inv}

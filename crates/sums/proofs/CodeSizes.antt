@@ -13,11 +13,12 @@ use Rattle.ports.specs.Kinds.{kindOf}
 use Rattle.ports.specs.Ports.{widths, takes, arity, constantWords}
 use Rattle.ports.proofs.Laws.{length-takes}
 use Rattle.graph.specs.Graph.{Ref, Payload, consts, refs, calls, Node, Function}
-use Rattle.graph.specs.Judge.{outputTypes}
+use Rattle.graph.specs.Types.{outputTypes}
 use Rattle.graph.specs.Schedule.{schedule}
 use Rattle.graph.specs.Sums.{sum, nodeOperations, functionOperations, operationsOf}
 use Rattle.base.specs.Lists.{Is}
-use Rattle.graph.specs.Sound.{FormedPayload, FormedNode, Shaped, Sound, AllSound}
+use Rattle.graph.specs.Formed.{FormedPayload, FormedNode}
+use Rattle.graph.specs.Sound.{Shaped, Sound, AllSound}
 use Rattle.base.proofs.Outcomes.{is-each}
 use Rattle.graph.proofs.Order.{scheduled, schedule-within}
 use Rattle.bytecode.specs.Run.{Instruction, places}

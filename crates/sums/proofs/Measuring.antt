@@ -10,7 +10,7 @@ use borrow.Author.Tests.{leb-true, leb-false, le-leb, lt-leb}
 use Rattle.base.specs.Limits.{operationLimit, withinLimits, wordLimit}
 use Rattle.ports.specs.Ports.{widths}
 use Rattle.graph.specs.Graph.{Function}
-use Rattle.graph.specs.Judge.{outputTypes}
+use Rattle.graph.specs.Types.{outputTypes}
 use Rattle.graph.specs.Sums.{functionOperations, operationsOf, functionWords, resultWords, resultWordsOf}
 use Rattle.graph.specs.Sound.{AllSound}
 use Rattle.lowering.specs.Compile.{boardListOf}

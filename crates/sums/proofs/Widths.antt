@@ -7,7 +7,7 @@ use native.Mathlib.Omega.{arith}
 use lib.Dec.{eqb}
 use Rattle.ports.specs.Ports.{width, widths}
 use Rattle.base.specs.Bytes.{byte}
-use Rattle.graph.specs.Judge.{outputTypes}
+use Rattle.graph.specs.Types.{outputTypes}
 use Rattle.reader.specs.Layout.{inputsAt, outputsAt, inputCount, outputCount, outputsPlace, functionAt, functionPlace, functionOf}
 use Rattle.sums.specs.Answers.{typesBy}
 

@@ -9,7 +9,8 @@ use Rattle.ports.specs.Ports.{widths}
 use Rattle.base.specs.Bytes.{byte}
 use Rattle.graph.specs.Graph.{Function}
 use Rattle.base.specs.Outcome.{Outcome, ok, fault, _>>=_, orElse}
-use Rattle.graph.specs.Judge.{outputTypes, table, verdict}
+use Rattle.graph.specs.Types.{outputTypes}
+use Rattle.graph.specs.Judge.{table, verdict}
 use Rattle.graph.specs.Sums.{functionOperations, operationsOf, functionWords}
 use Rattle.graph.specs.Table.{Chosen, chosen}
 use Rattle.lowering.specs.Answers.{codeOf}

@@ -9,7 +9,7 @@ use Rattle.ports.specs.declared.Form.{Form}
 use Rattle.ports.specs.Ports.{formOf}
 use Rattle.base.specs.Bytes.{byte, u16}
 use Rattle.graph.specs.Look.{findFunction}
-use Rattle.graph.specs.Read.{version1}
+use Rattle.graph.specs.Format.{version1}
 use Rattle.reader.specs.Layout.{kindAt, functionAt, functionPlace, earlier}
 use Rattle.reader.specs.Find.{ReadsFunction, functionFound}
 use Rattle.reader.proofs.Passed.{head-fits, callee-fits, function-fits, found-function, no-function, form-is}

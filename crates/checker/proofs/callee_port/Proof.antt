@@ -5,8 +5,8 @@ use mathlib.Core.Option.{Option, some}
 use lib.ListN.{getElem?}
 use Rattle.graph.specs.Graph.{Function}
 use Rattle.graph.specs.Look.{findFunction}
-use Rattle.graph.specs.Read.{version1}
-use Rattle.graph.specs.Judge.{outputsOf}
+use Rattle.graph.specs.Format.{version1}
+use Rattle.graph.specs.Types.{outputsOf}
 use Rattle.reader.specs.Layout.{functionAt, functionPlace, earlier}
 use Rattle.reader.specs.Find.{ReadsFunction}
 use Rattle.reader.proofs.Passed.{found-function, no-function}

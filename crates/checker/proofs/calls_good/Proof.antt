@@ -6,7 +6,7 @@ use native.Mathlib.Omega.{arith}
 use Rattle.base.specs.Outcome.{Outcome, each}
 use Rattle.graph.specs.Graph.{Node}
 use Rattle.graph.specs.Judge.{callOk}
-use Rattle.graph.specs.Read.{version1}
+use Rattle.graph.specs.Format.{version1}
 use Rattle.reader.specs.Layout.{nodeAt, nodesAt, nodeEnd, nodePlace, earlier}
 use Rattle.reader.specs.Find.{ReadsNode}
 use Rattle.reader.specs.Records.{seen}

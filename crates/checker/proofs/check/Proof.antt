@@ -4,7 +4,8 @@ use mathlib.Core.Path.{_≡_, refl, ap, sym, _∙_, subst}
 use mathlib.Core.List.{List, []}
 use native.Mathlib.Omega.{arith}
 use Rattle.base.specs.Bytes.{byte, Bytes}
-use Rattle.graph.specs.Read.{version1, parse}
+use Rattle.graph.specs.Format.{version1}
+use Rattle.graph.specs.Read.{parse}
 use Rattle.reader.specs.declared.Seen.{Seen}
 use Rattle.graph.specs.Judge.{judgeAll, verdict}
 use Rattle.graph.proofs.Exactly.{verdict-iff}

@@ -5,7 +5,7 @@ use mathlib.Core.List.{List, []}
 use native.Mathlib.Omega.{arith}
 use lib.ListN.{length, length-set, length-replicate}
 use Rattle.graph.specs.Graph.{Function}
-use Rattle.graph.specs.Read.{version1}
+use Rattle.graph.specs.Format.{version1}
 use Rattle.graph.specs.Judge.{judge, judgeAll}
 use Rattle.reader.specs.Layout.{functionAt, functionEnd, functionsAt, functionPlace, earlier}
 use Rattle.reader.specs.Find.{ReadsFunction, Started}

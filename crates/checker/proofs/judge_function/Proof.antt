@@ -8,7 +8,7 @@ use Rattle.base.specs.Outcome.{ok, each}
 use Rattle.base.specs.Bytes.{byte, u16, Bytes}
 use Rattle.graph.specs.Graph.{Node, Output}
 use Rattle.graph.specs.Look.{findFunction}
-use Rattle.graph.specs.Read.{version1}
+use Rattle.graph.specs.Format.{version1}
 use Rattle.graph.specs.Judge.{fresh, callOk}
 use Rattle.reader.specs.Layout.{nodesAt, nodeCount, nodesPlace, outputsAt, outputsPlace, functionAt, earlier}
 use Rattle.reader.specs.Find.{ReadsNodes, functionFound}

@@ -10,7 +10,8 @@ use Rattle.ports.specs.Ports.{formOf, own, types}
 use Rattle.base.specs.Outcome.{ok}
 use Rattle.base.specs.Bytes.{byte, u16}
 use Rattle.graph.specs.Look.{findFunction, reads}
-use Rattle.graph.specs.Read.{version1, references}
+use Rattle.graph.specs.Format.{version1}
+use Rattle.graph.specs.Read.{references}
 use Rattle.graph.specs.Judge.{callOk}
 use Rattle.reader.specs.declared.Seen.{Seen}
 use Rattle.reader.specs.Layout.{kindAt, nodeAt, nodeEnd, nodePlace, inputsAt, functionAt, functionPlace, earlier}

@@ -8,8 +8,8 @@ use Rattle.ports.specs.declared.Form.{Form}
 use Rattle.ports.specs.Ports.{formOf}
 use Rattle.base.specs.Bytes.{u16}
 use Rattle.graph.specs.Look.{findFunction}
-use Rattle.graph.specs.Read.{version1}
-use Rattle.graph.specs.Judge.{outputsOf}
+use Rattle.graph.specs.Format.{version1}
+use Rattle.graph.specs.Types.{outputsOf}
 use Rattle.reader.specs.Layout.{kindAt, earlier}
 use Rattle.reader.proofs.Passed.{head-fits, callee-fits, form-is}
 use Rattle.checker.specs.Answers.{portOf}

@@ -6,7 +6,7 @@ use native.Mathlib.Omega.{arith}
 use Rattle.base.specs.Outcome.{Outcome, ok, each}
 use Rattle.graph.specs.Graph.{Node}
 use Rattle.graph.specs.Judge.{callOk}
-use Rattle.graph.specs.Read.{version1}
+use Rattle.graph.specs.Format.{version1}
 use Rattle.reader.specs.Layout.{nodeAt, nodesAt, nodeEnd, nodePlace, nodesPlace, nodeCount, functionAt, earlier}
 use Rattle.reader.specs.Records.{seen}
 use Rattle.reader.proofs.Passed.{place-next}

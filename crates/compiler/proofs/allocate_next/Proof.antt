@@ -5,7 +5,6 @@ use native.Mathlib.Omega.{arith}
 use Rattle.base.specs.Limits.{referenceLimit}
 use Rattle.sums.specs.Capped.{wordCap, wordsAt}
 use Rattle.compiler.specs.Locating.{readCount}
-use Rattle.compiler.specs.Emit.{}
 use Rattle.compiler.proofs.Tables.{room-here, passed-over, one-more}
 use Rattle.compiler.proofs.allocate_next.Statement.{statement}
 use Rattle.compiler.proofs.allocate_next.Tie as tie

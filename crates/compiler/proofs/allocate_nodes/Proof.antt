@@ -11,7 +11,6 @@ use Rattle.reader.specs.Layout.{nodeAt, nodesPlace, nodeCount}
 use Rattle.order.specs.Indices.{indexOrder}
 use Rattle.sums.specs.Position.{placeOf, NodeFit}
 use Rattle.sums.specs.Capped.{addsWords}
-use Rattle.compiler.specs.Emit.{}
 use Rattle.compiler.specs.Locating.{Accepted, Slots, Places}
 use Rattle.compiler.proofs.Accepting.{few, fit-at}
 use Rattle.compiler.proofs.Allocating.{State, start, index-low, node-fits, advance, finished}

@@ -6,7 +6,7 @@ use lib.ListN.{length, length-replicate}
 use Rattle.base.specs.Limits.{operationLimit, wordLimit}
 use Rattle.ports.specs.Ports.{widths}
 use Rattle.base.specs.Bytes.{byte}
-use Rattle.graph.specs.Judge.{outputTypes}
+use Rattle.graph.specs.Types.{outputTypes}
 use Rattle.reader.specs.Layout.{inputCount, outputCount}
 use Rattle.compiler.specs.declared.Compiled.{Compiled}
 use Rattle.sums.specs.Position.{placeOf, functionIn, positionOf, Starts}

@@ -3,7 +3,7 @@ use Prim.Native.Nat.{ℕ, _+_, _-_, _≤_, _<_}
 use mathlib.Core.Path.{_≡_, refl, ap, sym, _∙_, subst}
 use native.Mathlib.Omega.{arith}
 use lib.ListN.{length, getD}
-use Rattle.graph.specs.Read.{version1}
+use Rattle.graph.specs.Format.{version1}
 use Rattle.reader.specs.Layout.{functionPlace, earlier}
 use Rattle.reader.specs.Find.{functionFound}
 use Rattle.reader.proofs.Passed.{function-fits, function-hit, function-miss}

@@ -6,7 +6,8 @@ use native.Mathlib.Omega.{arith}
 use lib.ListN.{length}
 use borrow.Author.Tests.{not-true, not-false}
 use Rattle.base.specs.Bytes.{byte, u16}
-use Rattle.graph.specs.Read.{version1, inRange, inputs, outputs, nodes}
+use Rattle.graph.specs.Format.{version1}
+use Rattle.graph.specs.Read.{inRange, inputs, outputs, nodes}
 use Rattle.reader.specs.Records.{next, behind}
 use Rattle.reader.specs.declared.Next.{Next}
 use Rattle.reader.proofs.Extents.{ends, short}

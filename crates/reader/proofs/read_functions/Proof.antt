@@ -2,7 +2,8 @@ use borrow.Author.Needs.{needs}
 use Prim.Native.Nat.{_≤_}
 use mathlib.Core.Path.{_≡_, refl, sym, _∙_}
 use native.Mathlib.Omega.{arith}
-use Rattle.graph.specs.Read.{version1, functions}
+use Rattle.graph.specs.Format.{version1}
+use Rattle.graph.specs.Read.{functions}
 use Rattle.reader.specs.Records.{next}
 use Rattle.reader.proofs.Functions.{functions-on, functions-fault}
 use Rattle.reader.proofs.read_functions.Statement.{statement}
