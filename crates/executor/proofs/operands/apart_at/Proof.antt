@@ -19,4 +19,5 @@ returns c =
     c .load-apart .ensures ∙ ap (vecAt (now (b .before .args .work))) (c .before .u16-at .ensures .0)
 
 pub apart-at-spec : {M : Type 1} → statement M
-apart-at-spec = tie.close (tie.spec (λ c κs. search needs) load-apart-requires returns)
+apart-at-spec = tie.close (tie.spec
+    (λ c κs. search needs) load-apart-requires returns)

@@ -7,4 +7,5 @@ returns : tie.Need-returns
 returns c = rw (c .float-of .ensures, c .before .u64-at .ensures)
 
 pub constant-at-spec : {M : Type 1} → statement M
-constant-at-spec = tie.close (tie.spec (λ c κs. search needs) (λ c κs. search needs) returns)
+constant-at-spec = tie.close (tie.spec
+    (λ c κs. search needs) (λ c κs. search needs) returns)

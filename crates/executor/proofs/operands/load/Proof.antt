@@ -8,5 +8,5 @@ pub load-spec : {M : Type 1} → statement M
 load-spec =
     tie.close
     (tie.spec
-    (λ c. search needs) (λ c. search needs)
-    (λ c κs. c .before .before .pre .canonical (c .before .before .args .at) (omega arith) (omega arith)) (λ c. search needs))
+    (λ c. search needs) (λ c. search needs) (λ c κs. c .before .before .pre .canonical (c .before .before .args .at) (omega arith) (omega arith))
+    (λ c. search needs))

@@ -12,11 +12,7 @@ pub load-row-spec : {M : Type 1} → statement M
 load-row-spec =
     tie.close
     (tie.spec
-    (λ c κs. part (c .before .pre) (omega arith) (omega arith))
-    (λ c. search needs)
-    (λ c κs. part (c .before .before .pre) (omega arith) (omega arith))
-    (λ c. search needs)
-    (λ c κs. part (c .before .before .before .pre) (omega arith) (omega arith))
-    (λ c. search needs)
-    (λ c κs. let p = c .before in part (p .before .before .before .pre) (omega arith) (omega arith))
-    returns)
+    (λ c κs. part (c .before .pre) (omega arith) (omega arith)) (λ c. search needs)
+    (λ c κs. part (c .before .before .pre) (omega arith) (omega arith)) (λ c. search needs)
+    (λ c κs. part (c .before .before .before .pre) (omega arith) (omega arith)) (λ c. search needs)
+    (λ c κs. let p = c .before in part (p .before .before .before .pre) (omega arith) (omega arith)) returns)

@@ -12,9 +12,6 @@ pub load-vec-spec : {M : Type 1} → statement M
 load-vec-spec =
     tie.close
     (tie.spec
-    (λ c κs. part (c .before .pre) (omega arith) (omega arith))
-    (λ c. search needs)
-    (λ c κs. part (c .before .before .pre) (omega arith) (omega arith))
-    (λ c. search needs)
-    (λ c κs. part (c .before .before .before .pre) (omega arith) (omega arith))
-    returns)
+    (λ c κs. part (c .before .pre) (omega arith) (omega arith)) (λ c. search needs)
+    (λ c κs. part (c .before .before .pre) (omega arith) (omega arith)) (λ c. search needs)
+    (λ c κs. part (c .before .before .before .pre) (omega arith) (omega arith)) returns)

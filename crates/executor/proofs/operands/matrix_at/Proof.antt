@@ -19,4 +19,5 @@ returns c =
     c .load-mat .ensures ∙ ap (matAt (now (b .before .args .work))) (c .before .u16-at .ensures .0)
 
 pub matrix-at-spec : {M : Type 1} → statement M
-matrix-at-spec = tie.close (tie.spec (λ c κs. search needs) load-mat-requires returns)
+matrix-at-spec = tie.close (tie.spec
+    (λ c κs. search needs) load-mat-requires returns)

@@ -12,4 +12,5 @@ returns : tie.Need-returns
 returns c = remainder-nan (c .before .args .x) ∙ sym (nan-is _ (c .if1 .taken))
 
 pub read-apart-spec : {M : Type 1} → statement M
-read-apart-spec = tie.close (tie.spec float-from-bits-result returns (λ c. search needs))
+read-apart-spec = tie.close (tie.spec
+    float-from-bits-result returns (λ c. search needs))

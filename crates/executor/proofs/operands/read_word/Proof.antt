@@ -13,4 +13,5 @@ returns : tie.Need-returns
 returns c = made-nan ∙ sym (nan-is _ (c .if1 .taken))
 
 pub read-word-spec : {M : Type 1} → statement M
-read-word-spec = tie.close (tie.spec float-from-bits-result returns (λ c. search needs))
+read-word-spec = tie.close (tie.spec
+    float-from-bits-result returns (λ c. search needs))

@@ -19,4 +19,5 @@ returns c =
     c .load .ensures ∙ ap (floatAt (now (b .before .args .work))) (c .before .u16-at .ensures .0)
 
 pub scalar-at-spec : {M : Type 1} → statement M
-scalar-at-spec = tie.close (tie.spec (λ c κs. search needs) load-requires returns)
+scalar-at-spec = tie.close (tie.spec
+    (λ c κs. search needs) load-requires returns)

@@ -19,4 +19,5 @@ returns c =
     c .load-vec .ensures ∙ ap (vecAt (now (b .before .args .work))) (c .before .u16-at .ensures .0)
 
 pub vector-at-spec : {M : Type 1} → statement M
-vector-at-spec = tie.close (tie.spec (λ c κs. search needs) load-vec-requires returns)
+vector-at-spec = tie.close (tie.spec
+    (λ c κs. search needs) load-vec-requires returns)

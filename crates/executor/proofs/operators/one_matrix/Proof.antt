@@ -7,42 +7,21 @@ use Rattle.executor.proofs.Stored.{four, operated}
 use Rattle.executor.proofs.operators.one_matrix.Statement.{statement}
 use Rattle.executor.proofs.operators.one_matrix.Tie as tie
 
--- ---- places
-
-abbrev at-put-long : tie.After-slice-known2 → tie.After-put-long
-at-put-long p = p .before .before
-
-abbrev at-step-mat : tie.After-put-long → tie.After-step-mat
-at-step-mat p = p .before .before
-
-abbrev at-zero-mat : tie.After-step-mat → tie.After-zero-mat
-at-zero-mat p = p .before
-
-abbrev at-matrix-at : tie.After-zero-mat → tie.After-matrix-at
-at-matrix-at p = p .before
-
-abbrev known : tie.After-matrix-at → tie.After-shared-slice-known
-known p = p .before .before .before
-
-abbrev start : tie.After-matrix-at → tie.Start
-start p = known p .before
-
 returns : tie.Need-returns
 returns c =
-    let p1 = at-put-long c in
-    let p2 = at-step-mat p1 in
-    let p3 = at-zero-mat p2 in
-    let p4 = at-matrix-at p3 in
-    let b = start p4 in
-    operated (b .pre) (ap Matrix (p2 .step-mat .ensures ∙ four (eachMat (stepOf (b .args .o))) (p4 .matrix-at .ensures) (p3 .zero-mat .ensures) (p3 .zero-mat .ensures) (p3 .zero-mat .ensures))) (p1 .put-long .ensures)
+    let written = c .before .before in
+    let stepped = written .before .before in
+    let zeros = stepped .before in
+    let first = zeros .before in
+    let known = first .before .before in
+    let entry = known .before .before in
+    operated (entry .pre)
+    (ap Matrix (stepped .step-mat .ensures
+    ∙ four (eachMat (stepOf (entry .args .o))) (first .matrix-at .ensures) (zeros .zero-mat .ensures) (zeros .zero-mat .ensures) (zeros .zero-mat .ensures)))
+    (written .put-long .ensures)
 
 pub one-matrix-spec : {M : Type 1} → statement M
 one-matrix-spec =
     tie.close
     (tie.spec
-    (λ c κs. search needs)
-    (λ c κs. search needs)
-    (λ c κs. search needs)
-    (λ c κs. search needs)
-    (λ c. search needs)
-    returns)
+    (λ c κs. search needs) (λ c κs. search needs) (λ c κs. search needs) (λ c κs. search needs) (λ c. search needs) returns)

@@ -7,48 +7,23 @@ use Rattle.executor.proofs.Stored.{four, operated}
 use Rattle.executor.proofs.operators.two_scalars.Statement.{statement}
 use Rattle.executor.proofs.operators.two_scalars.Tie as tie
 
--- ---- places
-
-abbrev at-put-short : tie.After-slice-known2 → tie.After-put-short
-at-put-short p = p .before .before
-
-abbrev at-step : tie.After-put-short → tie.After-step
-at-step p = p .before .before
-
-abbrev at-zero : tie.After-step → tie.After-zero
-at-zero p = p .before
-
-abbrev at-scalar-at2 : tie.After-zero → tie.After-scalar-at2
-at-scalar-at2 p = p .before
-
-abbrev at-scalar-at : tie.After-scalar-at2 → tie.After-scalar-at
-at-scalar-at p = p .before .before
-
-abbrev known : tie.After-scalar-at → tie.After-shared-slice-known
-known p = p .before .before .before
-
-abbrev start : tie.After-scalar-at → tie.Start
-start p = known p .before
-
 returns : tie.Need-returns
 returns c =
-    let p1 = at-put-short c in
-    let p2 = at-step p1 in
-    let p3 = at-zero p2 in
-    let p4 = at-scalar-at2 p3 in
-    let p5 = at-scalar-at p4 in
-    let b = start p5 in
-    operated (b .pre) (ap Scalar (p2 .step .ensures ∙ four (stepOf (b .args .o)) (p5 .scalar-at .ensures) (p4 .scalar-at2 .ensures) (p3 .zero .ensures) (p3 .zero .ensures))) (p1 .put-short .ensures)
+    let written = c .before .before in
+    let stepped = written .before .before in
+    let zeros = stepped .before in
+    let second = zeros .before in
+    let first = second .before .before in
+    let known = first .before .before in
+    let entry = known .before .before in
+    operated (entry .pre)
+    (ap Scalar (stepped .step .ensures
+    ∙ four (stepOf (entry .args .o)) (first .scalar-at .ensures) (second .scalar-at2 .ensures) (zeros .zero .ensures) (zeros .zero .ensures)))
+    (written .put-short .ensures)
 
 pub two-scalars-spec : {M : Type 1} → statement M
 two-scalars-spec =
     tie.close
     (tie.spec
-    (λ c κs. search needs)
-    (λ c. search needs)
-    (λ c κs. search needs)
-    (λ c κs. search needs)
-    (λ c κs. search needs)
-    (λ c κs. search needs)
-    (λ c. search needs)
-    returns)
+    (λ c κs. search needs) (λ c. search needs) (λ c κs. search needs) (λ c κs. search needs) (λ c κs. search needs) (λ c κs. search needs)
+    (λ c. search needs) returns)

@@ -50,35 +50,19 @@ scalars-row-requires-4 c κs =
 
 returns : tie.Need-returns
 returns c =
-    let p1 = at-put-long c in
-    let p2 = at-scalars-row4 p1 in
-    let p3 = at-scalars-row3 p2 in
-    let p4 = at-scalars-row2 p3 in
-    let p5 = at-scalars-row p4 in
-    let b = start p5 in
-    p1 .put-long .ensures
-    ∙ of-scalars (now (b .args .code)) (now (b .args .work)) (b .args .at) (b .args .result) (p5 .scalars-row .ensures) (p4 .scalars-row2 .ensures) (p3 .scalars-row3 .ensures) (p2 .scalars-row4 .ensures)
+    let written = at-put-long c in
+    let fourth = at-scalars-row4 written in
+    let third = at-scalars-row3 fourth in
+    let second = at-scalars-row2 third in
+    let first = at-scalars-row second in
+    let entry = start first in
+    written .put-long .ensures
+    ∙ of-scalars (now (entry .args .code)) (now (entry .args .work)) (entry .args .at) (entry .args .result) (first .scalars-row .ensures) (second .scalars-row2 .ensures) (third .scalars-row3 .ensures) (fourth .scalars-row4 .ensures)
 
 pub compose-matrix-spec : {M : Type 1} → statement M
 compose-matrix-spec =
     tie.close
     (tie.spec
-    (λ c. search needs)
-    (λ c. search needs)
-    (λ c. search needs)
-    (λ c. search needs)
-    (λ c. search needs)
-    (λ c. search needs)
-    (λ c. search needs)
-    (λ c. search needs)
-    (λ c. search needs)
-    (λ c. search needs)
-    (λ c. search needs)
-    (λ c. search needs)
-    (λ c κs. search needs)
-    scalars-row-requires-2
-    scalars-row-requires-3
-    scalars-row-requires-4
-    (λ c κs. search needs)
-    (λ c. search needs)
-    returns)
+    (λ c. search needs) (λ c. search needs) (λ c. search needs) (λ c. search needs) (λ c. search needs) (λ c. search needs) (λ c. search needs)
+    (λ c. search needs) (λ c. search needs) (λ c. search needs) (λ c. search needs) (λ c. search needs) (λ c κs. search needs)
+    scalars-row-requires-2 scalars-row-requires-3 scalars-row-requires-4 (λ c κs. search needs) (λ c. search needs) returns)

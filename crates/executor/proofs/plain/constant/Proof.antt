@@ -13,28 +13,16 @@ use Rattle.bytecode.specs.Run.{execute}
 use Rattle.executor.proofs.plain.constant.Statement.{statement}
 use Rattle.executor.proofs.plain.constant.Tie as tie
 
--- ---- places
-
-abbrev at-put-short : tie.After-slice-known2 → tie.After-put-short
-at-put-short p = p .before .before
-
-abbrev at-constant-at : tie.After-put-short → tie.After-constant-at
-at-constant-at p = p .before
-
-abbrev known : tie.After-constant-at → tie.After-shared-slice-known
-known p = p .before .before .before
-
-abbrev start : tie.After-constant-at → tie.Start
-start p = known p .before
-
 returns : tie.Need-returns
 unfolding execute results
 returns c =
-    let p1 = at-put-short c in
-    let p2 = at-constant-at p1 in
-    let b = start p2 in
-    p1 .put-short .ensures ∙ ap (λ (x : Float). sets (now (b .args .work)) (b .args .result) (wordsOf (Scalar x)))
-    (p2 .constant-at .ensures ∙ ap (constantAt (now (b .args .code))) (omega arith))
+    let written = c .before .before in
+    let first = written .before in
+    let known = first .before .before in
+    let entry = known .before .before in
+    written .put-short .ensures ∙ ap (λ (x : Float). sets (now (entry .args .work)) (entry .args .result) (wordsOf (Scalar x)))
+    (first .constant-at .ensures ∙ ap (constantAt (now (entry .args .code))) (omega arith))
 
 pub constant-spec : {M : Type 1} → statement M
-constant-spec = tie.close (tie.spec (λ c κs. search needs) (λ c κs. search needs) (λ c. search needs) returns)
+constant-spec = tie.close (tie.spec
+    (λ c κs. search needs) (λ c κs. search needs) (λ c. search needs) returns)
