@@ -13,8 +13,7 @@ use Rattle.ports.specs.Kinds.{kindOf}
 use Rattle.ports.specs.Ports.{width, widths, takes, gives, arity, constantWords, legalInstruction}
 use Rattle.ports.proofs.Laws.{length-takes}
 use Rattle.base.specs.Lists.{wordAt, wordsAt, every, Word, Each}
-use Rattle.value.specs.Values.{finite, constantWord}
-use Rattle.value.specs.Typed.{Finite}
+use Rattle.value.specs.Values.{constantWord}
 use Rattle.base.proofs.Lists.{whole}
 use Rattle.base.specs.Bytes.{byte, u16, u64, constants, bytesOf, allBytes}
 use Rattle.base.specs.Outcome.{Part}
@@ -23,7 +22,6 @@ use Rattle.bytecode.specs.Run.{Instruction, BoardList}
 use Rattle.bytecode.specs.Code.{instructionCode, instructionsCode, headerCode, encode, guard, then, addresses, allBelow, allLess, readOperands, readKind, readInstruction, nextWord, Listed, readInstructions, readOutputs, withinLimits, readCounts, marked, decode}
 use Rattle.bytecode.specs.WellFormed.{Below, Fit, AllFit, FitList}
 use Rattle.base.proofs.Stands.{cons, cons-head, cons-tail, split, all-length, Here, u16-read, constants-read}
-use Rattle.value.proofs.Laws.{all-finite}
 
 module _ {A : Type 0} where
   pub guarded : (t : Bool) (o : Option A) → t ≡ true → guard t o ≡ o
@@ -40,10 +38,6 @@ addresses-read s [] at l h = refl
 addresses-read s (x ∷ xs) at (l, ls) h =
     let (p, q) = split s (bytesOf 2 x) (allBytes 2 xs) at h in
     cons (u16-read s x at l p) (addresses-read s xs (at + 2) ls q)
-
-each-word : (xs : List ℕ) → Each Finite xs → Each Word xs
-each-word [] h = tt
-each-word (x ∷ xs) (p, h) = (p .0, each-word xs h)
 
 all-below : (next : ℕ) (ts xs : List ℕ) → Below next ts xs → allBelow next ts xs ≡ true
 all-below next [] xs h = refl
@@ -106,13 +100,13 @@ module _ (s : List ℕ) where
       let xs : addresses n s at ≡ i .operands =
       ap (λ (j : ℕ). addresses j s at) (sym nl) ∙ addresses-read s (i .operands) at (below-small next ts (i .operands) l (f .operands)) p in
       let cs : constants c s (at + 2 * n) ≡ i .constants =
-      ap (λ (j : ℕ). constants j s (at + 2 * n)) (sym cl) ∙ constants-read s (i .constants) (at + 2 * n) (each-word (i .constants) (f .constants)) r′ in
+      ap (λ (j : ℕ). constants j s (at + 2 * n)) (sym cl) ∙ constants-read s (i .constants) (at + 2 * n) (f .words) r′ in
       let stop : at + 2 * n + 8 * c ≡ end = omega arith in
       guarded (legalInstruction (kindOf k) t) _ (f .legal)
       ∙ guarded (leb (at + 2 * n + 8 * c) (length s)) _ (le-leb (at + 2 * n + 8 * c) (length s) (omega arith))
       ∙ ap₂ (λ (x y : List ℕ). readOperands k t x y next (at + 2 * n + 8 * c)) xs cs
       ∙ guarded (allBelow next ts (i .operands)) _ (all-below next ts (i .operands) (f .operands))
-      ∙ guarded (every constantWord (i .constants)) _ (all-finite (i .constants) (f .constants))
+      ∙ guarded (every constantWord (i .constants)) _ (f .constants)
       ∙ ap₂
       (λ (x y : ℕ). done (record { kind = k; type = t; operands = i .operands; constants = i .constants; result = x }) y) (sym (f .result)) stop
 

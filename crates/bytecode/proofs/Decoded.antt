@@ -13,9 +13,8 @@ use borrow.Author.Tests.{leb-true, ltb-true, eqb-true}
 use Rattle.ports.specs.Kinds.{kindOf}
 use Rattle.ports.specs.Ports.{width, widths, takes, gives, arity, constantWords, legalInstruction}
 use Rattle.ports.proofs.Laws.{length-takes}
-use Rattle.value.specs.Values.{finite, constantWord, argumentWord}
+use Rattle.value.specs.Values.{constantWord, argumentWord}
 use Rattle.base.specs.Lists.{every, Word, Each}
-use Rattle.value.specs.Typed.{Finite}
 use Rattle.base.specs.Outcome.{Outcome, ok, fault, _>>=_, _>>_, need, orElse, Part}
 use Rattle.base.specs.Bytes.{byte, u16, constants, Bytes, bytesOf, allBytes}
 use Rattle.base.proofs.Bools.{and-inv}
@@ -26,7 +25,6 @@ use Rattle.bytecode.specs.Code.{instructionCode, instructionsCode, heade
 use Rattle.bytecode.specs.WellFormed.{Below, Fit, AllFit, FitList, Codes}
 use Rattle.bytecode.specs.Answers.{Buffers, ran}
 use Rattle.bytecode.proofs.Back.{decode-encode}
-use Rattle.value.proofs.Laws.{each-finite}
 use Rattle.base.proofs.Lists.{some-is}
 
 module _ {A : Type 0} where
@@ -95,7 +93,8 @@ module _ (s : List ℕ) (small : Bytes s) where
           legal = a2;
           operands = all-below next (takes (kindOf k) t) xs (addresses-length n s (at + 2) ∙ sym (length-takes (kindOf k) t)) a4;
           count = constants-length c s (at + 2 + 2 * n);
-          constants = each-finite cs a5 (constants-words s small c (at + 2 + 2 * n));
+          words = constants-words s small c (at + 2 + 2 * n);
+          constants = a5;
           result = refl;
         },
         onto s k (t ∷ allBytes 2 xs ++ allBytes 8 cs) at refl (onto s t (allBytes 2 xs ++ allBytes 8 cs) (at + 1) refl (moved s (omega arith) body)),

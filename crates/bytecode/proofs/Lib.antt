@@ -2,3 +2,4 @@ pub mod Memory
 pub mod Back
 pub mod Decoded
 pub mod Origins
+pub mod Length

@@ -6,8 +6,8 @@ use mathlib.Core.List.{List, [], _∷_}
 use lib.ListN.{length}
 use Rattle.ports.specs.Kinds.{kindOf}
 use Rattle.ports.specs.Ports.{width, takes, constantWords, legalInstruction}
-use Rattle.base.specs.Lists.{Each}
-use Rattle.value.specs.Typed.{Finite}
+use Rattle.base.specs.Lists.{every, Word, Each}
+use Rattle.value.specs.Values.{constantWord}
 use Rattle.bytecode.specs.Run.{Instruction, BoardList}
 use Rattle.base.specs.Limits.{operationLimit, wordLimit, portWordLimit}
 use Rattle.bytecode.specs.Code.{nextWord, encode}
@@ -23,7 +23,8 @@ pub record Fit (next : ℕ) (i : Instruction) : Type 0 where
   pub legal : legalInstruction (kindOf (i .kind)) (i .type) ≡ true
   pub operands : Below next (takes (kindOf (i .kind)) (i .type)) (i .operands)
   pub count : length (i .constants) ≡ constantWords (kindOf (i .kind))
-  pub constants : Each Finite (i .constants)
+  pub words : Each Word (i .constants)
+  pub constants : every constantWord (i .constants) ≡ true
   pub result : i .result ≡ next
 
 -- each result takes the next words

@@ -16,11 +16,11 @@ ghost use Rattle.reader.specs.Records.{seen};
 ghost use Rattle.reader.specs.declared.Seen.{Seen};
 ghost use Rattle.checker.specs.Answers.{hit, portOf, typeAt, wantsList, WantFits, outputsChecked, referencesChecked, nodeChecked, callsChecked, verdictOf, Judged};
 ghost use Rattle.checker.specs.Slots.{ReadsFunctions, Scene, PlacesAre, Placed, RowIs, RowsAre, Ready, Filled};
+use order::OnLoop;
 use ports::Form;
 use ports::Ports;
 use reader::Found;
 use reader::Seen;
-use order::OnLoop;
 
 fn size(x: u8) -> usize
     ensures { λ r. ⌜ (r ≡ x) × (r < 256) ⌝ }

@@ -4,7 +4,7 @@ use mathlib.Core.Path.{_≡_, refl, ap, sym, _∙_, subst}
 use mathlib.Core.Bool.{Bool, true, false, not, _&&_}
 use mathlib.Core.List.{List, [], _∷_, _++_, map}
 use mathlib.Core.Option.{Option, none, some}
-use mathlib.Core.Logic.{_⊎_, inl, inr, _↔_}
+use mathlib.Core.Logic.{_⊎_, inl, inr, ⊎-elim, _↔_}
 use native.Mathlib.Omega.{arith}
 use lib.Dec.{eqb}
 use lib.ListN.{length}
@@ -63,18 +63,27 @@ says-test t n p f g = says-need t n p f (λ e a. refute t e (g a))
     refute : (t : Bool) → t ≡ false → t ≡ true → ⊥
     refute t e q = let z : _≡_ {A = ℕ} 0 1 = cc in omega arith
 
-all-append : (cs ds : List Check) → All cs → All ds → All (cs ++ ds)
+pub all-append : (cs ds : List Check) → All cs → All ds → All (cs ++ ds)
 all-append [] ds a b = b
 all-append (c ∷ cs) ds (x, a) b = (x, all-append cs ds a b)
 
-first-left : (cs ds : List Check) (n p : ℕ) → First cs n p → First (cs ++ ds) n p
+pub first-left : (cs ds : List Check) (n p : ℕ) → First cs n p → First (cs ++ ds) n p
 first-left [] ds n p f = absurd f
 first-left (c ∷ cs) ds n p (inl x) = inl x
 first-left (c ∷ cs) ds n p (inr (x, f)) = inr (x, first-left cs ds n p f)
 
-first-right : (cs ds : List Check) (n p : ℕ) → All cs → First ds n p → First (cs ++ ds) n p
+pub first-right : (cs ds : List Check) (n p : ℕ) → All cs → First ds n p → First (cs ++ ds) n p
 first-right [] ds n p a f = f
 first-right (c ∷ cs) ds n p (x, a) f = inr (x, first-right cs ds n p a f)
+
+pub all-split : (cs ds : List Check) → All (cs ++ ds) → All cs × All ds
+all-split [] ds a = (tt, a)
+all-split (c ∷ cs) ds (x, a) = let (b, d) = all-split cs ds a in ((x, b), d)
+
+pub first-split : (cs ds : List Check) (n p : ℕ) → First (cs ++ ds) n p → First cs n p ⊎ (All cs × First ds n p)
+first-split [] ds n p f = inr (tt, f)
+first-split (c ∷ cs) ds n p (inl x) = inl (inl x)
+first-split (c ∷ cs) ds n p (inr (x, f)) = ⊎-elim (λ g. inl (inr (x, g))) (λ (a, g). inr ((x, a), g)) (first-split cs ds n p f)
 
 pub says-then : (cs ds : List Check) (g h : Outcome (Unit {0})) → Says cs g → Says ds h → Says (cs ++ ds) (g >> h)
 unfolding _>>_
@@ -207,19 +216,25 @@ first-back : (all before : List Node) (m : Node) (behind : List Node) → ((x : 
 first-back all [] m behind g l = inl ((λ h. h l), refl, refl)
 first-back all (x ∷ before) m behind g l = inr (g x (inl refl), first-back all before m behind (λ y h. g y (inr h)) l)
 
-pub loop-place : (f : Function) (n p : ℕ) → (loopFree f ≡ fault n p) ↔ ((m : Node) × FirstOnLoop (f .nodes) m × (13 ≡ n) × (m .place ≡ p))
-loop-place f n p = (there, back)
+pub first-loop : (ns : List Node) (n p : ℕ) → First (loopChecks ns ns) n p ↔ ((m : Node) × FirstOnLoop ns m × (13 ≡ n) × (m .place ≡ p))
+first-loop ns n p = (there, back)
   where
-    there : loopFree f ≡ fault n p → (m : Node) × FirstOnLoop (f .nodes) m × (13 ≡ n) × (m .place ≡ p)
-    there e =
-        let (m, before, behind, s, g, l, b, c) = first-there (f .nodes) (f .nodes) n p (subst (Says (loopChecks (f .nodes) (f .nodes))) e (loops-say (f .nodes) (f .nodes))) in
+    there : First (loopChecks ns ns) n p → (m : Node) × FirstOnLoop ns m × (13 ≡ n) × (m .place ≡ p)
+    there f =
+        let (m, before, behind, s, g, l, b, c) = first-there ns ns n p f in
         (m, record { before = before; behind = behind; stands = s; first = g; lies = l }, b, c)
 
-    back : (m : Node) × FirstOnLoop (f .nodes) m × (13 ≡ n) × (m .place ≡ p) → loopFree f ≡ fault n p
+    back : (m : Node) × FirstOnLoop ns m × (13 ≡ n) × (m .place ≡ p) → First (loopChecks ns ns) n p
     back (m, o, b, c) =
-        let h = first-back (f .nodes) (o .before) m (o .behind) (o .first) (o .lies) in
-        let g : First (loopChecks (f .nodes) (f .nodes)) 13 (m .place) = subst (λ (ns : List Node). First (loopChecks (f .nodes) ns) 13 (m .place)) (sym (o .stands)) h in
-        says-one (loopChecks (f .nodes) (f .nodes)) (loopFree f) (fault 13 (m .place)) (loops-say (f .nodes) (f .nodes)) g ∙ rw (b, c) refl
+        let h : First (loopChecks ns (o .before ++ m ∷ o .behind)) 13 (m .place) = first-back ns (o .before) m (o .behind) (o .first) (o .lies) in
+        let g : First (loopChecks ns ns) 13 (m .place) = subst (λ (xs : List Node). First (loopChecks ns xs) 13 (m .place)) (sym (o .stands)) h in
+        rw (← b, ← c) g
+
+pub loop-place : (f : Function) (n p : ℕ) → (loopFree f ≡ fault n p) ↔ ((m : Node) × FirstOnLoop (f .nodes) m × (13 ≡ n) × (m .place ≡ p))
+loop-place f n p =
+    let i = says-iff (loopChecks (f .nodes) (f .nodes)) (loopFree f) (fault n p) (loops-say (f .nodes) (f .nodes)) in
+    let j = first-loop (f .nodes) n p in
+    (λ e. j .0 (i .0 e), λ x. i .1 (j .1 x))
 
 -- ---- a function, and functions
 
@@ -277,14 +292,26 @@ module _ (early : List Function) (f : Function) where
         let i = order-iff early f (resolved .0) (resolved .1) in
         (λ e. i .0 (sym only-loops ∙ e), λ o. only-loops ∙ i .1 o)
 
-    pub no-order-13 : ((p : ℕ) × (judge early f ≡ fault 13 p)) ↔ ((os : List Node) → Orders (f .nodes) os → ⊥)
-    no-order-13 = ((λ (p, e) os o. no-fault tt 13 p (sym (order-judged .1 (os, o)) ∙ e)), λ h. go (judge early f) refl h)
+    -- a first node on a loop, exactly when there is no order
+    pub no-order-loop : ((m : Node) × FirstOnLoop (f .nodes) m) ↔ ((os : List Node) → Orders (f .nodes) os → ⊥)
+    no-order-loop = (there, λ h. back (judge early f) refl h)
       where
-        go : (g : Outcome (Unit {0})) → judge early f ≡ g → ((os : List Node) → Orders (f .nodes) os → ⊥) → (p : ℕ) × (g ≡ fault 13 p)
-        go (ok u) e h = let (os, o) = order-judged .0 e in absurd (h os o)
-        go (fault n p) e h =
-            let (m, o, q, r) = loop-place f n p .0 (sym only-loops ∙ e) in
-            (p, ap (λ (i : ℕ). fault i p) (sym q))
+        there : (m : Node) × FirstOnLoop (f .nodes) m → (os : List Node) → Orders (f .nodes) os → ⊥
+        there (m, o) os x =
+            no-fault tt 13 (m .place) (sym (sym only-loops ∙ order-judged .1 (os, x)) ∙ loop-place f 13 (m .place) .1 (m, o, refl, refl))
+
+        back : (g : Outcome (Unit {0})) → judge early f ≡ g → ((os : List Node) → Orders (f .nodes) os → ⊥) → (m : Node) × FirstOnLoop (f .nodes) m
+        back (ok u) e h = let (os, o) = order-judged .0 e in absurd (h os o)
+        back (fault n p) e h = let (m, o, q, r) = loop-place f n p .0 (sym only-loops ∙ e) in (m, o)
+
+    pub no-order-13 : ((p : ℕ) × (judge early f ≡ fault 13 p)) ↔ ((os : List Node) → Orders (f .nodes) os → ⊥)
+    no-order-13 = (there, back)
+      where
+        there : (p : ℕ) × (judge early f ≡ fault 13 p) → (os : List Node) → Orders (f .nodes) os → ⊥
+        there (p, e) = let (m, o, q, r) = loop-place f 13 p .0 (sym only-loops ∙ e) in no-order-loop .0 (m, o)
+
+        back : ((os : List Node) → Orders (f .nodes) os → ⊥) → (p : ℕ) × (judge early f ≡ fault 13 p)
+        back h = let (m, o) = no-order-loop .1 h in (m .place, only-loops ∙ loop-place f 13 (m .place) .1 (m, o, refl, refl))
 
 pub judge-all-says : (early fs : List Function) → Says (tableChecks early fs) (judgeAll early fs)
 judge-all-says early [] = tt

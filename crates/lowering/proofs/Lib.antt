@@ -3,3 +3,4 @@ pub mod Promise
 pub mod Limits
 pub mod Whole
 pub mod Routed
+pub mod Witness

@@ -15,11 +15,11 @@ use Rattle.value.specs.declared.Value.{Value}
 use Rattle.ports.specs.Kinds.{Kind, kindOf}
 use Rattle.ports.specs.declared.Form.the-variants.{Constant, References}
 use Rattle.ports.specs.Ports.{width, widths, portsOf, takes, gives, constantWords, formOf, exists, typeFits, legal, legalInstruction}
-use Rattle.value.specs.Values.{wordsOf, allWords, valueAt, finite}
+use Rattle.value.specs.Values.{wordsOf, allWords, valueAt, constantWord}
 use Rattle.base.specs.Lists.{wordAt, wordsAt, every, Word, Each, member, Is}
-use Rattle.value.specs.Typed.{Finite, Of, Typed}
+use Rattle.value.specs.Typed.{Of, Typed}
 use Rattle.value.specs.Results.{results}
-use Rattle.value.proofs.Laws.{of-width, typed-widths, results-typed, each-finite}
+use Rattle.value.proofs.Laws.{of-width, typed-widths, results-typed}
 use Rattle.graph.specs.Graph.{Ref, Payload, consts, refs, calls, Node, Output, Function}
 use Rattle.graph.specs.Look.{findNode, findFunction, reads, readsOf, outputRefs}
 use Rattle.graph.specs.Judge.{outputTypes, outputsOf, inputsOf, wantsOf, givesOf, givesAt, refType}
@@ -104,10 +104,11 @@ stand-below m hi (t ∷ ts) (a ∷ at) (v ∷ vs) (o, h) (p, s) =
 record Single (k : Kind) (t : ℕ) (constants : List ℕ) : Type 0 where
   legal : legalInstruction k t ≡ true
   count : length constants ≡ constantWords k
-  finite : Each Finite constants
+  words : Each Word constants
+  allowed : every constantWord constants ≡ true
 
 constant-single : (k : Kind) (t : ℕ) (ws : List ℕ) → legal k t ≡ true → FormedPayload k (consts ws) → Single k t ws
-constant-single k t ws l (s, n, f, h) = record { legal = legal-executable k t s l; count = n; finite = each-finite ws f h }
+constant-single k t ws l (s, n, f, h) = record { legal = legal-executable k t s l; count = n; words = h; allowed = f }
   where
     legal-executable : (k : Kind) (t : ℕ) → formOf k ≡ Constant → legal k t ≡ true → legalInstruction k t ≡ true
     legal-executable k t s l = let x = and-inv (exists (formOf k)) (typeFits (portsOf k) t) l in rw (s, x .1) refl
@@ -115,7 +116,7 @@ constant-single k t ws l (s, n, f, h) = record { legal = legal-executable k t s 
 plain-single : (k : Kind) (t : ℕ) (rs : List Ref) → legal k t ≡ true → FormedPayload k (refs rs) → Single k t []
 plain-single k t rs l (s, n) =
     let x = and-inv (exists (formOf k)) (typeFits (portsOf k) t) l in
-    record { legal = rw (s, x .1) refl; count = rw s refl; finite = tt }
+    record { legal = rw (s, x .1) refl; count = rw s refl; words = tt; allowed = refl }
 
 -- an instruction of its own
 single-served :
@@ -138,7 +139,7 @@ single-served n operands constants next m vs means own below e h l q =
       values = rs;
       meant = q;
       typed = typed;
-      fit = (record { legal = own .legal; operands = below; count = own .count; constants = own .finite; result = refl }, refl);
+      fit = (record { legal = own .legal; operands = below; count = own .count; words = own .words; constants = own .allowed; result = refl }, refl);
       kept = subst (λ (x : List ℕ). Keeps next hi m x) (sym after) (keeps-sets m next hi (allWords rs) (ap (λ (i : ℕ). next + i) size));
       stand =
           subst (λ (x : List ℕ). Stand x hi (places next out) rs) (sym after)

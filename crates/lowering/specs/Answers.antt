@@ -1,31 +1,25 @@
--- What the compiler and the runner answer.
+-- What the compiler answers, and what it and the runner answer together.
 use Prim.Native.Nat.{ℕ}
-use mathlib.Core.Bool.{Bool, true, false, _&&_}
-use mathlib.Core.List.{List, [], _∷_}
-use mathlib.Core.Option.{Option, none, some}
-use lib.Dec.{leb, eqb}
-use lib.ListN.{length}
+use mathlib.Core.List.{List}
+use lib.Dec.{leb}
+use lib.ListN.{length, take}
 use lib.Seq.{sets}
 use Rattle.base.specs.Outcome.{Outcome, ok, fault, _>>=_, _>>_, need, orElse}
+use Rattle.base.specs.Limits.{operationLimit, wordLimit}
 use Rattle.graph.specs.Graph.{Function}
-use Rattle.value.specs.Values.{argumentWord}
-use Rattle.base.specs.Lists.{every}
-use Rattle.graph.specs.Judge.{outputTypes, table}
-use Rattle.graph.specs.Meaning.{graphMeans}
-use Rattle.ports.specs.Ports.{widths}
+use Rattle.graph.specs.Judge.{table}
 use Rattle.graph.specs.Sums.{functionOperations, operationsOf, functionWords}
 use Rattle.graph.specs.Table.{Chosen, chosen}
-use Rattle.bytecode.specs.Run.{BoardList, run}
+use Rattle.bytecode.specs.Code.{encode}
+use Rattle.bytecode.specs.Answers.{ran}
 use Rattle.lowering.specs.Compile.{boardListOf}
-use Rattle.base.specs.Limits.{operationLimit, wordLimit}
-use Rattle.bytecode.specs.Code.{encode, decode}
 
 -- ---- the compiler: 14, 15, 16, 17
 
--- the function of an id, within the limits
+-- the function of an id, within the limits; the functions stand the last first
 abbrev pub within : List Function → ℕ → Outcome Chosen
-within fs c = do
-  x ← orElse (chosen c fs) 14 0
+within latest c = do
+  x ← orElse (chosen c latest) 14 0
   need (leb (functionOperations (operationsOf (x .early)) (x .function)) operationLimit) 15 0
   need (leb (functionWords (x .early) (x .function)) wordLimit) 16 0
   ok x
@@ -33,8 +27,8 @@ within fs c = do
 -- of an accepted table
 abbrev pub compilable : List ℕ → ℕ → Outcome Chosen
 compilable s c = do
-  fs ← table s
-  within fs c
+  latest ← table s
+  within latest c
 
 abbrev pub codeOf : Chosen → List ℕ
 codeOf x = encode (boardListOf (x .early) (x .function))
@@ -50,9 +44,7 @@ compiled s c buffer = do
   need (leb (length (codeOf x)) (length buffer)) 17 0
   ok (record { size = length (codeOf x); buffer = sets buffer 0 (codeOf x) })
 
--- ---- the runner: 18, 19, 20, 21
-
--- ---- from table to output words: the compiler's refusals, then 19, 20, 21
+-- ---- from table to output words: the compiler's answer, then the runner's on the code's bytes alone
 
 -- the count of output words, and the three buffers after it
 pub record Evaluated : Type 0 where
@@ -61,20 +53,9 @@ pub record Evaluated : Type 0 where
   pub work : List ℕ
   pub out : List ℕ
 
+-- a refusal leaves all three buffers as they were
 unfoldable pub evaluated : List ℕ → ℕ → List ℕ → List ℕ → List ℕ → List ℕ → Outcome Evaluated
 evaluated s c arguments code work out = do
-  fs ← table s
-  x ← within fs c
-  need (leb (length (codeOf x)) (length code)) 17 0
-  need (eqb (length arguments) (widths (x .function .inputs))) 19 0
-  need (every argumentWord arguments) 20 0
-  need (leb (functionWords (x .early) (x .function)) (length work) && leb (widths (outputTypes (x .function .outputs))) (length out)) 21 0
-  -- an accepted function means something on all such arguments: this refuses nothing
-  answer ← orElse (graphMeans fs c arguments) 0 0
-  ok
-      (record {
-        count = length answer;
-        code = sets code 0 (codeOf x);
-        work = run (boardListOf (x .early) (x .function)) arguments work .memory;
-        out = sets out 0 answer;
-      })
+  a ← compiled s c code
+  b ← ran (take (a .size) (a .buffer)) arguments work out
+  ok (record { count = b .count; code = a .buffer; work = b .work; out = b .out })

@@ -1,16 +1,17 @@
 -- The settled examples that are proved, as one table.
 use Prim.Native.Nat.{ℕ}
 use mathlib.Core.Path.{_≡_, refl}
-use mathlib.Core.List.{List, [], _∷_}
+use mathlib.Core.List.{List, [], _∷_, _++_}
 use mathlib.Core.Option.{Option, none, some}
-use lib.ListN.{set, length, replicate}
+use lib.ListN.{set, take, length, replicate}
 use lib.Ieee as Ieee
 use Rattle.base.specs.Lists.{Each}
 use Rattle.value.specs.Results.{results}
 use Rattle.base.specs.Outcome.{Outcome, ok, fault, _>>=_, _>>_, need}
 use Rattle.graph.specs.Loops.{via}
 use Rattle.graph.specs.Judge.{table, verdict}
-use Rattle.graph.specs.Graph.{Function}
+use Rattle.graph.specs.Graph.{refs, Function}
+use Rattle.graph.specs.Written.{flat}
 use Rattle.graph.specs.Sums.{functionOperations, operationsOf, functionWords, resultWordsOf}
 use Rattle.graph.specs.Schedule.{schedule}
 use Rattle.graph.specs.Meaning.{nodeMeans, meaningOf, graphMeans}
@@ -30,6 +31,28 @@ tableA = 0x49 ∷ 0x46 ∷ 0x47 ∷ 0x01 ∷ 0x00 ∷ 0x01 ∷ 0x1E ∷ 0x00 ∷
 abbrev pub codeA : List ℕ
 codeA = 0x49 ∷ 0x46 ∷ 0x52 ∷ 0x01 ∷ 0x00 ∷ 0x02 ∷ 0x01 ∷ 0x00 ∷ 0x01 ∷ 0x00 ∷ 0x03 ∷ 0x00 ∷ 0x03 ∷ 0x01 ∷ 0x00 ∷ 0x00 ∷ 0x01 ∷ 0x00 ∷ 0x02 ∷ 0x00 ∷ []
 
+-- A as data: the product of the two inputs
+abbrev pub functionA : Function
+functionA =
+    record {
+      id = 1;
+      place = 8;
+      inputs = 1 ∷ 1 ∷ [];
+      outputs = record { type = 1; ref = record { node = 1; port = 0; place = 17 } } ∷ [];
+      nodes =
+          record {
+            id = 1;
+            place = 20;
+            kind = 3;
+            type = 1;
+            payload = refs (record { node = 0; port = 0; place = 24 } ∷ record { node = 0; port = 1; place = 27 } ∷ []);
+          }
+          ∷ [];
+    }
+
+abbrev pub chosenA : Chosen
+chosenA = record { function = functionA; early = [] }
+
 -- the lister's two lines for A
 abbrev pub textA : List ℕ
 textA = 0x61 ∷ 0x63 ∷ 0x63 ∷ 0x65 ∷ 0x70 ∷ 0x74 ∷ 0x65 ∷ 0x64 ∷ 0x20 ∷ 0x31 ∷ 0x0A ∷ 0x66 ∷ 0x75 ∷ 0x6E ∷ 0x63 ∷ 0x74 ∷ 0x69 ∷ 0x6F ∷ 0x6E ∷ 0x20 ∷ 0x31 ∷ 0x20 ∷ 0x69 ∷ 0x6E ∷ 0x70 ∷ 0x75 ∷ 0x74 ∷ 0x73 ∷ 0x20 ∷ 0x32 ∷ 0x20 ∷ 0x6F ∷ 0x75 ∷ 0x74 ∷ 0x70 ∷ 0x75 ∷ 0x74 ∷ 0x73 ∷ 0x20 ∷ 0x31 ∷ 0x20 ∷ 0x6E ∷ 0x6F ∷ 0x64 ∷ 0x65 ∷ 0x73 ∷ 0x20 ∷ 0x31 ∷ 0x20 ∷ 0x6F ∷ 0x70 ∷ 0x65 ∷ 0x72 ∷ 0x61 ∷ 0x74 ∷ 0x69 ∷ 0x6F ∷ 0x6E ∷ 0x73 ∷ 0x20 ∷ 0x31 ∷ 0x20 ∷ 0x77 ∷ 0x6F ∷ 0x72 ∷ 0x64 ∷ 0x73 ∷ 0x20 ∷ 0x33 ∷ 0x20 ∷ 0x63 ∷ 0x6F ∷ 0x64 ∷ 0x65 ∷ 0x20 ∷ 0x32 ∷ 0x30 ∷ 0x0A ∷ []
@@ -48,14 +71,40 @@ tableCalls = 0x49 ∷ 0x46 ∷ 0x47 ∷ 0x01 ∷ 0x00 ∷ 0x02 ∷ 0x46 ∷ 0x00
 abbrev pub codeCalls : List ℕ
 codeCalls = 0x49 ∷ 0x46 ∷ 0x52 ∷ 0x01 ∷ 0x00 ∷ 0x01 ∷ 0x01 ∷ 0x00 ∷ 0x03 ∷ 0x00 ∷ 0x04 ∷ 0x00 ∷ 0x01 ∷ 0x01 ∷ 0x00 ∷ 0x00 ∷ 0x00 ∷ 0x00 ∷ 0x01 ∷ 0x01 ∷ 0x01 ∷ 0x00 ∷ 0x01 ∷ 0x00 ∷ 0x03 ∷ 0x01 ∷ 0x01 ∷ 0x00 ∷ 0x02 ∷ 0x00 ∷ 0x03 ∷ 0x00 ∷ []
 
+-- K with one node, numbered 1, which nothing reads: its kind and its payload, and the length of the whole in two bytes
+abbrev withNode : ℕ → List ℕ → ℕ → ℕ → List ℕ
+withNode kind payload low high = set (set (set tableK 12 0x01) 6 low) 7 high ++ 0x01 ∷ 0x00 ∷ kind ∷ 0x00 ∷ payload
+
+-- the constant infinity
+abbrev tableInfinite : List ℕ
+tableInfinite = withNode 0x05 (0x00 ∷ 0x00 ∷ 0x00 ∷ 0x00 ∷ 0x00 ∷ 0x00 ∷ 0xF0 ∷ 0x7F ∷ []) 0x1F 0x00
+
+-- a node that calls a function on the first input
+abbrev callNode : ℕ → ℕ → List ℕ
+callNode callee id = id ∷ 0x00 ∷ 0x18 ∷ 0x00 ∷ callee ∷ 0x00 ∷ 0x01 ∷ 0x00 ∷ 0x00 ∷ 0x00 ∷ []
+
+-- a function with one scalar input, which is the output, and eight such nodes
+abbrev eightCalls : ℕ → ℕ → List ℕ
+eightCalls id callee =
+    id ∷ 0x00 ∷ 0x01 ∷ 0x01 ∷ 0x08 ∷ 0x00 ∷ 0x01 ∷ 0x01 ∷ 0x00 ∷ 0x00 ∷ 0x00
+    ∷ flat (callNode callee) (1 ∷ 2 ∷ 3 ∷ 4 ∷ 5 ∷ 6 ∷ 7 ∷ 8 ∷ [])
+
+-- K, and four functions with eight calls of the one before: 8, 72, 584 and 4,680 operations
+abbrev tableOperations : List ℕ
+tableOperations = set (set (set tableK 5 0x05) 6 0x7F) 7 0x01 ++ eightCalls 2 1 ++ eightCalls 3 2 ++ eightCalls 4 3 ++ eightCalls 5 4
+
+-- K with a constmat, and three functions with eight calls of the one before: 129, 1,025 and 8,193 words
+abbrev tableWords : List ℕ
+tableWords = set (withNode 0x07 (replicate 128 0x00) 0xA8 0x01) 5 0x04 ++ eightCalls 2 1 ++ eightCalls 3 2 ++ eightCalls 4 3
+
 -- 3, 0.5, 1.5, 72 and infinity
-abbrev three : ℕ
+abbrev pub three : ℕ
 three = 0x4008_0000_0000_0000
 
-abbrev half : ℕ
+abbrev pub half : ℕ
 half = 0x3FE0_0000_0000_0000
 
-abbrev threeHalves : ℕ
+abbrev pub threeHalves : ℕ
 threeHalves = 0x3FF8_0000_0000_0000
 
 abbrev seventyTwo : ℕ
@@ -129,9 +178,32 @@ cases =
     -- the calls
     ∷ compiles tableCalls 2 2 5 4 codeCalls
     ∷ gives tableCalls 2 codeCalls (three ∷ []) (seventyTwo ∷ [])
-    -- not of 01: A with each of the refusals 14 and 17 to 21
+    -- not of 01: the refusals of a table that B to I lack
+    ∷ refused (set tableA 0 0x48) 2 0
+    -- 5: a second node's head; the payload of a select
+    ∷ refused (set tableA 12 0x02) 5 30
+    ∷ refused (set tableA 22 0x16) 5 24
+    -- 6: no function; 17 functions; an input byte; an output entry; a call's payload, with nine arguments
+    ∷ refused (set tableA 5 0x00) 6 5
+    ∷ refused (set tableA 5 0x11) 6 5
+    ∷ refused (set tableA 15 0x04) 6 15
+    ∷ refused (set tableA 16 0x04) 6 16
+    ∷ refused (set tableCalls 56 0x09) 6 54
+    ∷ refused tableInfinite 7 23
+    -- 8: one byte more
+    ∷ refused (set tableA 6 0x1F ++ 0x00 ∷ []) 8 30
+    -- 9: the second function has the first one's id; the third node the second one's
+    ∷ refused (set tableCalls 29 0x01) 9 29
+    ∷ refused (set tableCalls 60 0x07) 9 60
+    -- 10: a function calls itself; the last call has no argument
+    ∷ refused (set tableCalls 54 0x02) 10 50
+    ∷ refused (take 67 (set (set tableCalls 66 0x00) 6 0x43)) 10 60
+    -- not of 01: the compiler's refusals
     ∷ uncompiled tableA 2 (replicate 20 7) 14 0
+    ∷ uncompiled tableOperations 5 (replicate 20 7) 15 0
+    ∷ uncompiled tableWords 4 (replicate 20 7) 16 0
     ∷ uncompiled tableA 1 (replicate 19 7) 17 0
+    -- not of 01: the runner's refusals
     ∷ unrun (set codeA 10 0x04) (three ∷ half ∷ []) (replicate 3 7) (replicate 1 7) 18 0
     ∷ unrun codeA (three ∷ []) (replicate 3 7) (replicate 1 7) 19 0
     ∷ unrun codeA (three ∷ infinite ∷ []) (replicate 3 7) (replicate 1 7) 20 0
@@ -142,4 +214,4 @@ cases =
 pub settled : Each Holds cases
 unfolding verdict table need _>>=_ _>>_ via nodeMeans meaningOf results operationsOf resultWordsOf schedule inlined encode decode guard then execute compiled ran decimal functionLine listing Ieee.add Ieee.mul Ieee.ofBits Ieee.toBits
 settled =
-    ((refl, refl), (refl, (refl, (refl, (refl, (refl, (refl, (refl, (refl, (refl, ((refl, refl), ((refl, refl), ((refl, refl), ((refl, refl), (refl, (refl, (refl, (refl, (refl, (refl, (refl, tt)))))))))))))))))))))
+    ((refl, refl), (refl, (refl, (refl, (refl, (refl, (refl, (refl, (refl, (refl, ((refl, refl), ((refl, refl), ((refl, refl), ((refl, refl), (refl, (refl, (refl, (refl, (refl, (refl, (refl, (refl, (refl, (refl, (refl, (refl, (refl, (refl, (refl, (refl, (refl, (refl, (refl, (refl, (refl, (refl, (refl, tt)))))))))))))))))))))))))))))))))))))

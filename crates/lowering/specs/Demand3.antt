@@ -1,52 +1,56 @@
 -- Demand 3 as one statement: from table to output words.
 use Prim.Native.Nat.{ℕ, _≤_}
 use mathlib.Core.Path.{_≡_}
-use mathlib.Core.List.{List}
+use mathlib.Core.List.{List, reverse}
 use mathlib.Core.Option.{some}
-use lib.ListN.{length, take}
+use lib.ListN.{length}
 use lib.Seq.{sets}
 use Rattle.ports.specs.Ports.{widths}
 use Rattle.base.specs.Lists.{wordAt, Each}
-use Rattle.value.specs.Typed.{Finite}
-use Rattle.base.specs.Outcome.{ok}
 use Rattle.base.specs.Bytes.{Bytes}
+use Rattle.base.specs.Limits.{operationLimit, wordLimit}
+use Rattle.value.specs.Typed.{Finite}
 use Rattle.graph.specs.Graph.{Function}
-use Rattle.graph.specs.Judge.{outputTypes, table}
+use Rattle.graph.specs.Read.{version1}
+use Rattle.graph.specs.Rules.{Meets}
+use Rattle.graph.specs.Judge.{outputTypes}
 use Rattle.graph.specs.Sums.{functionOperations, operationsOf, functionWords}
 use Rattle.graph.specs.Meaning.{graphMeans}
 use Rattle.graph.specs.Table.{Chosen, chosen}
-use Rattle.base.specs.Limits.{operationLimit, wordLimit}
-use Rattle.lowering.specs.Answers.{codeOf, Compiled, compiled}
-use Rattle.bytecode.specs.Answers.{Buffers, ran}
+use Rattle.lowering.specs.Answers.{codeOf}
 
--- a function of an accepted table, within the limits
-pub record Within (s : List ℕ) (c : ℕ) (fs : List Function) (x : Chosen) : Type 0 where
+-- the bytes are a table of these functions that meets 01's rules, and the function of the id is within the limits; `functions` has the
+-- order of the table
+pub record Within (s : List ℕ) (c : ℕ) (functions : List Function) (x : Chosen) : Type 0 where
   pub bytes : Bytes s
-  pub accepted : table s ≡ ok fs
-  pub chosen : chosen c fs ≡ some x
+  pub meets : Meets version1 s functions
+  pub chosen : chosen c (reverse functions) ≡ some x
   pub operations : functionOperations (operationsOf (x .early)) (x .function) ≤ operationLimit
   pub words : functionWords (x .early) (x .function) ≤ wordLimit
 
--- arguments of the right count, and buffers that are long enough
-pub record Lent (x : Chosen) (buffer arguments work out : List ℕ) : Type 0 where
-  pub code-fits : length (codeOf x) ≤ length buffer
+-- finite arguments of the right count, and buffers that are long enough
+pub record Lent (x : Chosen) (arguments code work out : List ℕ) : Type 0 where
   pub finite : Each Finite arguments
   pub count : length arguments ≡ widths (x .function .inputs)
+  pub code-fits : length (codeOf x) ≤ length code
   pub work-fits : functionWords (x .early) (x .function) ≤ length work
   pub out-fits : widths (outputTypes (x .function .outputs)) ≤ length out
 
--- the compiler takes the function and writes its list; the runner takes that list's bytes alone, and the output buffer then begins
--- with the words of what the graph means, in number and bit for bit; behind them and behind the list's words nothing has changed
-pub record Demand3 (s : List ℕ) (c : ℕ) (fs : List Function) (x : Chosen) (buffer arguments work out : List ℕ) : Type 0 where
-  pub code : Compiled
-  pub compiles : compiled s c buffer ≡ ok code
-  pub list : code ≡ record { size = length (codeOf x); buffer = sets buffer 0 (codeOf x) }
-  pub after : Buffers
-  pub runs : ran (take (code .size) (code .buffer)) arguments work out ≡ ok after
+-- the answer is the count of the words that the graph means, and the output buffer begins with these words, bit for bit; the code buffer
+-- begins with the list's bytes; behind these, and behind the list's words in the work buffer, nothing has changed
+pub record Meant (Answer : ℕ → Type 0) (functions : List Function) (c : ℕ) (x : Chosen) (arguments code work out code′ work′ out′ : List ℕ) : Type 0 where
   pub answer : List ℕ
-  pub meant : graphMeans fs c arguments ≡ some answer
+  pub meant : graphMeans (reverse functions) c arguments ≡ some answer
   pub size : length answer ≡ widths (outputTypes (x .function .outputs))
-  pub count : after .count ≡ length answer
-  pub given : after .out ≡ sets out 0 answer
-  pub same : length (after .work) ≡ length work
-  pub rest : (i : ℕ) → functionWords (x .early) (x .function) ≤ i → wordAt (after .work) i ≡ wordAt work i
+  pub count : Answer (length answer)
+  pub given : out′ ≡ sets out 0 answer
+  pub list : code′ ≡ sets code 0 (codeOf x)
+  pub same : length work′ ≡ length work
+  pub rest : (i : ℕ) → functionWords (x .early) (x .function) ≤ i → wordAt work′ i ≡ wordAt work i
+
+-- for every function of an accepted table within the limits, finite arguments of the right count, and buffers that are long enough;
+-- `Answer n` says that the answer is n, in the form in which it is given
+abbrev pub Demand3 : (ℕ → Type 0) → List ℕ → ℕ → List ℕ → List ℕ → List ℕ → List ℕ → List ℕ → List ℕ → List ℕ → Type 0
+Demand3 Answer s c arguments code work out code′ work′ out′ =
+    (functions : List Function) (x : Chosen) → Within s c functions x → Lent x arguments code work out
+    → Meant Answer functions c x arguments code work out code′ work′ out′

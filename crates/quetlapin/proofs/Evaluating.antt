@@ -1,31 +1,30 @@
--- The refusals of an evaluation in their order, its answer, and demand 3.
+-- An evaluation judges everything before it writes. Its refusals are those of the compiler and then of the runner, in their order: 18
+-- does not arise, since the runner reads the list that the compiler wrote. Where nothing is refused both pass, and demand 3 holds.
 use Prim.Native.Nat.{ℕ, suc, _≤_, _<_}
-use mathlib.Core.Path.{_≡_, refl, ap, sym, _∙_, subst}
+use mathlib.Core.Path.{_≡_, refl, ap, sym, _∙_}
 use mathlib.Core.Bool.{Bool, true, false, _&&_}
 use mathlib.Core.List.{List, [], _∷_}
-use mathlib.Core.Option.{Option, none, some}
 use native.Mathlib.Omega.{arith}
 use lib.Dec.{leb, eqb}
 use lib.ListN.{length, take}
 use lib.Seq.{sets}
-use borrow.Author.Tests.{leb-true, le-leb, lt-leb, eq-eqb, ne-eqb}
+use borrow.Author.Tests.{le-leb, lt-leb, eq-eqb, ne-eqb}
 use Rattle.ports.specs.Ports.{widths}
 use Rattle.base.specs.Lists.{wordAt, every, Word, Each}
 use Rattle.value.specs.Values.{argumentWord}
-use Rattle.base.specs.Outcome.{Outcome, ok, fault, _>>=_, orElse}
+use Rattle.base.specs.Outcome.{Outcome, ok, fault, _>>=_}
 use Rattle.base.specs.Bytes.{Bytes}
 use Rattle.graph.specs.Graph.{Function}
-use Rattle.graph.specs.Judge.{outputTypes, table}
-use Rattle.graph.specs.Sums.{functionOperations, operationsOf, functionWords}
-use Rattle.graph.specs.Table.{Chosen, chosen}
-use Rattle.base.proofs.Outcomes.{took, passed, takes, stops, passes, fails, ok-is}
-use Rattle.base.specs.Limits.{operationLimit, wordLimit}
+use Rattle.graph.specs.Judge.{outputTypes}
+use Rattle.graph.specs.Sums.{functionWords}
+use Rattle.graph.specs.Table.{Chosen}
+use Rattle.base.proofs.Outcomes.{takes, stops, passes, fails}
+use Rattle.bytecode.specs.Answers.{Buffers, ran}
 use Rattle.lowering.specs.Answers as Answers
-use Rattle.lowering.specs.Answers.{within, compilable, codeOf, compiled, evaluated}
-use Rattle.bytecode.specs.Answers.{ran}
-use Rattle.lowering.specs.Demand3.{Within, Lent}
+use Rattle.lowering.specs.Answers.{compilable, codeOf, compiled, evaluated}
+use Rattle.lowering.specs.Demand3.{Within, Lent, Demand3}
 use Rattle.value.proofs.Laws.{each-finite}
-use Rattle.lowering.proofs.Whole.{demand3, evaluates}
+use Rattle.lowering.proofs.Whole.{front, compilable-within, leaves, withCode, compiles, runOrRefusal, evaluated-is, list-ok, evaluated-ok, demand3}
 use Rattle.sums.specs.declared.Sizes.{Sizes}
 use Rattle.sums.specs.declared.Measured.{Measured}
 use Rattle.sums.specs.Answers.{exactSizes, measuredOf}
@@ -34,15 +33,14 @@ use Rattle.runner.specs.declared.Ran.{Ran}
 use Rattle.runner.specs.Runs as runner
 use Rattle.quetlapin.specs.declared.Evaluated.{Evaluated}
 use Rattle.quetlapin.specs.declared.Evaluated.the-variants.{Done, Refused}
-use Rattle.quetlapin.specs.Answers.{answerOf, fromRun, codeAfter, workAfter, outAfter, Answered, Demand3}
+use Rattle.quetlapin.specs.Numbers.{numberOf, ofEvaluated}
+use Rattle.quetlapin.specs.Answers.{answerOf, fromRun, codeAfter, workAfter, outAfter, Answered}
 
 -- ---- a function that can be compiled, and its sizes
 
 pub record Sized (s : List ℕ) (c : ℕ) (m : Sizes) : Type 0 where
-  functions : List Function
   it : Chosen
-  accepted : table s ≡ ok functions
-  found : within functions c ≡ ok it
+  found : compilable s c ≡ ok it
   words : m .words ≡ functionWords (it .early) (it .function)
   code : m .code ≡ length (codeOf it)
   arguments : m .arguments ≡ widths (it .function .inputs)
@@ -60,68 +58,53 @@ pub sized : (s : List ℕ) (c : ℕ) (m : Sizes) → measuredOf (compilable s c)
 unfolding exactSizes
 sized s c m e =
     let (x, p, q) = measured-is (compilable s c) m e in
-    let (fs, a, b) = took (table s) (λ fs. within fs c) x p in
     record {
-      functions = fs;
       it = x;
-      accepted = a;
-      found = b;
+      found = p;
       words = sym (ap (λ (z : Sizes). z .words) q);
       code = sym (ap (λ (z : Sizes). z .code) q);
       arguments = sym (ap (λ (z : Sizes). z .arguments) q);
       outputs = sym (ap (λ (z : Sizes). z .outputs) q);
     }
 
-is-there : (o : Option Chosen) (n p : ℕ) (x : Chosen) → orElse o n p ≡ ok x → o ≡ some x
-is-there none n p x e = let z : _≡_ {A = ℕ} 0 1 = cc in absurd (omega arith)
-is-there (some y) n p x e = (cc)
-
--- it is within the limits
-within-is : (s : List ℕ) (c : ℕ) (m : Sizes) → Bytes s → (z : Sized s c m) → Within s c (z .functions) (z .it)
-within-is s c m bs z =
-    let (x, p, q) = took (orElse (chosen c (z .functions)) 14 0) _ (z .it) (z .found) in
-    let (o, q1) = passed (leb (functionOperations (operationsOf (x .early)) (x .function)) operationLimit) 15 0 _ (z .it) q in
-    let (w, q2) = passed (leb (functionWords (x .early) (x .function)) wordLimit) 16 0 _ (z .it) q1 in
-    let same : x ≡ z .it = ok-is q2 in
-    record {
-      bytes = bs;
-      accepted = z .accepted;
-      chosen = is-there (chosen c (z .functions)) 14 0 (z .it) (p ∙ q2);
-      operations = subst (λ (y : Chosen). functionOperations (operationsOf (y .early)) (y .function) ≤ operationLimit) same (leb-true _ _ o);
-      words = subst (λ (y : Chosen). functionWords (y .early) (y .function) ≤ wordLimit) same (leb-true _ _ w);
-    }
-
 each-word : (xs : List ℕ) → ((i : ℕ) → Word (wordAt xs i)) → Each Word xs
 each-word [] h = tt
 each-word (x ∷ xs) h = (h 0, each-word xs (λ i. h (suc i)))
 
--- ---- demand 3, of every answer that is the definition's
-
 module _ (s : List ℕ) (c : ℕ) (arguments code work out : List ℕ) where
+  -- demand 3, of every answer that is the definition's
   pub meant : (code′ work′ out′ : List ℕ) (r : Evaluated) → Answered (evaluated s c arguments code work out) code work out code′ work′ out′ r
-      → Demand3 s c arguments code work out code′ work′ out′ r
+      → Demand3 (λ n. r ≡ Done n) s c arguments code work out code′ work′ out′
   unfolding answerOf codeAfter workAfter outAfter
-  meant code′ work′ out′ r a fs x w l =
-      let claim = demand3 s c fs x w code arguments work out l in
-      let e = evaluates s c fs x w code arguments work out l in
-      let same : claim .after ≡ e .after =
-      ok-is (sym (claim .runs) ∙ ap (λ (y : Answers.Compiled). ran (take (y .size) (y .buffer)) arguments work out) (claim .list) ∙ e .runs) in
-      let work-is : work′ ≡ claim .after .work = a .work-after ∙ ap (λ (g : Outcome Answers.Evaluated). workAfter g work) (e .answer) ∙ ap (λ (b : Answers.Buffers). b .work) (sym same) in
+  meant code′ work′ out′ r a =
+      demand3 s c arguments code work out {Answer = λ n. r ≡ Done n}
+      (λ e q. (
+        a .answer ∙ ap answerOf q,
+        a .code-after ∙ ap (λ (g : Outcome Answers.Evaluated). codeAfter g code) q,
+        a .work-after ∙ ap (λ (g : Outcome Answers.Evaluated). workAfter g work) q,
+        a .out-after ∙ ap (λ (g : Outcome Answers.Evaluated). outAfter g out) q,
+      ))
+
+  -- and of its number
+  pub meant-number : (code′ work′ out′ : List ℕ) {r : Evaluated} {n : ℕ} → Demand3 (λ k. r ≡ Done k) s c arguments code work out code′ work′ out′
+      → n ≡ numberOf (ofEvaluated r) → Demand3 (λ k. n ≡ k) s c arguments code work out code′ work′ out′
+  meant-number code′ work′ out′ d e functions x w l =
+      let m = d functions x w l in
       record {
-        answer = claim .answer;
-        meant = claim .meant;
-        size = claim .size;
-        count = a .answer ∙ ap answerOf (e .answer) ∙ ap (λ (b : Answers.Buffers). Done (b .count)) (sym same) ∙ ap Done (claim .count);
-        given = a .out-after ∙ ap (λ (g : Outcome Answers.Evaluated). outAfter g out) (e .answer) ∙ ap (λ (b : Answers.Buffers). b .out) (sym same) ∙ claim .given;
-        list = a .code-after ∙ ap (λ (g : Outcome Answers.Evaluated). codeAfter g code) (e .answer);
-        same = ap length work-is ∙ claim .same;
-        rest = λ i h. ap (λ (m : List ℕ). wordAt m i) work-is ∙ claim .rest i h;
+        answer = m .answer;
+        meant = m .meant;
+        size = m .size;
+        count = e ∙ ap (λ (r : Evaluated). numberOf (ofEvaluated r)) (m .count);
+        given = m .given;
+        list = m .list;
+        same = m .same;
+        rest = m .rest;
       }
 
   -- what the contract says
   abbrev pub Says : List ℕ → List ℕ → List ℕ → Evaluated → Type 0
   Says code′ work′ out′ r =
-      Answered (evaluated s c arguments code work out) code work out code′ work′ out′ r × Demand3 s c arguments code work out code′ work′ out′ r
+      Answered (evaluated s c arguments code work out) code work out code′ work′ out′ r × Demand3 (λ n. r ≡ Done n) s c arguments code work out code′ work′ out′
 
   -- ---- refusals
 
@@ -132,66 +115,62 @@ module _ (s : List ℕ) (c : ℕ) (arguments code work out : List ℕ) where
       record { answer = sym (ap answerOf e); code-after = rw e; work-after = rw e; out-after = rw e } in
       (a, meant code work out (Refused n p) a)
 
-  before-fault : (t : Outcome (List Function)) (k : List Function → Chosen → Outcome Answers.Evaluated) (n p : ℕ)
-      → (t >>= λ fs. within fs c) ≡ fault n p → (t >>= λ fs. within fs c >>= k fs) ≡ fault n p
-  unfolding _>>=_
-  before-fault (ok fs) k n p e = stops (within fs c) (k fs) n p e
-  before-fault (fault a b) k n p e = (cc)
-
   pub refused-table : (n p : ℕ) → measuredOf (compilable s c) ≡ Measured.Refused n p → Says code work out (Refused n p)
-  unfolding evaluated
-  refused-table n p e = refused n p (before-fault (table s) _ n p (measured-refused (compilable s c) n p e))
+  unfolding evaluated compiled
+  refused-table n p e =
+      refused n p (stops (compiled s c code) _ n p (stops (compilable s c) _ n p (measured-refused (compilable s c) n p e)))
 
-  module _ (m : Sizes) (z : Sized s c m) where
+  module _ (small : Bytes s) (m : Sizes) (z : Sized s c m) where
     abbrev x : Chosen
     x = z .it
 
+    abbrev functions : List Function
+    functions = compilable-within s c x small (z .found) .0
+
+    abbrev w : Within s c functions x
+    w = compilable-within s c x small (z .found) .1
+
     pub refused-17 : length code < m .code → Says code work out (Refused 17 0)
-    unfolding evaluated
+    unfolding evaluated compiled
     refused-17 l =
         let q = z .code in
         refused 17 0
-        (takes (table s) _ (z .functions) (z .accepted)
-        ∙ takes (within (z .functions) c) _ x (z .found)
-        ∙ fails (leb (length (codeOf x)) (length code)) 17 0 _ (lt-leb (length (codeOf x)) (length code) (omega arith)))
+        (stops (compiled s c code) _ 17 0
+        (takes (compilable s c) _ x (z .found)
+        ∙ fails (leb (length (codeOf x)) (length code)) 17 0 _ (lt-leb (length (codeOf x)) (length code) (omega arith))))
 
     module _ (l17 : m .code ≤ length code) where
       code-fits : length (codeOf x) ≤ length code
       code-fits = let q = z .code in omega arith
 
+      -- the runner's refusals
+      refused-run : (n : ℕ) → runOrRefusal s c functions x w arguments code work out ≡ fault n 0 → Says code work out (Refused n 0)
+      refused-run n e =
+          refused n 0
+          (evaluated-is s c functions x w arguments code work out code-fits
+          ∙ stops (runOrRefusal s c functions x w arguments code work out) (λ b. ok (withCode x code b)) n 0 e)
+
       pub refused-19 : (length arguments ≡ m .arguments → ⊥) → Says code work out (Refused 19 0)
-      unfolding evaluated
       refused-19 n =
-          refused 19 0
-          (takes (table s) _ (z .functions) (z .accepted)
-          ∙ takes (within (z .functions) c) _ x (z .found)
-          ∙ passes (leb (length (codeOf x)) (length code)) 17 0 _ (le-leb (length (codeOf x)) (length code) code-fits)
-          ∙ fails (eqb (length arguments) (widths (x .function .inputs))) 19 0 _ (ne-eqb (length arguments) (widths (x .function .inputs)) (λ q. n (q ∙ sym (z .arguments)))))
+          refused-run 19
+          (fails (eqb (length arguments) (widths (x .function .inputs))) 19 0 _ (ne-eqb (length arguments) (widths (x .function .inputs)) (λ q. n (q ∙ sym (z .arguments)))))
 
       module _ (l19 : length arguments ≡ m .arguments) where
         count-right : length arguments ≡ widths (x .function .inputs)
         count-right = l19 ∙ z .arguments
 
         pub refused-20 : every argumentWord arguments ≡ false → Says code work out (Refused 20 0)
-        unfolding evaluated
         refused-20 f =
-            refused 20 0
-            (takes (table s) _ (z .functions) (z .accepted)
-            ∙ takes (within (z .functions) c) _ x (z .found)
-            ∙ passes (leb (length (codeOf x)) (length code)) 17 0 _ (le-leb (length (codeOf x)) (length code) code-fits)
-            ∙ passes (eqb (length arguments) (widths (x .function .inputs))) 19 0 _ (eq-eqb (length arguments) (widths (x .function .inputs)) count-right)
+            refused-run 20
+            (passes (eqb (length arguments) (widths (x .function .inputs))) 19 0 _ (eq-eqb (length arguments) (widths (x .function .inputs)) count-right)
             ∙ fails (every argumentWord arguments) 20 0 _ f)
 
         module _ (l20 : every argumentWord arguments ≡ true) where
           short : (leb (functionWords (x .early) (x .function)) (length work) && leb (widths (outputTypes (x .function .outputs))) (length out)) ≡ false
               → Says code work out (Refused 21 0)
-          unfolding evaluated
           short f =
-              refused 21 0
-              (takes (table s) _ (z .functions) (z .accepted)
-              ∙ takes (within (z .functions) c) _ x (z .found)
-              ∙ passes (leb (length (codeOf x)) (length code)) 17 0 _ (le-leb (length (codeOf x)) (length code) code-fits)
-              ∙ passes (eqb (length arguments) (widths (x .function .inputs))) 19 0 _ (eq-eqb (length arguments) (widths (x .function .inputs)) count-right)
+              refused-run 21
+              (passes (eqb (length arguments) (widths (x .function .inputs))) 19 0 _ (eq-eqb (length arguments) (widths (x .function .inputs)) count-right)
               ∙ passes (every argumentWord arguments) 20 0 _ l20
               ∙ fails (leb (functionWords (x .early) (x .function)) (length work) && leb (widths (outputTypes (x .function .outputs))) (length out)) 21 0 _ f)
 
@@ -214,15 +193,15 @@ module _ (s : List ℕ) (c : ℕ) (arguments code work out : List ℕ) where
 
           -- ---- the answer
 
-          module _ (bs : Bytes s) (ws : (i : ℕ) → Word (wordAt arguments i)) (l21 : m .words ≤ length work) (l21′ : m .outputs ≤ length out) where
-            lent : Lent x code arguments work out
+          module _ (ws : (i : ℕ) → Word (wordAt arguments i)) (l21 : m .words ≤ length work) (l21′ : m .outputs ≤ length out) where
+            lent : Lent x arguments code work out
             lent =
                 let q1 = z .words in
                 let q2 = z .outputs in
                 record {
-                  code-fits = code-fits;
                   finite = each-finite arguments l20 (each-word arguments ws);
                   count = count-right;
+                  code-fits = code-fits;
                   work-fits = omega arith;
                   out-fits = omega arith;
                 }
@@ -232,23 +211,20 @@ module _ (s : List ℕ) (c : ℕ) (arguments code work out : List ℕ) where
                 → runner.Answered (ran (take (m .code) code′) arguments work out) work out work′ out′ a → r ≡ fromRun a → Says code′ work′ out′ r
             unfolding answerOf codeAfter workAfter outAfter runner.answerOf runner.workAfter runner.outAfter
             completed {code′} {work′} {out′} {a} {r} ec er ea =
-                let w = within-is s c m bs z in
-                let claim = demand3 s c (z .functions) x w code arguments work out lent in
-                let e = evaluates s c (z .functions) x w code arguments work out lent in
-                let list : code′ ≡ sets code 0 (codeOf x) =
-                ec ∙ ap (compiler.codeAfter code) (claim .compiles) ∙ ap (λ (y : Answers.Compiled). y .buffer) (claim .list) in
-                let runs : ran (take (m .code) code′) arguments work out ≡ ok (e .after) =
-                ap (λ (k : ℕ). ran (take k code′) arguments work out) (z .code)
-                ∙ ap (λ (y : List ℕ). ran (take (length (codeOf x)) y) arguments work out) list ∙ e .runs in
+                let e = evaluated-ok s c functions x w arguments code work out lent in
+                let list : code′ ≡ sets code 0 (codeOf x) = ec ∙ ap (compiler.codeAfter code) (compiles s c functions x w code code-fits) in
+                let bytes : take (m .code) code′ ≡ codeOf x = ap (λ (k : ℕ). take k code′) (z .code) ∙ ap (take (length (codeOf x))) list ∙ front code (codeOf x) code-fits in
+                let runs : ran (take (m .code) code′) arguments work out ≡ ok (leaves x arguments work out) =
+                ap (λ (k : List ℕ). ran k arguments work out) bytes ∙ list-ok s c functions x w arguments code work out lent in
                 let t : Answered (evaluated s c arguments code work out) code work out code′ work′ out′ r =
                 record {
-                  answer = ea ∙ ap fromRun (er .answer ∙ ap runner.answerOf runs) ∙ sym (ap answerOf (e .answer));
-                  code-after = list ∙ sym (ap (λ (g : Outcome Answers.Evaluated). codeAfter g code) (e .answer));
+                  answer = ea ∙ ap fromRun (er .answer ∙ ap runner.answerOf runs) ∙ sym (ap answerOf e);
+                  code-after = list ∙ sym (ap (λ (g : Outcome Answers.Evaluated). codeAfter g code) e);
                   work-after =
-                      er .work-after ∙ ap (λ (g : Outcome Answers.Buffers). runner.workAfter g work) runs
-                      ∙ sym (ap (λ (g : Outcome Answers.Evaluated). workAfter g work) (e .answer));
+                      er .work-after ∙ ap (λ (g : Outcome Buffers). runner.workAfter g work) runs
+                      ∙ sym (ap (λ (g : Outcome Answers.Evaluated). workAfter g work) e);
                   out-after =
-                      er .out-after ∙ ap (λ (g : Outcome Answers.Buffers). runner.outAfter g out) runs
-                      ∙ sym (ap (λ (g : Outcome Answers.Evaluated). outAfter g out) (e .answer));
+                      er .out-after ∙ ap (λ (g : Outcome Buffers). runner.outAfter g out) runs
+                      ∙ sym (ap (λ (g : Outcome Answers.Evaluated). outAfter g out) e);
                 } in
                 (t, meant code′ work′ out′ r t)

@@ -1,21 +1,9 @@
--- What `evaluate` answers, the three buffers after it, and demand 3 about it.
-use Prim.Native.Nat.{ℕ, _≤_}
+-- What `evaluate` answers, and the three buffers after it.
+use Prim.Native.Nat.{ℕ}
 use mathlib.Core.Path.{_≡_}
 use mathlib.Core.List.{List}
-use mathlib.Core.Option.{some}
-use lib.ListN.{length}
-use lib.Seq.{sets}
-use Rattle.ports.specs.Ports.{widths}
-use Rattle.base.specs.Lists.{wordAt}
 use Rattle.base.specs.Outcome.{Outcome, ok, fault}
-use Rattle.graph.specs.Graph.{Function}
-use Rattle.graph.specs.Judge.{outputTypes}
-use Rattle.graph.specs.Sums.{functionWords}
-use Rattle.graph.specs.Meaning.{graphMeans}
-use Rattle.graph.specs.Table.{Chosen}
 use Rattle.lowering.specs.Answers as Answers
-use Rattle.lowering.specs.Answers.{codeOf}
-use Rattle.lowering.specs.Demand3.{Within, Lent}
 use Rattle.runner.specs.declared.Ran.{Ran}
 use Rattle.runner.specs.declared.Ran.the-variants as ran
 use Rattle.quetlapin.specs.declared.Evaluated.{Evaluated}
@@ -50,22 +38,3 @@ pub record Answered (g : Outcome Answers.Evaluated) (code work out code′ work�
   pub code-after : code′ ≡ codeAfter g code
   pub work-after : work′ ≡ workAfter g work
   pub out-after : out′ ≡ outAfter g out
-
--- ---- demand 3
-
--- the answer is the count of the words that the graph means, and the output buffer begins with these words; the code buffer begins with
--- the list's bytes; behind these, and behind the list's words in the work buffer, nothing has changed
-pub record Meant (fs : List Function) (c : ℕ) (x : Chosen) (arguments code work out code′ work′ out′ : List ℕ) (r : Evaluated) : Type 0 where
-  pub answer : List ℕ
-  pub meant : graphMeans fs c arguments ≡ some answer
-  pub size : length answer ≡ widths (outputTypes (x .function .outputs))
-  pub count : r ≡ Done (length answer)
-  pub given : out′ ≡ sets out 0 answer
-  pub list : code′ ≡ sets code 0 (codeOf x)
-  pub same : length work′ ≡ length work
-  pub rest : (i : ℕ) → functionWords (x .early) (x .function) ≤ i → wordAt work′ i ≡ wordAt work i
-
--- for every function of an accepted table within the limits, finite arguments of the right count, and buffers that are long enough
-abbrev pub Demand3 : List ℕ → ℕ → List ℕ → List ℕ → List ℕ → List ℕ → List ℕ → List ℕ → List ℕ → Evaluated → Type 0
-Demand3 s c arguments code work out code′ work′ out′ r =
-    (fs : List Function) (x : Chosen) → Within s c fs x → Lent x code arguments work out → Meant fs c x arguments code work out code′ work′ out′ r

@@ -1,8 +1,8 @@
 -- Answers as one number, for other programs.
-use Prim.Native.Nat.{ℕ, _+_, _*_, _%_}
+use Prim.Native.Nat.{ℕ, _+_, _*_, _≤_, _<_}
 use mathlib.Core.List.{List}
 use mathlib.Core.Path.{_≡_}
-use Rattle.base.specs.Outcome.{Outcome}
+use Rattle.base.specs.Outcome.{Outcome, ok, fault}
 use Rattle.bytecode.specs.Answers.{Buffers}
 use Rattle.lowering.specs.Answers as Answers
 use Rattle.checker.specs.declared.Verdict.{Verdict}
@@ -11,45 +11,75 @@ use Rattle.compiler.specs.declared.Compiled.{Compiled}
 use Rattle.compiler.specs.declared.Compiled.the-variants as compiled
 use Rattle.runner.specs.declared.Ran.{Ran}
 use Rattle.runner.specs.declared.Ran.the-variants as ran
-use Rattle.runner.specs.Runs.{answerOf, workAfter, outAfter}
+use Rattle.runner.specs.Runs.{workAfter, outAfter}
 use Rattle.quetlapin.specs.declared.Evaluated.{Evaluated}
 use Rattle.quetlapin.specs.declared.Evaluated.the-variants as evaluated
 use Rattle.quetlapin.specs.Answers as evaluation
 
--- a refusal: the number, and the place in the low 32 bits
+-- ---- the number
+
+-- a refusal: its number times 2^32, and its place
 abbrev pub refusalNumber : ℕ → ℕ → ℕ
-refusalNumber n p = n * 0x1_0000_0000 + p % 0x1_0000_0000
+refusalNumber n p = n * 0x1_0000_0000 + p
 
-abbrev pub verdictNumber : Verdict → ℕ
-verdictNumber (verdict.Accepted n) = n
-verdictNumber (verdict.Refused n p) = refusalNumber n p
+-- a success stands for itself
+abbrev pub numberOf : Outcome ℕ → ℕ
+numberOf (ok n) = n
+numberOf (fault n p) = refusalNumber n p
 
-abbrev pub compiledNumber : Compiled → ℕ
-compiledNumber (compiled.Length n) = n
-compiledNumber (compiled.Refused n p) = refusalNumber n p
+-- a success is below 2^32; a refusal has one of 01's numbers, and its place is below 2^32
+abbrev pub Bounded : Outcome ℕ → Type 0
+Bounded (ok n) = n < 0x1_0000_0000
+Bounded (fault n p) = (1 ≤ n) × (n ≤ 21) × (p < 0x1_0000_0000)
 
-abbrev pub ranNumber : Ran → ℕ
-ranNumber (ran.Done n) = n
-ranNumber (ran.Refused n p) = refusalNumber n p
+-- so no two answers have the same number, and what another program is told is the answer
+pub record Told (o : Outcome ℕ) (r : ℕ) : Type 0 where
+  pub number : r ≡ numberOf o
+  pub bounds : Bounded o
 
-abbrev pub evaluatedNumber : Evaluated → ℕ
-evaluatedNumber (evaluated.Done n) = n
-evaluatedNumber (evaluated.Refused n p) = refusalNumber n p
+-- ---- what is told: the function count, the code's length, the count of output words, or the refusal
 
--- a run's answer, and both buffers after it
+module _ {A : Type 0} where
+  abbrev pub counted : (A → ℕ) → Outcome A → Outcome ℕ
+  counted f (ok a) = ok (f a)
+  counted f (fault n p) = fault n p
+
+abbrev pub codeLength : Outcome Answers.Compiled → Outcome ℕ
+codeLength = counted (λ a. a .size)
+
+abbrev pub runCount : Outcome Buffers → Outcome ℕ
+runCount = counted (λ b. b .count)
+
+abbrev pub evaluationCount : Outcome Answers.Evaluated → Outcome ℕ
+evaluationCount = counted (λ e. e .count)
+
+-- the same of the answers as enums
+
+abbrev pub ofVerdict : Verdict → Outcome ℕ
+ofVerdict (verdict.Accepted n) = ok n
+ofVerdict (verdict.Refused n p) = fault n p
+
+abbrev pub ofCompiled : Compiled → Outcome ℕ
+ofCompiled (compiled.Length n) = ok n
+ofCompiled (compiled.Refused n p) = fault n p
+
+abbrev pub ofRan : Ran → Outcome ℕ
+ofRan (ran.Done n) = ok n
+ofRan (ran.Refused n p) = fault n p
+
+abbrev pub ofEvaluated : Evaluated → Outcome ℕ
+ofEvaluated (evaluated.Done n) = ok n
+ofEvaluated (evaluated.Refused n p) = fault n p
+
+-- ---- with the buffers after it
+
 pub record RunAnswered (g : Outcome Buffers) (work out work′ out′ : List ℕ) (r : ℕ) : Type 0 where
-  pub answer : r ≡ ranNumber (answerOf g)
+  pub answer : Told (runCount g) r
   pub work-after : work′ ≡ workAfter g work
   pub out-after : out′ ≡ outAfter g out
 
--- an evaluation's answer, and the three buffers after it
 pub record EvaluationAnswered (g : Outcome Answers.Evaluated) (code work out code′ work′ out′ : List ℕ) (r : ℕ) : Type 0 where
-  pub answer : r ≡ evaluatedNumber (evaluation.answerOf g)
+  pub answer : Told (evaluationCount g) r
   pub code-after : code′ ≡ evaluation.codeAfter g code
   pub work-after : work′ ≡ evaluation.workAfter g work
   pub out-after : out′ ≡ evaluation.outAfter g out
-
--- the number of an answer of which demand 3 holds
-abbrev pub Demand3Number : List ℕ → ℕ → List ℕ → List ℕ → List ℕ → List ℕ → List ℕ → List ℕ → List ℕ → ℕ → Type 0
-Demand3Number s c arguments code work out code′ work′ out′ r =
-    (e : Evaluated) × (r ≡ evaluatedNumber e) × evaluation.Demand3 s c arguments code work out code′ work′ out′ e

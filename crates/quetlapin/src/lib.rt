@@ -1,13 +1,15 @@
 // From table to output words in one call, and the entry points for other programs: there an answer is one number,
 // a refusal's number times 2^32 and its place.
 ghost use mathlib.Core.Path.{_≡_};
+ghost use Prim.Native.Nat.{_<_};
 ghost use Rattle.graph.specs.Judge.{verdict};
 ghost use Rattle.lowering.specs.Answers.{compiled, evaluated};
+ghost use Rattle.lowering.specs.Demand3.{Demand3};
 ghost use Rattle.bytecode.specs.Answers.{ran};
-ghost use Rattle.checker.specs.Answers.{verdictOf};
-ghost use Rattle.compiler.specs.Whole.{answerOf, codeAfter};
-ghost use Rattle.quetlapin.specs.Answers.{fromRun, Answered, Demand3};
-ghost use Rattle.quetlapin.specs.Numbers.{refusalNumber, verdictNumber, compiledNumber, ranNumber, RunAnswered, evaluatedNumber, EvaluationAnswered, Demand3Number};
+ghost use Rattle.compiler.specs.Whole.{codeAfter};
+ghost use Rattle.quetlapin.specs.declared.Evaluated.the-variants.{Done};
+ghost use Rattle.quetlapin.specs.Answers.{fromRun, Answered};
+ghost use Rattle.quetlapin.specs.Numbers.{refusalNumber, numberOf, Bounded, Told, codeLength, ofVerdict, ofCompiled, ofRan, ofEvaluated, RunAnswered, EvaluationAnswered};
 use checker::Verdict;
 use compiler::Compiled;
 use runner::Ran;
@@ -40,8 +42,8 @@ pub fn evaluate(
 ) -> Evaluated
     ensures { λ r. ⌜ Answered (evaluated (now (table .entry)) id (now (arguments .entry)) (now (code .entry)) (now (work .entry)) (now (out .entry)))
         (now (code .entry)) (now (work .entry)) (now (out .entry)) (now (code .exit)) (now (work .exit)) (now (out .exit)) r ⌝ }
-    ensures { λ r. ⌜ Demand3 (now (table .entry)) id (now (arguments .entry)) (now (code .entry)) (now (work .entry)) (now (out .entry))
-        (now (code .exit)) (now (work .exit)) (now (out .exit)) r ⌝ }
+    ensures { λ r. ⌜ Demand3 (λ n. r ≡ Done n) (now (table .entry)) id (now (arguments .entry)) (now (code .entry)) (now (work .entry)) (now (out .entry))
+        (now (code .exit)) (now (work .exit)) (now (out .exit)) ⌝ }
 {
     let measured = sums::measure_named(table, id);
     match measured {
@@ -70,13 +72,15 @@ pub fn evaluate(
 }
 
 fn refusal_number(n: u8, p: usize) -> u64
+    requires { ⌜ p < 0x1_0000_0000 ⌝ }
     ensures { λ r. ⌜ r ≡ refusalNumber n p ⌝ }
 {
-    (n as u64) * 0x1_0000_0000 + (p as u64) % 0x1_0000_0000
+    (n as u64) * 0x1_0000_0000 + p as u64
 }
 
 fn verdict_number(v: Verdict) -> u64
-    ensures { λ r. ⌜ r ≡ verdictNumber v ⌝ }
+    requires { ⌜ Bounded (ofVerdict v) ⌝ }
+    ensures { λ r. ⌜ r ≡ numberOf (ofVerdict v) ⌝ }
 {
     match v {
         Verdict::Accepted(n) => n as u64,
@@ -85,7 +89,8 @@ fn verdict_number(v: Verdict) -> u64
 }
 
 fn compiled_number(a: Compiled) -> u64
-    ensures { λ r. ⌜ r ≡ compiledNumber a ⌝ }
+    requires { ⌜ Bounded (ofCompiled a) ⌝ }
+    ensures { λ r. ⌜ r ≡ numberOf (ofCompiled a) ⌝ }
 {
     match a {
         Compiled::Length(n) => n as u64,
@@ -94,7 +99,8 @@ fn compiled_number(a: Compiled) -> u64
 }
 
 fn ran_number(a: Ran) -> u64
-    ensures { λ r. ⌜ r ≡ ranNumber a ⌝ }
+    requires { ⌜ Bounded (ofRan a) ⌝ }
+    ensures { λ r. ⌜ r ≡ numberOf (ofRan a) ⌝ }
 {
     match a {
         Ran::Done(n) => n as u64,
@@ -103,7 +109,8 @@ fn ran_number(a: Ran) -> u64
 }
 
 fn evaluated_number(a: Evaluated) -> u64
-    ensures { λ r. ⌜ r ≡ evaluatedNumber a ⌝ }
+    requires { ⌜ Bounded (ofEvaluated a) ⌝ }
+    ensures { λ r. ⌜ r ≡ numberOf (ofEvaluated a) ⌝ }
 {
     match a {
         Evaluated::Done(n) => n as u64,
@@ -114,7 +121,7 @@ fn evaluated_number(a: Evaluated) -> u64
 // Checks a table: the function count, or a refusal.
 #[no_mangle]
 pub extern "C" fn ifg_check(table: &[u8]) -> u64
-    ensures { λ r. ⌜ r ≡ verdictNumber (verdictOf (verdict (now (table .entry)))) ⌝ }
+    ensures { λ r. ⌜ Told (verdict (now (table .entry))) r ⌝ }
 {
     verdict_number(checker::check(table))
 }
@@ -122,7 +129,7 @@ pub extern "C" fn ifg_check(table: &[u8]) -> u64
 // Compiles a function: the code's length, or a refusal, which leaves every byte of the buffer.
 #[no_mangle]
 pub extern "C" fn ifg_compile(table: &[u8], id: u16, code: &mut [u8]) -> u64
-    ensures { λ r. ⌜ r ≡ compiledNumber (answerOf (compiled (now (table .entry)) id (now (code .entry)))) ⌝ }
+    ensures { λ r. ⌜ Told (codeLength (compiled (now (table .entry)) id (now (code .entry)))) r ⌝ }
     ensures { λ r. ⌜ now (code .exit) ≡ codeAfter (now (code .entry)) (compiled (now (table .entry)) id (now (code .entry))) ⌝ }
 {
     compiled_number(compiler::compile(table, id, code))
@@ -149,8 +156,8 @@ pub extern "C" fn ifg_evaluate(
 ) -> u64
     ensures { λ r. ⌜ EvaluationAnswered (evaluated (now (table .entry)) id (now (arguments .entry)) (now (code .entry)) (now (work .entry)) (now (out .entry)))
         (now (code .entry)) (now (work .entry)) (now (out .entry)) (now (code .exit)) (now (work .exit)) (now (out .exit)) r ⌝ }
-    ensures { λ r. ⌜ Demand3Number (now (table .entry)) id (now (arguments .entry)) (now (code .entry)) (now (work .entry)) (now (out .entry))
-        (now (code .exit)) (now (work .exit)) (now (out .exit)) r ⌝ }
+    ensures { λ r. ⌜ Demand3 (λ n. r ≡ n) (now (table .entry)) id (now (arguments .entry)) (now (code .entry)) (now (work .entry)) (now (out .entry))
+        (now (code .exit)) (now (work .exit)) (now (out .exit)) ⌝ }
 {
     evaluated_number(evaluate(table, id, arguments, code, work, out))
 }

@@ -1,87 +1,126 @@
--- `board::evaluate`: the refusals in their order, then the compiler and the runner.
+-- `quetlapin::evaluate`: the refusals in their order, then the compiler and the runner.
 use borrow.Author.Needs.{needs}
-use mathlib.Core.Path.{sym, _∙_}
+use mathlib.Core.Path.{_≡_, sym, _∙_}
+use mathlib.Core.Bool.{true}
 use native.Mathlib.Omega.{arith}
 use denote.Ref.{now}
 use borrow.Author.Tests.{not-true, not-false}
 use lib.Seq.{length-take-le}
+use Rattle.base.specs.Bytes.{Bytes}
+use Rattle.base.specs.Lists.{every}
+use Rattle.value.specs.Values.{argumentWord}
 use Rattle.quetlapin.proofs.Evaluating.{Sized, sized, refused-table, refused-17, refused-19, refused-20, refused-work, refused-out, completed}
 use Rattle.quetlapin.proofs.evaluate.Statement.{statement}
 use Rattle.quetlapin.proofs.evaluate.Tie as tie
 
+-- ---- the places: lent, measured, after each test, compiled, run
+
+abbrev lent : tie.After-measure-named → tie.After-slice-known
+lent c = c .before .before .before
+
+abbrev start : tie.After-measure-named → tie.Start
+start c = lent c .before .before .before
+
+abbrev measured : tie.After-known-told → tie.After-measure-named
+measured k = k .before .before .before
+
+abbrev told : tie.Else2 → tie.After-known-told
+told c = c .before .before .before
+
+abbrev counted : tie.Else3 → tie.Else2
+counted c = c .before .before
+
+abbrev allowed : tie.Else4 → tie.Else3
+allowed c = c .before .before
+
+abbrev roomy : tie.Else5 → tie.Else4
+roomy c = c .before .before
+
+abbrev compiled : tie.After-run-arg → tie.After-compile
+compiled c = c .before .before .before
+
+abbrev ran : tie.After-from-run → tie.After-run
+ran c = let o = c .before .before .before in o .before .before
+
+-- ---- what is known there
+
+bytes : (c : tie.After-measure-named) → Bytes (now (start c .args .table))
+bytes c i = omega (arith, lent c .before .before .shared-slice-known .given i)
+
 -- the sizes that were measured
-sizes-are : (k : tie.After-known-told) →
-    let a = k .before .before .before .before .before .before .before .before .before .args in
-    Sized (now (a .table)) (a .id) (k .before .measured .given .0 .0)
-sizes-are k = sized _ _ _ (sym (k .before .before .before .measure-named .ensures) ∙ k .before .measured .given .1)
+sizes : (k : tie.After-known-told) → Sized (now (start (measured k) .args .table)) (start (measured k) .args .id) (k .before .measured .given .0 .0)
+sizes k = sized _ _ _ (sym (measured k .measure-named .ensures) ∙ k .before .measured .given .1)
+
+finite : (e : tie.Else3) → every argumentWord (now (start (measured (told (counted e))) .args .arguments)) ≡ true
+finite e = sym (e .before .arguments-allowed .ensures) ∙ not-false _ (e .if3 .left)
 
 returns : tie.Need-returns
 returns c =
     let k = c .before in
-    let a = k .before .before .before .before .before .before .before .before .before .args in
-    refused-17 (now (a .table)) (a .id) (now (a .arguments)) (now (a .code)) (now (a .work)) (now (a .out)) _ (sizes-are k) (c .if1 .taken)
+    let a = start (measured k) .args in
+    refused-17 (now (a .table)) (a .id) (now (a .arguments)) (now (a .code)) (now (a .work)) (now (a .out)) (bytes (measured k)) _ (sizes k) (c .if1 .taken)
 
 returns-2 : tie.Need-returns-2
 returns-2 c =
     let k = c .before .before .before in
-    let a = k .before .before .before .before .before .before .before .before .before .args in
-    refused-19 (now (a .table)) (a .id) (now (a .arguments)) (now (a .code)) (now (a .work)) (now (a .out)) _ (sizes-are k) (c .before .before .if1 .left) (c .if2 .taken)
+    let a = start (measured k) .args in
+    refused-19 (now (a .table)) (a .id) (now (a .arguments)) (now (a .code)) (now (a .work)) (now (a .out)) (bytes (measured k)) _ (sizes k) (c .before .before .if1 .left)
+    (c .if2 .taken)
 
 returns-3 : tie.Need-returns-3
 returns-3 c =
     let d = c .before .before in
-    let k = d .before .before .before in
-    let a = k .before .before .before .before .before .before .before .before .before .args in
-    refused-20 (now (a .table)) (a .id) (now (a .arguments)) (now (a .code)) (now (a .work)) (now (a .out)) _ (sizes-are k) (d .before .before .if1 .left) (d .if2 .left)
-    (sym (c .before .arguments-allowed .ensures) ∙ not-true _ (c .if3 .taken))
+    let k = told d in
+    let a = start (measured k) .args in
+    refused-20 (now (a .table)) (a .id) (now (a .arguments)) (now (a .code)) (now (a .work)) (now (a .out)) (bytes (measured k)) _ (sizes k) (d .before .before .if1 .left)
+    (d .if2 .left) (sym (c .before .arguments-allowed .ensures) ∙ not-true _ (c .if3 .taken))
 
 returns-4 : tie.Need-returns-4
 returns-4 c =
     let e = c .before .before in
-    let d = e .before .before in
-    let k = d .before .before .before in
-    let a = k .before .before .before .before .before .before .before .before .before .args in
-    refused-work (now (a .table)) (a .id) (now (a .arguments)) (now (a .code)) (now (a .work)) (now (a .out)) _ (sizes-are k) (d .before .before .if1 .left) (d .if2 .left)
-    (sym (e .before .arguments-allowed .ensures) ∙ not-false _ (e .if3 .left)) (c .if4 .taken)
+    let d = counted e in
+    let k = told d in
+    let a = start (measured k) .args in
+    refused-work (now (a .table)) (a .id) (now (a .arguments)) (now (a .code)) (now (a .work)) (now (a .out)) (bytes (measured k)) _ (sizes k) (d .before .before .if1 .left)
+    (d .if2 .left) (finite e) (c .if4 .taken)
 
 returns-5 : tie.Need-returns-5
 returns-5 c =
-    let e = c .before .before .before .before in
-    let d = e .before .before in
-    let k = d .before .before .before in
-    let a = k .before .before .before .before .before .before .before .before .before .args in
-    refused-out (now (a .table)) (a .id) (now (a .arguments)) (now (a .code)) (now (a .work)) (now (a .out)) _ (sizes-are k) (d .before .before .if1 .left) (d .if2 .left)
-    (sym (e .before .arguments-allowed .ensures) ∙ not-false _ (e .if3 .left)) (omega (arith, c .if5 .taken))
+    let e = allowed (c .before .before) in
+    let d = counted e in
+    let k = told d in
+    let a = start (measured k) .args in
+    refused-out (now (a .table)) (a .id) (now (a .arguments)) (now (a .code)) (now (a .work)) (now (a .out)) (bytes (measured k)) _ (sizes k) (d .before .before .if1 .left)
+    (d .if2 .left) (finite e) (omega (arith, c .if5 .taken))
 
 -- the code's bytes are within the buffer
 slice-aggregate-run : tie.Need-slice-aggregate-run
 slice-aggregate-run c =
-    let m = c .before .before .before in
-    let e = m .before .before .before .before .before .before in
-    let l = e .before .before .before .before .if1 .left in
-    sym (length-take-le _ _ (omega (arith, m .compile .kept .1 .1 .0, l)))
+    let m = compiled c in
+    let d = counted (allowed (roomy (m .before .before))) in
+    sym (length-take-le _ _ (omega (arith, m .compile .kept .1 .1 .0, d .before .before .if1 .left)))
 
 returns-6 : tie.Need-returns-6
 returns-6 c =
-    let r = c .before .before .before .before .before in
-    let m = r .before .before .before .before .before .before in
+    let r = ran c in
+    let m = compiled (r .before .before .before) in
     let g = m .before .before in
-    let e = g .before .before .before .before in
-    let d = e .before .before in
-    let k = d .before .before .before in
-    let a = k .before .before .before .before .before .before .before .before .before .args in
-    completed (now (a .table)) (a .id) (now (a .arguments)) (now (a .code)) (now (a .work)) (now (a .out)) _ (sizes-are k) (d .before .before .if1 .left) (d .if2 .left)
-    (sym (e .before .arguments-allowed .ensures) ∙ not-false _ (e .if3 .left))
-    (λ i. omega (arith, k .before .before .before .before .before .before .before .before .shared-slice-known .given i))
-    (λ i. omega (arith, k .before .before .before .before .before .before .before .shared-slice-known2 .given i))
-    (g .before .before .if4 .left) (omega (arith, g .if5 .left))
+    let e = allowed (roomy g) in
+    let d = counted e in
+    let k = told d in
+    let b = measured k in
+    let a = start b .args in
+    completed (now (a .table)) (a .id) (now (a .arguments)) (now (a .code)) (now (a .work)) (now (a .out)) (bytes b) _ (sizes k) (d .before .before .if1 .left)
+    (d .if2 .left) (finite e) (λ i. omega (arith, lent b .before .shared-slice-known2 .given i))
+    (roomy g .if4 .left) (omega (arith, g .if5 .left))
     (m .compile .ensures .1) (r .run .ensures) (c .from-run .ensures)
 
 returns-7 : tie.Need-returns-7
 returns-7 c =
-    let a = c .before .before .before .before .before .before .before .before .before .args in
+    let b = c .before .before .before in
+    let a = start b .args in
     refused-table (now (a .table)) (a .id) (now (a .arguments)) (now (a .code)) (now (a .work)) (now (a .out)) _ _
-    (sym (c .before .before .before .measure-named .ensures) ∙ c .before .measured2 .given .1)
+    (sym (b .measure-named .ensures) ∙ c .before .measured2 .given .1)
 
 pub evaluate-spec : {M : Type 1} → statement M
 evaluate-spec =

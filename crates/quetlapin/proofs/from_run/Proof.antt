@@ -1,4 +1,4 @@
--- `board::from_run`, by the answer.
+-- `quetlapin::from_run`, by the answer.
 use borrow.Author.Needs.{needs}
 use mathlib.Core.Path.{refl}
 use Rattle.quetlapin.proofs.from_run.Statement.{statement}

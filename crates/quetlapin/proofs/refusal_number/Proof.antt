@@ -1,4 +1,4 @@
--- `board::refusal_number`: the number and the low half of the place.
+-- `quetlapin::refusal_number`: the number and the place.
 use borrow.Author.Needs.{needs}
 use mathlib.Core.Path.{refl}
 use Rattle.quetlapin.proofs.refusal_number.Statement.{statement}

@@ -1,0 +1,188 @@
+-- Every answer is told whole: a success is below 2^32, a refusal has one of 01's numbers and a place below 2^32, and so no two answers
+-- have the same number.
+use Prim.Native.Nat.{ℕ, _+_, _*_, _≤_, _<_}
+use mathlib.Core.Path.{_≡_, refl, ap, sym, _∙_, subst}
+use mathlib.Core.Bool.{Bool, true, false, _&&_}
+use mathlib.Core.List.{List}
+use mathlib.Core.Option.{Option, none, some}
+use native.Mathlib.Omega.{arith}
+use lib.Dec.{leb, eqb}
+use lib.ListN.{length}
+use borrow.Author.Tests.{leb-true}
+use Rattle.ports.specs.Ports.{widths}
+use Rattle.base.specs.Lists.{every}
+use Rattle.base.specs.Bytes.{Bytes}
+use Rattle.base.specs.Limits.{operationLimit, wordLimit}
+use Rattle.base.specs.Outcome.{Outcome, ok, fault, _>>=_, _>>_, need, orElse}
+use Rattle.base.proofs.Outcomes.{took, passed, stops}
+use Rattle.value.specs.Values.{argumentWord}
+use Rattle.graph.specs.Graph.{Function}
+use Rattle.graph.specs.Judge.{table, verdict, outputTypes}
+use Rattle.graph.specs.Sums.{functionOperations, operationsOf, functionWords}
+use Rattle.graph.specs.Table.{Chosen, chosen}
+use Rattle.graph.proofs.Ranges.{fault-bounds, count-bounds}
+use Rattle.bytecode.specs.Code.{decode}
+use Rattle.bytecode.specs.Answers.{Buffers, ran}
+use Rattle.bytecode.proofs.Decoded.{well-formed}
+use Rattle.lowering.specs.Answers as Answers
+use Rattle.lowering.specs.Answers.{within, compilable, codeOf, compiled, evaluated}
+use Rattle.lowering.specs.Demand3.{Within}
+use Rattle.lowering.proofs.Whole.{compilable-within, code-length, output-count, evaluated-is, runOrRefusal, withCode}
+use Rattle.checker.specs.Answers.{verdictOf}
+use Rattle.compiler.specs.Whole as compiler
+use Rattle.runner.specs.Runs as runner
+use Rattle.quetlapin.specs.Answers as evaluation
+use Rattle.quetlapin.specs.Numbers.{numberOf, Bounded, Told, counted, codeLength, runCount, evaluationCount, ofVerdict, ofCompiled, ofRan, ofEvaluated}
+
+-- ---- one answer, one number
+
+pub told-one : (o o′ : Outcome ℕ) → Bounded o → Bounded o′ → numberOf o ≡ numberOf o′ → o ≡ o′
+told-one (ok n) (ok m) b d e = ap ok e
+told-one (ok n) (fault m q) b (d, d1, d2) e = absurd (omega arith)
+told-one (fault n p) (ok m) (b, b1, b2) d e = absurd (omega arith)
+told-one (fault n p) (fault m q) (b, b1, b2) (d, d1, d2) e =
+    let k : n ≡ m = omega arith in
+    let l : p ≡ q = omega arith in
+    rw (k, l) refl
+
+-- ---- bounds, step by step
+
+abbrev Refusal : ℕ → ℕ → Type 0
+Refusal n p = (1 ≤ n) × (n ≤ 21) × (p < 0x1_0000_0000)
+
+module _ {A : Type 0} (f : A → ℕ) where
+  bounded-fault : (g : Outcome A) → Bounded (counted f g) → (n p : ℕ) → g ≡ fault n p → Refusal n p
+  bounded-fault (ok a) b n p e = let z : _≡_ {A = ℕ} 0 1 = cc in absurd (omega arith)
+  bounded-fault (fault m q) (b, b1, b2) n p e = let k : m ≡ n = cc in let l : q ≡ p = cc in (omega arith, omega arith, omega arith)
+
+module _ {A B : Type 0} (f : B → ℕ) where
+  bound-bounded : (g : Outcome A) (k : A → Outcome B) → ((n p : ℕ) → g ≡ fault n p → Refusal n p) → ((a : A) → g ≡ ok a → Bounded (counted f (k a)))
+      → Bounded (counted f (g >>= k))
+  unfolding _>>=_
+  bound-bounded (ok a) k b h = h a refl
+  bound-bounded (fault n p) k b h = b n p refl
+
+  there-bounded : (o : Option A) (k : A → Outcome B) (n : ℕ) → 1 ≤ n → n ≤ 21 → ((a : A) → o ≡ some a → Bounded (counted f (k a)))
+      → Bounded (counted f (orElse o n 0 >>= k))
+  unfolding _>>=_
+  there-bounded none k n l h g = (l, h, omega arith)
+  there-bounded (some a) k n l h g = g a refl
+
+module _ {B : Type 0} (f : B → ℕ) where
+  need-bounded : (t : Bool) (n : ℕ) (g : Outcome B) → 1 ≤ n → n ≤ 21 → Bounded (counted f g) → Bounded (counted f (need t n 0 >> g))
+  unfolding need _>>_
+  need-bounded true n g l h b = b
+  need-bounded false n g l h b = (l, h, omega arith)
+
+-- ---- the four answers
+
+-- a step that only refuses
+abbrev none-told : {A : Type 0} → A → ℕ
+none-told a = 0
+
+abbrev size-told : Answers.Compiled → ℕ
+size-told a = a .size
+
+abbrev count-told : Buffers → ℕ
+count-told b = b .count
+
+abbrev words-told : Answers.Evaluated → ℕ
+words-told e = e .count
+
+module _ (s : List ℕ) (small : Bytes s) where
+  pub verdict-bounded : Bounded (verdict s)
+  verdict-bounded = go (verdict s) refl
+    where
+      go : (o : Outcome ℕ) → verdict s ≡ o → Bounded o
+      go (ok n) e = let (a, b) = count-bounds s small n e in omega arith
+      go (fault n p) e = let (a, b, c) = fault-bounds s small n p e in (a, omega arith, omega arith)
+
+  table-fault : (n p : ℕ) → table s ≡ fault n p → Refusal n p
+  unfolding verdict
+  table-fault n p e = let (a, b, c) = fault-bounds s small n p (stops (table s) _ n p e) in (a, omega arith, omega arith)
+
+  compilable-fault : (c n p : ℕ) → compilable s c ≡ fault n p → Refusal n p
+  compilable-fault c n p e =
+      bounded-fault none-told (compilable s c)
+      (bound-bounded none-told (table s) (λ latest. within latest c) table-fault
+      (λ latest q.
+      there-bounded none-told (chosen c latest) _ 14 (omega arith) (omega arith)
+      (λ x r.
+      need-bounded none-told (leb (functionOperations (operationsOf (x .early)) (x .function)) operationLimit) 15 _ (omega arith) (omega arith)
+      (need-bounded none-told (leb (functionWords (x .early) (x .function)) wordLimit) 16 (ok x) (omega arith) (omega arith) (omega arith)))))
+      n p e
+
+  module _ (c : ℕ) (code : List ℕ) where
+    pub compiled-bounded : Bounded (codeLength (compiled s c code))
+    unfolding compiled
+    compiled-bounded =
+        bound-bounded size-told (compilable s c) _ (compilable-fault c)
+        (λ x e.
+        need-bounded size-told (leb (length (codeOf x)) (length code)) 17 _ (omega arith) (omega arith)
+        (let (fs, w) = compilable-within s c x small e in omega (arith, code-length s c fs x w)))
+
+  -- once the compiler passes, the bounds are those of a run of its list
+  module _ (c : ℕ) (arguments code work out : List ℕ) where
+    runs-bounded : (functions : List Function) (x : Chosen) → Within s c functions x → length (codeOf x) ≤ length code
+        → Bounded (evaluationCount (evaluated s c arguments code work out))
+    runs-bounded functions x w l =
+        let g = runOrRefusal s c functions x w arguments code work out in
+        let b : Bounded (runCount g) =
+        need-bounded count-told (eqb (length arguments) (widths (x .function .inputs))) 19 _ (omega arith) (omega arith)
+        (need-bounded count-told (every argumentWord arguments) 20 _ (omega arith) (omega arith)
+        (need-bounded count-told (leb (functionWords (x .early) (x .function)) (length work) && leb (widths (outputTypes (x .function .outputs))) (length out)) 21 _ (omega arith) (omega arith)
+        (omega (arith, output-count s c functions x w)))) in
+        subst (λ (o : Outcome Answers.Evaluated). Bounded (evaluationCount o)) (sym (evaluated-is s c functions x w arguments code work out l))
+        (bound-bounded words-told g (λ b. ok (withCode x code b)) (bounded-fault count-told g b) (λ a e. subst (λ (o : Outcome Buffers). Bounded (runCount o)) e b))
+
+    pub evaluated-bounded : Bounded (evaluationCount (evaluated s c arguments code work out))
+    unfolding evaluated compiled
+    evaluated-bounded = go (compiled s c code) refl
+      where
+        go : (o : Outcome Answers.Compiled) → compiled s c code ≡ o → Bounded (evaluationCount (evaluated s c arguments code work out))
+        go (ok a) e =
+            let (x, found, e1) = took (compilable s c) _ a e in
+            let (t, e2) = passed (leb (length (codeOf x)) (length code)) 17 0 _ a e1 in
+            let (functions, w) = compilable-within s c x small found in
+            runs-bounded functions x w (leb-true (length (codeOf x)) (length code) t)
+        go (fault n p) e =
+            subst (λ (o : Outcome Answers.Evaluated). Bounded (evaluationCount o)) (sym (stops (compiled s c code) _ n p e))
+            (bounded-fault size-told (compiled s c code) (compiled-bounded c code) n p e)
+
+pub ran-bounded : (code : List ℕ) → Bytes code → (arguments work out : List ℕ) → Bounded (runCount (ran code arguments work out))
+unfolding ran
+ran-bounded code small arguments work out =
+    there-bounded count-told (decode code) _ 18 (omega arith) (omega arith)
+    (λ b e.
+    need-bounded count-told (eqb (length arguments) (b .arguments)) 19 _ (omega arith) (omega arith)
+    (need-bounded count-told (every argumentWord arguments) 20 _ (omega arith) (omega arith)
+    (need-bounded count-told (leb (b .words) (length work) && leb (length (b .outputs)) (length out)) 21 _ (omega arith) (omega arith)
+    (omega (arith, well-formed code small b .0 e .fit .outputs)))))
+
+-- ---- the answers as enums are the same answers
+
+pub of-verdict : (o : Outcome ℕ) → ofVerdict (verdictOf o) ≡ o
+of-verdict (ok n) = refl
+of-verdict (fault n p) = refl
+
+pub of-compiled : (g : Outcome Answers.Compiled) → ofCompiled (compiler.answerOf g) ≡ codeLength g
+of-compiled (ok a) = refl
+of-compiled (fault n p) = refl
+
+pub of-ran : (g : Outcome Buffers) → ofRan (runner.answerOf g) ≡ runCount g
+unfolding runner.answerOf
+of-ran (ok b) = refl
+of-ran (fault n p) = refl
+
+pub of-evaluated : (g : Outcome Answers.Evaluated) → ofEvaluated (evaluation.answerOf g) ≡ evaluationCount g
+unfolding evaluation.answerOf
+of-evaluated (ok e) = refl
+of-evaluated (fault n p) = refl
+
+-- an answer that is this one may be made a number, and that is what is told
+module _ {o a : Outcome ℕ} (b : Bounded o) (e : a ≡ o) where
+  pub may-tell : Bounded a
+  may-tell = subst Bounded (sym e) b
+
+  pub told : {r : ℕ} → r ≡ numberOf a → Told o r
+  told q = record { number = q ∙ ap numberOf e; bounds = b }
