@@ -26,7 +26,7 @@ use Rattle.graph.specs.Schedule.{schedule}
 use Rattle.graph.specs.Meaning.{nodeMeans, meaningOf, graphMeans}
 use Rattle.graph.proofs.Loops.{loops-iff}
 use Rattle.bytecode.specs.Code.{encode}
-use Rattle.lowering.specs.Compile.{opened}
+use Rattle.lowering.specs.Compile.{inlined}
 use Rattle.lowering.specs.Answers.{codeOf, Evaluated, evaluated}
 use Rattle.lowering.specs.Demand3.{Within, Lent, Demand3}
 use Rattle.lowering.specs.Cases.{tableA, codeA, functionA, chosenA, three, half, threeHalves}
@@ -85,7 +85,7 @@ abbrev pub outBuffer : List ℕ
 outBuffer = replicate 2 7
 
 code-a : codeOf chosenA ≡ codeA
-unfolding encode opened schedule
+unfolding encode inlined schedule
 code-a = refl
 
 pub within-a : Within tableA 1 (functionA ∷ []) chosenA
