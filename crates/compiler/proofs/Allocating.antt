@@ -34,8 +34,8 @@ use Rattle.order.proofs.Nodes.{at-is, at-below, ref-member}
 use Rattle.order.proofs.Scheduled.{schedule-is}
 use Rattle.compiler.specs.declared.Reads.{Reads}
 use Rattle.compiler.specs.Static.{Location, nowhere, input, offset, Located, locationOf, Summary, Callee, nodeSummary, summary, allocate, Allocation, Agrees}
-use Rattle.sums.specs.Position.{placeOf, functionIn, before, positionOf, NodeFit}
-use Rattle.compiler.specs.Locating.{ReadsOf, Accepted, Places, Slots, readCodes, nodeCodes, Codes, PortsCoded, AllOuts, Knows, readCount, NodesAllocated}
+use Rattle.sums.specs.Position.{placeOf, functionIn, before, positionOf, NodeFit, Accepted}
+use Rattle.compiler.specs.Locating.{ReadsOf, Places, Slots, readCodes, nodeCodes, Codes, PortsCoded, AllOuts, Knows, readCount, NodesAllocated}
 use Rattle.sums.specs.Capped.{wordsAt, addsWords}
 use Rattle.compiler.specs.Emit.{Stands, locationTable, Coded, Placed, summaryAt}
 use Rattle.base.proofs.Stores.{sets-in, sets-below}
@@ -50,7 +50,8 @@ use Rattle.resolver.proofs.Rows.{length-nodes}
 use Rattle.checker.proofs.Whole.{node-at}
 use Rattle.compiler.proofs.Filling.{fit-index}
 use Rattle.compiler.proofs.Coding.{AllCodes, codes-length, codes-stored, reads-coded, node-coded, node-few, knows-step}
-use Rattle.compiler.proofs.Accepting.{few, sound-to, single-at, fit-at}
+use Rattle.sums.proofs.Accepted.{few, sound-below, fit-below}
+use Rattle.compiler.proofs.Accepting.{single-at}
 
 -- ---- ids are single
 
@@ -130,7 +131,7 @@ module _ (s : List ℕ) (k c : ℕ) (acc : Accepted s (suc k)) (outs ts places i
 
   sound : AllSound (functionIn s k ∷ before s k)
   unfolding earlier
-  sound = sound-to s (suc k) acc (suc k) (omega arith)
+  sound = sound-below s (suc k) acc k (omega arith)
 
   k16 : k < 16
   k16 = let l = few s (suc k) acc in omega arith
@@ -173,7 +174,7 @@ module _ (s : List ℕ) (k c : ℕ) (acc : Accepted s (suc k)) (outs ts places i
   resolves : Slots s at n ts → Resolves ts ns
   unfolding functionAt
   resolves h =
-      let f = fit-at s (suc k) acc k (omega arith) .count in
+      let f = fit-below s (suc k) acc k (omega arith) .count in
       let l : length (nodesAt n s at) ≡ n = length-nodes n s at in
       record {
         few = omega arith;
@@ -194,7 +195,7 @@ module _ (s : List ℕ) (k c : ℕ) (acc : Accepted s (suc k)) (outs ts places i
       subst (λ (m : ℕ). map (λ i. getElem? ns i) (indexOrder ts m) ≡ map some (schedule ns)) l (schedule-is ts ns (resolves h) (sound .0 .resolved .own)) in
       let same : length (indexOrder ts n) ≡ length (schedule ns) =
       sym (length-map (indexOrder ts n) (λ i. getElem? ns i)) ∙ ap length along ∙ length-map (schedule ns) some in
-      let f = fit-at s (suc k) acc k (omega arith) .count in (
+      let f = fit-below s (suc k) acc k (omega arith) .count in (
         schedule ns,
         indexOrder ts n,
         [],
@@ -240,7 +241,7 @@ module _ (s : List ℕ) (k c : ℕ) (acc : Accepted s (suc k)) (outs ts places i
       node-is = let e : some (nodeAt s (nodePlace s at i)) ≡ some x = sym (node-at n s at i low) ∙ stands in ap (nodeAt s) place-is ∙ cc
 
       node-fit : NodeFit s p
-      node-fit = subst (NodeFit s) (sym place-is) (fit-index n s at i low (fit-at s (suc k) acc k (omega arith) .nodes))
+      node-fit = subst (NodeFit s) (sym place-is) (fit-index n s at i low (fit-below s (suc k) acc k (omega arith) .nodes))
 
       -- what the code needs to know at this node
       pub record Here : Type 0 where
@@ -274,7 +275,7 @@ module _ (s : List ℕ) (k c : ℕ) (acc : Accepted s (suc k)) (outs ts places i
           added-words s k p (byte s (p + 2)) (portsOf (kindAt s p)) refl refl f (u16 s (p + 4)) g refl refl
           ∙ words-at s k (u16 s (p + 4)) g refl (let z = k16 in omega arith) l in
           let b = here-is .short in
-          let sg = sound-to s (suc k) acc (suc g) (omega arith) in
+          let sg = sound-below s (suc k) acc g (omega arith) in
           let w : summaryAt s g .words ≡ wordsAt s g = function-words (before s g) (functionIn s g) sg in (
             length (functionIn s g .inputs),
             each-wider (length (functionIn s g .inputs)) wordLimit (summaryAt s g .words) (summaryAt s g .outputs) (omega arith) (outputs-within (before s g) (functionIn s g) sg),
@@ -295,7 +296,7 @@ module _ (s : List ℕ) (k c : ℕ) (acc : Accepted s (suc k)) (outs ts places i
         unfolding functionAt
         codes-are =
             let l : length (nodesAt n s at) ≡ n = length-nodes n s at in
-            let f = fit-at s (suc k) acc k (omega arith) .count in
+            let f = fit-below s (suc k) acc k (omega arith) .count in
             reads-coded ns (omega arith) allocated located (st .known) s ts i x (λ j jl. slots .slots i j x stands jl)
             (λ q w g. sound-closed (before s k) (functionIn s k) (sound .0) .closed x (q .node) (at-is ns i x stands) (ref-member (reads x) w q g))
             (r .count) (r .first) reads-are (let z = here-is .narrow-reads in let y = count-is in omega arith)
@@ -338,7 +339,7 @@ module _ (s : List ℕ) (k c : ℕ) (acc : Accepted s (suc k)) (outs ts places i
             next = record { id = x .id; locations = one .outputs } ∷ located
 
             low-m : m < 256
-            low-m = let a = st .count in let f = fit-at s (suc k) acc k (omega arith) .count in omega arith
+            low-m = let a = st .count in let f = fit-below s (suc k) acc k (omega arith) .count in omega arith
 
             order-below : (q : ℕ) → q < nodeLimit * k + m → getD order' q 0 ≡ getD order q 0
             order-below q l = ap (λ (ys : List ℕ). getD ys q 0) eo ∙ getD-set-other order (nodeLimit * k + m) q p 0 (λ e. omega arith)
@@ -360,7 +361,7 @@ module _ (s : List ℕ) (k c : ℕ) (acc : Accepted s (suc k)) (outs ts places i
             coded : (locations'' : List ℕ) → ((q : ℕ) → q < here' → getD locations'' q 0 ≡ getD locations' q 0) → Coded locations'' table here (reads x)
             unfolding earlier functionAt
             coded locations'' hs =
-                let f = fit-at s (suc k) acc k (omega arith) .inputs in
+                let f = fit-below s (suc k) acc k (omega arith) .inputs in
                 let a = sound .0 .resolved .formed .inputs in
                 let w : summaryAt s k .words ≡ wordsAt s k = words-of-summary in
                 coded-reads (length (functionIn s k .inputs)) table located locations'' here (reads x) codes a
@@ -383,7 +384,7 @@ module _ (s : List ℕ) (k c : ℕ) (acc : Accepted s (suc k)) (outs ts places i
                   known = subst (λ (ys : List ℕ). Knows ns ys next) (sym el)
                       (knows-step ns allocated located i x ports (one .outputs) (st .known) stands
                       (λ v y gv e. single-index ns (single-at s (suc k) acc k (omega arith)) v i y x gv stands e) ports-are ports-few
-                      (let a = st .sizes .2 in let b = low in let f = fit-at s (suc k) acc k (omega arith) .count in omega arith));
+                      (let a = st .sizes .2 in let b = low in let f = fit-below s (suc k) acc k (omega arith) .count in omega arith));
                   words = let a = st .words in let b = ap (addsWords s k) node-is in omega arith;
                   unread = let a = st .unread in let b = size-x in omega arith;
                   sizes = (

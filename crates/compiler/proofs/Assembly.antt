@@ -22,10 +22,10 @@ use Rattle.bytecode.specs.Code.{headerCode, instructionsCode, encode}
 use Rattle.lowering.proofs.Limits.{words-of, output-words}
 use Rattle.compiler.specs.declared.Reached.{Reached}
 use Rattle.compiler.specs.Static.{Location, nowhere, input, offset, addressAt, summary}
-use Rattle.sums.specs.Position.{placeOf, functionIn, before}
+use Rattle.sums.specs.Position.{placeOf, functionIn, before, Accepted}
 use Rattle.sums.specs.Capped.{wordsAt}
 use Rattle.compiler.specs.Emit.{Stands, addressOf, addressesIn, functionInlined, Room, Emits, summaryAt}
-use Rattle.compiler.specs.Locating.{Accepted, PortsCoded}
+use Rattle.compiler.specs.Locating.{PortsCoded}
 use Rattle.sums.specs.Answers.{typesBy}
 use Rattle.sums.proofs.Widths.{outputs-are}
 use Rattle.compiler.specs.Whole.{codeAt, Measured}
@@ -36,7 +36,7 @@ use Rattle.compiler.proofs.Words.{function-words}
 use Rattle.compiler.proofs.Inlining.{Same, function-same, padded}
 use Rattle.compiler.proofs.Emission.{stands-address}
 use Rattle.compiler.proofs.Coding.{summary-size}
-use Rattle.compiler.proofs.Accepting.{sound-to}
+use Rattle.sums.proofs.Accepted.{sound-below}
 use Rattle.compiler.proofs.Allocating.{each-wider, strong}
 
 -- ---- addresses
@@ -89,7 +89,7 @@ module _ (s : List ℕ) (k : ℕ) (acc : Accepted s (suc k)) (count inputs outpu
 
   sound : AllSound (f ∷ before s k)
   unfolding earlier
-  sound = sound-to s (suc k) acc (suc k) (omega arith)
+  sound = sound-below s (suc k) acc k (omega arith)
 
   same : Same (places 0 (f .inputs)) ins
   same =

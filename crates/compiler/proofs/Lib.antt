@@ -15,4 +15,3 @@ pub mod Outputs
 pub mod Tables
 pub mod Ending
 pub mod Assembly
-pub mod Answering

@@ -22,16 +22,17 @@ use Rattle.reader.specs.Layout.{kindAt, nodeAt, nodeEnd, nodesAt, nodePlace, no
 use Rattle.reader.specs.Find.{ReadsNodes}
 use Rattle.reader.proofs.Passed.{end-fits, first-reads, rest-reads, function-holds}
 use Rattle.compiler.specs.Static.{Location, nowhere, summary}
-use Rattle.sums.specs.Position.{placeOf, functionIn, before, NodeFit, NodesFit}
+use Rattle.sums.specs.Position.{placeOf, functionIn, before, NodeFit, NodesFit, Accepted}
 use Rattle.sums.specs.Capped.{wordsAt}
 use Rattle.compiler.specs.Emit.{Stands, locationTable, Coded, Placed, summaryAt, Allocated}
-use Rattle.compiler.specs.Locating.{Accepted, Codes, PortsCoded, readCount, FunctionAllocated, AllocatedTo}
+use Rattle.compiler.specs.Locating.{Codes, PortsCoded, readCount, FunctionAllocated, AllocatedTo}
 use Rattle.compiler.proofs.Locations.{function-agrees}
 use Rattle.compiler.proofs.Words.{function-words}
 use Rattle.sums.proofs.Nodes.{call-payload, call-end, plain-end}
 use Rattle.compiler.proofs.References.{few-reads, plain-reads}
 use Rattle.resolver.proofs.Rows.{length-nodes}
-use Rattle.compiler.proofs.Accepting.{few, sound-to, single-at, fit-at, was-read}
+use Rattle.sums.proofs.Accepted.{few, sound-below, fit-below, read-below, short, fewer}
+use Rattle.compiler.proofs.Accepting.{single-at}
 
 -- ---- what a later store leaves
 
@@ -91,27 +92,23 @@ module _ (s : List ℕ) (j : ℕ) (acc : Accepted s (suc j)) where
   function-space : (13 * readCount s j + 4 * placeOf s j ≤ 4 * placeOf s (suc j)) × (placeOf s (suc j) < 65536)
   unfolding functionPlace functionEnd functionAt
   function-space =
-      let f = fit-at s (suc j) acc j (omega arith) in
+      let f = fit-below s (suc j) acc j (omega arith) in
       let a = nodes-space s (nodeCount s (placeOf s j)) (nodesPlace s (placeOf s j)) (f .nodes) in
-      let h = function-holds s (placeOf s j) (was-read s (suc j) acc j (omega arith)) in
+      let h = function-holds s (placeOf s j) (read-below s (suc j) acc j (omega arith)) in
       let b = nodes-end-low s (nodeCount s (placeOf s j)) (nodesPlace s (placeOf s j)) (h .nodes) (h .outputs) in
-      let m = acc .short in
+      let m = short s (suc j) acc in
       (omega arith, omega arith)
 
   summary-is : summaryAt s j .words ≡ wordsAt s j
   unfolding wordsAt earlier
-  summary-is = function-words (before s j) (functionIn s j) (sound-to s (suc j) acc (suc j) (omega arith))
+  summary-is = function-words (before s j) (functionIn s j) (sound-below s (suc j) acc j (omega arith))
 
   -- the schedule has all nodes
   schedule-size : (length (schedule (functionIn s j .nodes)) ≡ nodeCount s (placeOf s j)) × (sum sizeOf (schedule (functionIn s j .nodes)) ≡ readCount s j)
   unfolding functionAt earlier
   schedule-size =
-      let right = scheduled (before s j) (functionIn s j) (sound-to s (suc j) acc (suc j) (omega arith) .0) in
+      let right = scheduled (before s j) (functionIn s j) (sound-below s (suc j) acc j (omega arith) .0) in
       (right .size ∙ length-nodes (nodeCount s (placeOf s j)) s (nodesPlace s (placeOf s j)), right .total sizeOf)
-
--- an accepted table with fewer functions
-pub fewer : (s : List ℕ) (k j : ℕ) → Accepted s k → j ≤ k → Accepted s j
-fewer s k j acc l = record { read = acc .read; sound = acc .sound; most = let m = acc .most in omega arith; short = acc .short; small = acc .small }
 
 module _ (s : List ℕ) (j : ℕ) (acc : Accepted s (suc j)) (outs order locations begins : List ℕ) (cell : ℕ) (st : AllocatedTo s j outs order locations begins cell) where
   -- there is room for one function more
@@ -147,10 +144,10 @@ module _ (s : List ℕ) (j : ℕ) (acc : Accepted s (suc j)) (outs order locatio
     unfolding earlier
     here =
         record {
-          count = fit-at s (suc j) acc j (omega arith) .count;
+          count = fit-below s (suc j) acc j (omega arith) .count;
           size = schedule-size s j acc .0;
           nodes = subst (λ (b : ℕ). Placed s order' locations' (locationTable s j) (nodeLimit * j) b (schedule (functionIn s j .nodes))) (sym begin-here) (f .placed);
-          agrees = function-agrees (summary (before s j)) (before s j) (functionIn s j) (sound-to s (suc j) acc (suc j) (omega arith) .0) (single-at s (suc j) acc j (omega arith));
+          agrees = function-agrees (summary (before s j)) (before s j) (functionIn s j) (sound-below s (suc j) acc j (omega arith) .0) (single-at s (suc j) acc j (omega arith));
         }
 
     below : (g : ℕ) → g < j → summaryAt s g .words ≤ wordLimit → Allocated s begins' order' locations' g

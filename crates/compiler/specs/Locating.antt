@@ -27,14 +27,6 @@ use Rattle.sums.specs.Position.{placeOf, functionIn, before, positionOf}
 use Rattle.sums.specs.Capped.{wordCap, wordsAt}
 use Rattle.compiler.specs.Emit.{locationTable, Placed, summaryAt, AllAllocated}
 
--- an accepted table with at least k functions
-pub record Accepted (s : List ℕ) (k : ℕ) : Type 0 where
-  pub read : table s ≡ ok (before s (byte s 5))
-  pub sound : AllSound (before s (byte s 5))
-  pub most : k ≤ byte s 5
-  pub short : length s < 65536
-  pub small : Bytes s
-
 -- where a node's references begin, and how many there are
 pub record ReadsOf (s : List ℕ) (p : ℕ) (r : Reads) : Type 0 where
   pub refs : reads (nodeAt s p) ≡ references (r .count) s (r .first)
@@ -51,10 +43,6 @@ Places s at places n = (i : ℕ) → i < n → getD places i 0 ≡ nodePlace s a
 pub record Slots (s : List ℕ) (at n : ℕ) (ts : List ℕ) : Type 0 where
   pub size : length ts ≡ slotLimit
   pub slots : (i j : ℕ) (x : Node) → getElem? (nodesAt n s at) i ≡ some x → j < operandLimit → slot ts i j ≡ target (nodesAt n s at) (getElem? (reads x) j)
-
--- the words of the functions before k, capped
-abbrev pub WordsHeld : List ℕ → List ℕ → ℕ → Type 0
-WordsHeld s words k = (g : ℕ) → g < k → getD words g 0 ≡ min wordCap (wordsAt s g)
 
 -- ---- numbers of locations
 

@@ -14,22 +14,20 @@ ghost use Rattle.graph.specs.Read.{reference};
 ghost use Rattle.order.specs.Resolve as Resolve;
 ghost use Rattle.reader.specs.Find.{ReadsNodes};
 ghost use Rattle.order.specs.Indices.{indexOrder};
-ghost use Rattle.compiler.specs.Locating.{ReadsOf, Accepted, NodesAllocated, FunctionAllocated, AllocatedTo, readCount, outputCodes, Places, Slots, WordsHeld, portCode, readCodes, rebasedCode, rebasedCodes, resultCodes, nodeCodes, AllOuts};
+ghost use Rattle.compiler.specs.Locating.{ReadsOf, NodesAllocated, FunctionAllocated, AllocatedTo, readCount, outputCodes, Places, Slots, portCode, readCodes, rebasedCode, rebasedCodes, resultCodes, nodeCodes, AllOuts};
 ghost use Rattle.base.specs.Lists.{span};
 ghost use Rattle.bytecode.specs.Run.{places, spans};
 ghost use Rattle.bytecode.specs.Code.{headerCode};
 ghost use Rattle.sums.specs.Answers.{typesBy};
-ghost use Rattle.compiler.specs.Whole.{codeAt, Measured, answerOf, codeAfter};
-ghost use Rattle.lowering.specs.Answers.{compiled};
+ghost use Rattle.compiler.specs.Whole.{codeAt, Measured};
 ghost use Rattle.reader.specs.Layout.{outputCount, outputsPlace, kindAt, nodeAt, nodesAt, nodeEnd, nodesPlace, nodeCount};
-ghost use Rattle.sums.specs.Position.{placeOf, Starts, NodeFit, AllFit};
-ghost use Rattle.sums.specs.Capped.{wordsAt, addsWords};
+ghost use Rattle.sums.specs.Position.{placeOf, Starts, NodeFit, AllFit, Accepted};
+ghost use Rattle.sums.specs.Capped.{wordsAt, addsWords, WordsHeld};
 ghost use Rattle.compiler.specs.Emit.{copied, addressOf, addressesIn, nodeInlined, functionInlined, Room, Emits, AllAllocated};
 use base::FUNCTION_LIMIT;
 use base::NO_NODE;
 use base::NODE_LIMIT;
 use base::OPERAND_LIMIT;
-use base::OPERATION_LIMIT;
 use base::PORT_LIMIT;
 use base::REFERENCE_LIMIT;
 use base::SLOT_LIMIT;
@@ -40,9 +38,9 @@ use base::put16;
 use base::wide;
 use base::wide16;
 use base::wide32;
-use checker::Verdict;
 use ports::Ports;
 use reader::Found;
+use sums::Sizes;
 
 // ---- numbers
 
@@ -638,12 +636,6 @@ fn allocate_functions(
 
 // ---- the whole
 
-// The code's length, or the refusal with its number and place.
-pub enum Compiled {
-    Length(usize),
-    Refused(u8, usize),
-}
-
 // The addresses of n arguments, by their type bytes.
 fn input_places(t: &[u8], at: usize, n: usize, ins: &mut [u16; PORT_LIMIT])
     requires { ⌜ (at < 2 ^ 20) × (n ≤ portLimit) ⌝ }
@@ -719,24 +711,26 @@ fn put_header(code: &mut [u8], arguments: u8, outputs: u8, count: u16, words: u1
     put16(code, 10, words);
 }
 
-// The whole code of the function at position k.
-fn write_list(
+// Writes the board list of the function at position k of an accepted table, which was found to be within the limits and
+// to fit the buffer.
+pub fn compile(
     t: &[u8],
     starts: &[u16; FUNCTION_LIMIT],
     words: &[u32; FUNCTION_LIMIT],
     k: usize,
-    count: usize,
-    inputs: usize,
-    outputs: usize,
+    sizes: Sizes,
     code: &mut [u8],
 )
     requires { ⌜ Accepted (now t) (suc k) × Starts (now t) (now starts) (suc k) × WordsHeld (now t) (now words) (suc k) ⌝ }
-    requires { ⌜ Measured (now t) k count inputs outputs × (length (codeAt (now t) k) ≤ length (now code)) ⌝ }
+    requires { ⌜ Measured (now t) k (sizes .instructions) (sizes .arguments) (sizes .outputs) × (length (codeAt (now t) k) ≤ length (now code)) ⌝ }
     ensures { λ _. ⌜ now (code .exit) ≡ sets (now (code .entry)) 0 (codeAt (now (t .entry)) k) ⌝ }
 {
     let p = wide16(starts[k]);
-    let nin = wide(padded_byte(t, p + 2));
-    let nout = wide(padded_byte(t, p + 3));
+    let input_count = wide(padded_byte(t, p + 2));
+    let output_count = wide(padded_byte(t, p + 3));
+    let count = sizes.instructions;
+    let inputs = sizes.arguments;
+    let outputs = sizes.outputs;
     let all = inputs + wide32(words[k]);
     let mut order = [0u16; ORDER_LIMIT];
     let mut locations = [0u16; REFERENCE_LIMIT];
@@ -764,7 +758,7 @@ fn write_list(
         &mut begins,
         cell,
     );
-    input_places(t, p + 6, nin, &mut ins);
+    input_places(t, p + 6, input_count, &mut ins);
     put_header(code, inputs as u8, outputs as u8, count as u16, all as u16);
     let r = emit(
         t,
@@ -778,72 +772,15 @@ fn write_list(
         12,
         inputs,
     );
-    put_outputs(t, p + 6 + nin, nout, &outs, k, &ins, inputs, code, r.at);
-}
-
-// The function of an id, in an accepted table.
-fn compile_accepted(t: &[u8], functions: usize, id: u16, code: &mut [u8]) -> Compiled
-    requires { ⌜ Accepted (now t) functions × (functions ≡ byte (now t) 5) ⌝ }
-    ensures { λ r. ⌜ r ≡ answerOf (compiled (now (t .entry)) id (now (code .entry))) ⌝ }
-    ensures { λ r. ⌜ now (code .exit) ≡ codeAfter (now (code .entry)) (compiled (now (t .entry)) id (now (code .entry))) ⌝ }
-{
-    let mut starts = [0u16; FUNCTION_LIMIT];
-    sums::find_starts(t, functions, &mut starts);
-    let k = sums::position_of(t, &starts, functions, wide16(id));
-    if functions <= k {
-        return Compiled::Refused(14, 0);
-    }
-    let mut ops = [0u32; FUNCTION_LIMIT];
-    let mut words = [0u32; FUNCTION_LIMIT];
-    let mut counts = [0u32; FUNCTION_LIMIT];
-    let mut sizes = [0u32; FUNCTION_LIMIT];
-    sums::all_sums(
+    put_outputs(
         t,
-        &starts,
-        k + 1,
-        &mut ops,
-        &mut words,
-        &mut counts,
-        &mut sizes,
-    );
-    let o = wide32(ops[k]);
-    if OPERATION_LIMIT < o {
-        return Compiled::Refused(15, 0);
-    }
-    let p = wide16(starts[k]);
-    let nin = wide(padded_byte(t, p + 2));
-    let nout = wide(padded_byte(t, p + 3));
-    let inputs = sums::widths_at(t, p + 6, 1, nin);
-    let w = wide32(words[k]);
-    if WORD_LIMIT < inputs + w {
-        return Compiled::Refused(16, 0);
-    }
-    let outputs = sums::widths_at(t, p + 6 + nin, 4, nout);
-    let size = 12 + wide32(sizes[k]) + 2 * outputs;
-    if code.len() < size {
-        return Compiled::Refused(17, 0);
-    }
-    write_list(
-        t,
-        &starts,
-        &words,
+        p + 6 + input_count,
+        output_count,
+        &outs,
         k,
-        wide32(counts[k]),
+        &ins,
         inputs,
-        outputs,
         code,
+        r.at,
     );
-    Compiled::Length(size)
-}
-
-// The board list of the function of an id: its code's length, or the refusal.
-pub fn compile(table: &[u8], id: u16, code: &mut [u8]) -> Compiled
-    ensures { λ r. ⌜ r ≡ answerOf (compiled (now (table .entry)) id (now (code .entry))) ⌝ }
-    ensures { λ r. ⌜ now (code .exit) ≡ codeAfter (now (code .entry)) (compiled (now (table .entry)) id (now (code .entry))) ⌝ }
-{
-    let verdict = checker::check(table);
-    match verdict {
-        Verdict::Accepted(count) => compile_accepted(table, count, id, code),
-        Verdict::Refused(number, place) => Compiled::Refused(number, place),
-    }
 }

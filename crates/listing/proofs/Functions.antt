@@ -7,13 +7,12 @@ use native.Mathlib.Numerals.{add-one}
 use native.Mathlib.Omega.{arith}
 use lib.ListN.{length}
 use Rattle.base.specs.Limits.{functionLimit}
-use Rattle.base.specs.Outcome.{ok}
-use Rattle.graph.specs.Judge.{verdict}
+use Rattle.sums.specs.Position.{Accepted}
 use Rattle.reader.specs.Layout.{functionOf, earlier}
 use Rattle.lowering.specs.Listing.{functionLine, functionLines}
 use Rattle.listing.specs.Lines.{Put, textLimit}
 use Rattle.listing.proofs.Text.{then, same}
-use Rattle.sums.proofs.Accepted.{few-functions}
+use Rattle.sums.proofs.Accepted.{few}
 
 -- the lines of the functions before k are written, each of at most 103 bytes
 pub record Listed (s : List ℕ) (n : ℕ) (text₀ : List ℕ) (at : ℕ) (text : List ℕ) (here k : ℕ) : Type 0 where
@@ -22,12 +21,12 @@ pub record Listed (s : List ℕ) (n : ℕ) (text₀ : List ℕ) (at : ℕ) (text
   pub room : here ≤ 30 + 103 * k
   pub put : Put text₀ at (functionLines (earlier 8 s k)) text here
 
-pub start : (s : List ℕ) (n : ℕ) (text : List ℕ) (at : ℕ) → verdict s ≡ ok n → at ≤ 30 → Listed s n text at text at 0
+pub start : (s : List ℕ) (n : ℕ) (text : List ℕ) (at : ℕ) → Accepted s n → at ≤ 30 → Listed s n text at text at 0
 unfolding earlier
 start s n text at e h =
     record {
       index = omega arith;
-      most = few-functions s n e;
+      most = few s n e;
       room = omega arith;
       put = record { written = refl; end = sym (add-zero at) };
     }

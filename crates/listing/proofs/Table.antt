@@ -10,8 +10,7 @@ use borrow.Author.Tests.{leb-true, leb-false, le-leb, lt-leb}
 use Rattle.reader.proofs.Passed.{length-earlier}
 use Rattle.resolver.proofs.Rows.{length-nodes}
 use Rattle.checker.proofs.Calls.{inputs-length}
-use Rattle.sums.proofs.Choosing.{faulted}
-use Rattle.sums.proofs.Accepted.{functions-are}
+use Rattle.sums.proofs.Accepted.{functions-are, refused-table}
 use Rattle.sums.proofs.Measuring.{leb-cap}
 use Rattle.base.specs.Outcome.{Outcome, ok, fault, _>>=_}
 use Rattle.base.specs.Bytes.{byte, u16}
@@ -110,5 +109,5 @@ listing-accepted s n e =
     ap (λ (m : ℕ). acceptedText ++ decimal m ++ newline ++ functionLines (earlier 8 s n)) (sym (length-earlier 8 s n)) ∙ sym (ap report (functions-are s n e))
 
 pub listing-refused : (s : List ℕ) (a b : ℕ) → verdict s ≡ fault a b → refusedText ++ decimal a ++ atText ++ decimal b ++ newline ≡ listing s
-unfolding verdict listing
-listing-refused s a b e = sym (ap report (faulted (table s) a b e))
+unfolding listing
+listing-refused s a b e = sym (ap report (refused-table s a b e))

@@ -10,7 +10,10 @@ ghost use Rattle.base.specs.Bytes.{byte, u16};
 ghost use Rattle.base.specs.Outcome.{ok, fault};
 ghost use Rattle.graph.specs.Judge.{verdict};
 ghost use Rattle.reader.specs.Layout.{earlier};
+ghost use Rattle.sums.specs.Position.{Starts, Accepted};
+ghost use Rattle.sums.specs.Capped.{AllSummed};
 ghost use Rattle.listing.specs.Lines.{textLimit, Put, headText, countsText, lineAt};
+use base::FUNCTION_LIMIT;
 use base::OPERATION_LIMIT;
 use base::WORD_LIMIT;
 use base::padded_byte;
@@ -176,19 +179,63 @@ fn put_function(
     put_counts(text, middle, operations, words, code)
 }
 
-// The lines of the first `count` functions.
-fn put_functions(text: &mut [u8; TEXT_LIMIT], at: usize, table: &[u8], count: usize) -> usize
-    requires { ⌜ (verdict (now table) ≡ ok count) × (at ≤ 30) ⌝ }
+// The lines of the first `count` functions of an accepted table, whose sums are taken.
+fn put_functions(
+    text: &mut [u8; TEXT_LIMIT],
+    at: usize,
+    table: &[u8],
+    count: usize,
+    starts: &[u16; FUNCTION_LIMIT],
+    ops: &[u32; FUNCTION_LIMIT],
+    words: &[u32; FUNCTION_LIMIT],
+    counts: &[u32; FUNCTION_LIMIT],
+    sizes: &[u32; FUNCTION_LIMIT],
+) -> usize
+    requires { ⌜ (at ≤ 30) × Accepted (now table) count × Starts (now table) (now starts) count ⌝ }
+    requires { ⌜ AllSummed (now table) (now ops) (now words) (now counts) (now sizes) count ⌝ }
     ensures { λ r. ⌜ Put (now (text .entry)) at (functionLines (earlier 8 (now (table .entry)) count)) (now (text .exit)) r × (r ≤ textLimit) ⌝ }
 {
     let mut here = at;
     let mut k = 0;
     while k < count {
-        let m = sums::measure(table, count, k);
+        let m = sums::sizes_at(table, starts, k, ops, words, counts, sizes);
         here = put_function(text, here, table, m.place, m.operations, m.words, m.code);
         k += 1;
     }
     here
+}
+
+// The same, with the sums taken first.
+fn put_table(text: &mut [u8; TEXT_LIMIT], at: usize, table: &[u8], count: usize) -> usize
+    requires { ⌜ (verdict (now table) ≡ ok count) × (at ≤ 30) ⌝ }
+    ensures { λ r. ⌜ Put (now (text .entry)) at (functionLines (earlier 8 (now (table .entry)) count)) (now (text .exit)) r × (r ≤ textLimit) ⌝ }
+{
+    let mut starts = [0u16; FUNCTION_LIMIT];
+    let mut ops = [0u32; FUNCTION_LIMIT];
+    let mut words = [0u32; FUNCTION_LIMIT];
+    let mut counts = [0u32; FUNCTION_LIMIT];
+    let mut sizes = [0u32; FUNCTION_LIMIT];
+    sums::find_starts(table, count, &mut starts);
+    sums::all_sums(
+        table,
+        &starts,
+        count,
+        &mut ops,
+        &mut words,
+        &mut counts,
+        &mut sizes,
+    );
+    put_functions(
+        text,
+        at,
+        table,
+        count,
+        &starts,
+        &ops,
+        &words,
+        &counts,
+        &sizes,
+    )
 }
 
 // The text of an accepted table with so many functions.
@@ -198,7 +245,7 @@ fn list_accepted(table: &[u8], count: usize, text: &mut [u8; TEXT_LIMIT]) -> usi
 {
     let middle = put_field(text, 0, b"accepted ", count);
     let end = put_bytes(text, middle, b"\n");
-    put_functions(text, end, table, count)
+    put_table(text, end, table, count)
 }
 
 // The text for a table, from the first byte on; the answer is its length.

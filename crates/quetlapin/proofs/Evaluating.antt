@@ -26,45 +26,32 @@ use Rattle.lowering.specs.Demand3.{Within, Lent, Demand3}
 use Rattle.value.proofs.Laws.{each-finite}
 use Rattle.lowering.proofs.Whole.{front, compilable-within, leaves, withCode, compiles, runOrRefusal, evaluated-is, list-ok, evaluated-ok, demand3}
 use Rattle.sums.specs.declared.Sizes.{Sizes}
-use Rattle.sums.specs.declared.Measured.{Measured}
-use Rattle.sums.specs.Answers.{exactSizes, measuredOf}
-use Rattle.compiler.specs.Whole as compiler
 use Rattle.runner.specs.declared.Ran.{Ran}
 use Rattle.runner.specs.Runs as runner
 use Rattle.quetlapin.specs.declared.Evaluated.{Evaluated}
 use Rattle.quetlapin.specs.declared.Evaluated.the-variants.{Done, Refused}
+use Rattle.quetlapin.specs.Measures.{chosenAt, exactSizes, ReadyAt}
 use Rattle.quetlapin.specs.Numbers.{numberOf, ofEvaluated}
 use Rattle.quetlapin.specs.Answers.{answerOf, fromRun, codeAfter, workAfter, outAfter, Answered}
 
 -- ---- a function that can be compiled, and its sizes
 
-pub record Sized (s : List ℕ) (c : ℕ) (m : Sizes) : Type 0 where
-  it : Chosen
+pub record Sized (s : List ℕ) (c : ℕ) (m : Sizes) (it : Chosen) : Type 0 where
   found : compilable s c ≡ ok it
   words : m .words ≡ functionWords (it .early) (it .function)
   code : m .code ≡ length (codeOf it)
   arguments : m .arguments ≡ widths (it .function .inputs)
   outputs : m .outputs ≡ widths (outputTypes (it .function .outputs))
 
-measured-is : (o : Outcome Chosen) (m : Sizes) → measuredOf o ≡ Measured.Is m → (x : Chosen) × (o ≡ ok x) × (exactSizes x ≡ m)
-measured-is (ok x) m e = (x, refl, cc)
-measured-is (fault n p) m e = let z : _≡_ {A = ℕ} 0 1 = cc in absurd (omega arith)
-
-measured-refused : (o : Outcome Chosen) (n p : ℕ) → measuredOf o ≡ Measured.Refused n p → o ≡ fault n p
-measured-refused (ok x) n p e = let z : _≡_ {A = ℕ} 0 1 = cc in absurd (omega arith)
-measured-refused (fault a b) n p e = (cc)
-
-pub sized : (s : List ℕ) (c : ℕ) (m : Sizes) → measuredOf (compilable s c) ≡ Measured.Is m → Sized s c m
+pub sized : (s : List ℕ) (c : ℕ) (starts words : List ℕ) (k : ℕ) (m : Sizes) → ReadyAt s c starts words k m → Sized s c m (chosenAt s k)
 unfolding exactSizes
-sized s c m e =
-    let (x, p, q) = measured-is (compilable s c) m e in
+sized s c starts words k m r =
     record {
-      it = x;
-      found = p;
-      words = sym (ap (λ (z : Sizes). z .words) q);
-      code = sym (ap (λ (z : Sizes). z .code) q);
-      arguments = sym (ap (λ (z : Sizes). z .arguments) q);
-      outputs = sym (ap (λ (z : Sizes). z .outputs) q);
+      found = r .compilable;
+      words = ap (λ (z : Sizes). z .words) (r .sizes);
+      code = ap (λ (z : Sizes). z .code) (r .sizes);
+      arguments = ap (λ (z : Sizes). z .arguments) (r .sizes);
+      outputs = ap (λ (z : Sizes). z .outputs) (r .sizes);
     }
 
 each-word : (xs : List ℕ) → ((i : ℕ) → Word (wordAt xs i)) → Each Word xs
@@ -115,15 +102,12 @@ module _ (s : List ℕ) (c : ℕ) (arguments code work out : List ℕ) where
       record { answer = sym (ap answerOf e); code-after = rw e; work-after = rw e; out-after = rw e } in
       (a, meant code work out (Refused n p) a)
 
-  pub refused-table : (n p : ℕ) → measuredOf (compilable s c) ≡ Measured.Refused n p → Says code work out (Refused n p)
+  pub refused-table : (n p : ℕ) → compilable s c ≡ fault n p → Says code work out (Refused n p)
   unfolding evaluated compiled
   refused-table n p e =
-      refused n p (stops (compiled s c code) _ n p (stops (compilable s c) _ n p (measured-refused (compilable s c) n p e)))
+      refused n p (stops (compiled s c code) _ n p (stops (compilable s c) _ n p e))
 
-  module _ (small : Bytes s) (m : Sizes) (z : Sized s c m) where
-    abbrev x : Chosen
-    x = z .it
-
+  module _ (small : Bytes s) (m : Sizes) (x : Chosen) (z : Sized s c m x) where
     abbrev functions : List Function
     functions = compilable-within s c x small (z .found) .0
 
@@ -207,12 +191,11 @@ module _ (s : List ℕ) (c : ℕ) (arguments code work out : List ℕ) where
                 }
 
             -- the compiler takes it, and the runner the code's bytes alone
-            pub completed : {code′ work′ out′ : List ℕ} {a : Ran} {r : Evaluated} → code′ ≡ compiler.codeAfter code (compiled s c code)
+            pub completed : {code′ work′ out′ : List ℕ} {a : Ran} {r : Evaluated} → code′ ≡ sets code 0 (codeOf x)
                 → runner.Answered (ran (take (m .code) code′) arguments work out) work out work′ out′ a → r ≡ fromRun a → Says code′ work′ out′ r
             unfolding answerOf codeAfter workAfter outAfter runner.answerOf runner.workAfter runner.outAfter
-            completed {code′} {work′} {out′} {a} {r} ec er ea =
+            completed {code′} {work′} {out′} {a} {r} list er ea =
                 let e = evaluated-ok s c functions x w arguments code work out lent in
-                let list : code′ ≡ sets code 0 (codeOf x) = ec ∙ ap (compiler.codeAfter code) (compiles s c functions x w code code-fits) in
                 let bytes : take (m .code) code′ ≡ codeOf x = ap (λ (k : ℕ). take k code′) (z .code) ∙ ap (take (length (codeOf x))) list ∙ front code (codeOf x) code-fits in
                 let runs : ran (take (m .code) code′) arguments work out ≡ ok (leaves x arguments work out) =
                 ap (λ (k : List ℕ). ran k arguments work out) bytes ∙ list-ok s c functions x w arguments code work out lent in

@@ -1,2 +1,4 @@
+pub mod Choosing
+pub mod Compiling
 pub mod Evaluating
 pub mod Telling

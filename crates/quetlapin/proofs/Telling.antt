@@ -30,7 +30,7 @@ use Rattle.lowering.specs.Answers.{within, compilable, codeOf, compiled, evalua
 use Rattle.lowering.specs.Demand3.{Within}
 use Rattle.lowering.proofs.Whole.{compilable-within, code-length, output-count, evaluated-is, runOrRefusal, withCode}
 use Rattle.checker.specs.Answers.{verdictOf}
-use Rattle.compiler.specs.Whole as compiler
+use Rattle.quetlapin.specs.Compiling as compiler
 use Rattle.runner.specs.Runs as runner
 use Rattle.quetlapin.specs.Answers as evaluation
 use Rattle.quetlapin.specs.Numbers.{numberOf, Refusal, Bounded, Told, counted, codeLength, runCount, evaluationCount, ofVerdict, ofCompiled, ofRan, ofEvaluated}

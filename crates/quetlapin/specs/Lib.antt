@@ -1,2 +1,4 @@
 pub mod Answers
+pub mod Measures
+pub mod Compiling
 pub mod Numbers

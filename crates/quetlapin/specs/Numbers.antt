@@ -7,8 +7,8 @@ use Rattle.bytecode.specs.Answers.{Buffers}
 use Rattle.lowering.specs.Answers as Answers
 use Rattle.checker.specs.declared.Verdict.{Verdict}
 use Rattle.checker.specs.declared.Verdict.the-variants as verdict
-use Rattle.compiler.specs.declared.Compiled.{Compiled}
-use Rattle.compiler.specs.declared.Compiled.the-variants as compiled
+use Rattle.quetlapin.specs.declared.Compiled.{Compiled}
+use Rattle.quetlapin.specs.declared.Compiled.the-variants as compiled
 use Rattle.runner.specs.declared.Ran.{Ran}
 use Rattle.runner.specs.declared.Ran.the-variants as ran
 use Rattle.runner.specs.Runs.{workAfter, outAfter}

@@ -1,19 +1,211 @@
-// From table to output words in one call, and the entry points for other programs: there an answer is one number,
-// a refusal's number times 2^32 and its place.
+// The driver: every entry point, none of which asks anything of its arguments. In each call a table is checked once, its
+// functions are found once and summed once. For other programs an answer is one number, a refusal's number times 2^32
+// and its place.
 ghost use mathlib.Core.Path.{_≡_};
 ghost use Prim.Native.Nat.{_<_};
+ghost use Rattle.base.specs.Limits.{functionLimit};
+ghost use Rattle.base.specs.Outcome.{ok};
+ghost use lib.ListN.{length};
 ghost use Rattle.graph.specs.Judge.{verdict};
-ghost use Rattle.lowering.specs.Answers.{compiled, evaluated};
+ghost use Rattle.lowering.specs.Answers.{compilable, compiled, evaluated};
 ghost use Rattle.lowering.specs.Demand3.{Demand3};
 ghost use Rattle.bytecode.specs.Answers.{ran};
-ghost use Rattle.compiler.specs.Whole.{codeAfter};
+ghost use Rattle.quetlapin.specs.Compiling as compiling;
+ghost use Rattle.quetlapin.specs.Compiling.{codeAfter};
+ghost use Rattle.quetlapin.specs.Measures.{named, Finds, Readies, measuredOf, upTo, countOf, operationCount, wordCount, codeCount};
 ghost use Rattle.quetlapin.specs.declared.Evaluated.the-variants.{Done};
 ghost use Rattle.quetlapin.specs.Answers.{fromRun, Answered};
 ghost use Rattle.quetlapin.specs.Numbers.{refusalNumber, numberOf, Bounded, Told, codeLength, ofVerdict, ofCompiled, ofRan, ofEvaluated, RunAnswered, EvaluationAnswered};
+use base::FUNCTION_LIMIT;
+use base::OPERATION_LIMIT;
+use base::WORD_LIMIT;
 use checker::Verdict;
-use compiler::Compiled;
 use runner::Ran;
-use sums::Measured;
+use sums::Sizes;
+
+// ---- the function of an id: checked, found and measured once
+
+// Its position and its sizes, or a refusal.
+pub enum Found {
+    At(usize, Sizes),
+    Refused(u8, usize),
+}
+
+// In a table that is accepted: 14 where there is no function of that id. The places of the functions and the words of
+// those up to it are left in `starts` and `words`, for the compiler.
+fn find_accepted(
+    table: &[u8],
+    count: usize,
+    id: u16,
+    starts: &mut [u16; FUNCTION_LIMIT],
+    words: &mut [u32; FUNCTION_LIMIT],
+) -> Found
+    requires { ⌜ (verdict (now table) ≡ ok count) × (length (now starts) ≡ functionLimit) × (length (now words) ≡ functionLimit) ⌝ }
+    ensures { λ r. ⌜ Finds (now (table .entry)) id (now (starts .exit)) (now (words .exit)) r ⌝ }
+{
+    sums::find_starts(table, count, starts);
+    let k = sums::position_of(table, starts, count, base::wide16(id));
+    if count <= k {
+        return Found::Refused(14, 0);
+    }
+    Found::At(k, sums::measure(table, starts, k, words))
+}
+
+// The table's refusals, then 14.
+fn find(
+    table: &[u8],
+    id: u16,
+    starts: &mut [u16; FUNCTION_LIMIT],
+    words: &mut [u32; FUNCTION_LIMIT],
+) -> Found
+    requires { ⌜ (length (now starts) ≡ functionLimit) × (length (now words) ≡ functionLimit) ⌝ }
+    ensures { λ r. ⌜ Finds (now (table .entry)) id (now (starts .exit)) (now (words .exit)) r ⌝ }
+{
+    let answer = checker::check(table);
+    match answer {
+        Verdict::Accepted(count) => find_accepted(table, count, id, starts, words),
+        Verdict::Refused(number, place) => Found::Refused(number, place),
+    }
+}
+
+// The table's refusals, then 14, 15 and 16.
+fn find_compilable(
+    table: &[u8],
+    id: u16,
+    starts: &mut [u16; FUNCTION_LIMIT],
+    words: &mut [u32; FUNCTION_LIMIT],
+) -> Found
+    requires { ⌜ (length (now starts) ≡ functionLimit) × (length (now words) ≡ functionLimit) ⌝ }
+    ensures { λ r. ⌜ Readies (now (table .entry)) id (now (starts .exit)) (now (words .exit)) r ⌝ }
+{
+    let found = find(table, id, starts, words);
+    match found {
+        Found::At(k, sizes) => {
+            if OPERATION_LIMIT < sizes.operations {
+                return Found::Refused(15, 0);
+            }
+            if WORD_LIMIT < sizes.words {
+                return Found::Refused(16, 0);
+            }
+            Found::At(k, sizes)
+        }
+        Found::Refused(number, place) => Found::Refused(number, place),
+    }
+}
+
+// ---- measures
+
+// The sizes of a function that can be compiled, or the refusal.
+pub enum Measured {
+    Is(Sizes),
+    Refused(u8, usize),
+}
+
+// The sizes of the function of an id: the table's refusals, then 14, 15 and 16.
+pub fn measure(table: &[u8], id: u16) -> Measured
+    ensures { λ r. ⌜ r ≡ measuredOf (compilable (now (table .entry)) id) ⌝ }
+{
+    let mut starts = [0u16; FUNCTION_LIMIT];
+    let mut words = [0u32; FUNCTION_LIMIT];
+    let found = find_compilable(table, id, &mut starts, &mut words);
+    match found {
+        Found::At(_, sizes) => Measured::Is(sizes),
+        Found::Refused(number, place) => Measured::Refused(number, place),
+    }
+}
+
+// A count within its limit, a count above it, or the refusal of the table or of the id.
+pub enum Count {
+    Exactly(usize),
+    Over,
+    Refused(u8, usize),
+}
+
+fn up_to(limit: usize, n: usize) -> Count
+    ensures { λ r. ⌜ r ≡ upTo limit n ⌝ }
+{
+    if n <= limit {
+        Count::Exactly(n)
+    } else {
+        Count::Over
+    }
+}
+
+// The operations of the function of an id: the table's refusals, then 14.
+pub fn operations(table: &[u8], id: u16) -> Count
+    ensures { λ r. ⌜ r ≡ countOf operationCount (named (now (table .entry)) id) ⌝ }
+{
+    let mut starts = [0u16; FUNCTION_LIMIT];
+    let mut words = [0u32; FUNCTION_LIMIT];
+    let found = find(table, id, &mut starts, &mut words);
+    match found {
+        Found::At(_, sizes) => up_to(OPERATION_LIMIT, sizes.operations),
+        Found::Refused(number, place) => Count::Refused(number, place),
+    }
+}
+
+// The words of the function of an id.
+pub fn words(table: &[u8], id: u16) -> Count
+    ensures { λ r. ⌜ r ≡ countOf wordCount (named (now (table .entry)) id) ⌝ }
+{
+    let mut starts = [0u16; FUNCTION_LIMIT];
+    let mut words = [0u32; FUNCTION_LIMIT];
+    let found = find(table, id, &mut starts, &mut words);
+    match found {
+        Found::At(_, sizes) => up_to(WORD_LIMIT, sizes.words),
+        Found::Refused(number, place) => Count::Refused(number, place),
+    }
+}
+
+// The length of the code of the function of an id; over where its operations or its words are.
+pub fn code_length(table: &[u8], id: u16) -> Count
+    ensures { λ r. ⌜ r ≡ countOf codeCount (named (now (table .entry)) id) ⌝ }
+{
+    let mut starts = [0u16; FUNCTION_LIMIT];
+    let mut words = [0u32; FUNCTION_LIMIT];
+    let found = find(table, id, &mut starts, &mut words);
+    match found {
+        Found::At(_, sizes) => {
+            if base::within_limits(sizes.operations, sizes.words) {
+                Count::Exactly(sizes.code)
+            } else {
+                Count::Over
+            }
+        }
+        Found::Refused(number, place) => Count::Refused(number, place),
+    }
+}
+
+// ---- the compiler
+
+// The code's length, or the refusal with its number and place.
+pub enum Compiled {
+    Length(usize),
+    Refused(u8, usize),
+}
+
+// The board list of the function of an id: its code's length, or the refusal.
+pub fn compile(table: &[u8], id: u16, code: &mut [u8]) -> Compiled
+    ensures { λ r. ⌜ r ≡ compiling.answerOf (compiled (now (table .entry)) id (now (code .entry))) ⌝ }
+    ensures { λ r. ⌜ now (code .exit) ≡ compiling.codeAfter (now (code .entry)) (compiled (now (table .entry)) id (now (code .entry))) ⌝ }
+{
+    let mut starts = [0u16; FUNCTION_LIMIT];
+    let mut words = [0u32; FUNCTION_LIMIT];
+    let found = find_compilable(table, id, &mut starts, &mut words);
+    match found {
+        Found::At(k, sizes) => {
+            let size = sizes.code;
+            if code.len() < size {
+                return Compiled::Refused(17, 0);
+            }
+            compiler::compile(table, &starts, &words, k, sizes, code);
+            Compiled::Length(size)
+        }
+        Found::Refused(number, place) => Compiled::Refused(number, place),
+    }
+}
+
+// ---- from table to output words
 
 // The answer of an evaluation: the count of output words, or the number of a refusal and its place.
 pub enum Evaluated {
@@ -45,9 +237,11 @@ pub fn evaluate(
     ensures { λ r. ⌜ Demand3 (λ n. r ≡ Done n) (now (table .entry)) id (now (arguments .entry)) (now (code .entry)) (now (work .entry)) (now (out .entry))
         (now (code .exit)) (now (work .exit)) (now (out .exit)) ⌝ }
 {
-    let measured = sums::measure_named(table, id);
-    match measured {
-        Measured::Is(sizes) => {
+    let mut starts = [0u16; FUNCTION_LIMIT];
+    let mut words = [0u32; FUNCTION_LIMIT];
+    let found = find_compilable(table, id, &mut starts, &mut words);
+    match found {
+        Found::At(k, sizes) => {
             let length = sizes.code;
             if code.len() < length {
                 return Evaluated::Refused(17, 0);
@@ -64,10 +258,10 @@ pub fn evaluate(
             if out.len() < sizes.outputs {
                 return Evaluated::Refused(21, 0);
             }
-            compiler::compile(table, id, code);
+            compiler::compile(table, &starts, &words, k, sizes, code);
             from_run(runner::run(&code[..length], arguments, work, out))
         }
-        Measured::Refused(number, place) => Evaluated::Refused(number, place),
+        Found::Refused(number, place) => Evaluated::Refused(number, place),
     }
 }
 
@@ -132,7 +326,7 @@ pub extern "C" fn ifg_compile(table: &[u8], id: u16, code: &mut [u8]) -> u64
     ensures { λ r. ⌜ Told (codeLength (compiled (now (table .entry)) id (now (code .entry)))) r ⌝ }
     ensures { λ r. ⌜ now (code .exit) ≡ codeAfter (now (code .entry)) (compiled (now (table .entry)) id (now (code .entry))) ⌝ }
 {
-    compiled_number(compiler::compile(table, id, code))
+    compiled_number(compile(table, id, code))
 }
 
 // Runs a code: the count of output words, or a refusal.

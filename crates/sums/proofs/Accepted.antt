@@ -8,7 +8,7 @@ use lib.Dec.{leb, eqb}
 use lib.ListN.{length}
 use borrow.Author.Tests.{leb-true, eqb-true, eqb-false}
 use Rattle.base.specs.Limits.{functionLimit, nodeLimit, portLimit}
-use Rattle.base.specs.Outcome.{ok, Part}
+use Rattle.base.specs.Outcome.{Outcome, ok, fault, _>>=_, Part}
 use Rattle.base.specs.Bytes.{byte, u16, Bytes}
 use Rattle.graph.specs.Graph.{Function}
 use Rattle.graph.specs.Format.{version1}
@@ -22,7 +22,18 @@ use Rattle.reader.specs.Layout.{nodeEnd, nodeCount, nodesPlace, functionEnd, fu
 use Rattle.reader.specs.Find.{ReadsNode, ReadsNodes, ReadsFunction}
 use Rattle.reader.proofs.Standing.{function-read, table-read}
 use Rattle.reader.proofs.Passed.{head-fits, callee-fits, first-reads, rest-reads, function-holds, length-earlier}
-use Rattle.sums.specs.Position.{placeOf, NodeFit, NodesFit, Fit, AllFit}
+use Rattle.sums.specs.Position.{placeOf, NodeFit, NodesFit, Fit, AllFit, Accepted}
+
+-- ---- a refused table
+
+faulted : (o : Outcome (List Function)) (a b : ℕ) → (o >>= λ fs. ok (length fs)) ≡ fault a b → o ≡ fault a b
+unfolding _>>=_
+faulted (ok fs) a b e = let z : _≡_ {A = ℕ} 0 1 = cc in absurd (omega arith)
+faulted (fault n p) a b e = (cc)
+
+pub refused-table : (s : List ℕ) (a b : ℕ) → verdict s ≡ fault a b → table s ≡ fault a b
+unfolding verdict
+refused-table s a b e = faulted (table s) a b e
 
 -- ---- the functions by position
 
@@ -33,7 +44,7 @@ module _ (s : List ℕ) (n : ℕ) (e : verdict s ≡ ok n) where
       let (fs, t, l) = took (table s) _ n e in
       (fs, t, ok-is l)
 
-  pub count-is : n ≡ byte s 5
+  count-is : n ≡ byte s 5
   count-is =
       let (fs, t, l) = judged in
       sym l ∙ ap length (table-read s fs t) ∙ length-earlier 8 s (byte s 5)
@@ -86,7 +97,7 @@ module _ (s : List ℕ) (n : ℕ) (e : verdict s ≡ ok n) where
 
 module _ (s : List ℕ) where
   -- each function was read where it stands
-  pub at-places : (n k : ℕ) (p : Part (List Function)) → functions nodeLimit n s (functionPlace 8 s k) ≡ ok p → (j : ℕ) → j < n → ReadsFunction s (functionPlace 8 s (k + j))
+  at-places : (n k : ℕ) (p : Part (List Function)) → functions nodeLimit n s (functionPlace 8 s k) ≡ ok p → (j : ℕ) → j < n → ReadsFunction s (functionPlace 8 s (k + j))
   unfolding functionPlace
   at-places zero k p e j l = absurd (omega arith)
   at-places (suc n) k p e zero l =
@@ -125,7 +136,7 @@ module _ (s : List ℕ) where
         let (u7, u8) = and-inv (leb 1 nout) (leb nout portLimit) u4 in
         (leb-true nin portLimit u6, leb-true nout portLimit u8)
 
-    pub function-fit : (k : ℕ) → ReadsFunction s (placeOf s k) → Fit s k
+    function-fit : (k : ℕ) → ReadsFunction s (placeOf s k) → Fit s k
     function-fit k r =
         let h = function-holds s (placeOf s k) r in
         let head = h .head in
@@ -143,22 +154,48 @@ sound-at s (suc n) k l (a, h) = pickOne (eqb k n) refl (λ m. sound-at s n k m h
     pickOne true e ih = let q : n ≡ k = sym (eqb-true k n e) in subst (λ (j : ℕ). AllSound (earlier 8 s (suc j))) q (a, h)
     pickOne false e ih = let q : k ≡ n → ⊥ = eqb-false k n e in ih (omega arith)
 
+was-read : (s : List ℕ) (n : ℕ) → verdict s ≡ ok n → (j : ℕ) → j < n → ReadsFunction s (placeOf s j)
+unfolding functionPlace
+was-read s n e j l =
+    let (p, ep) = functions-read s n e in
+    let q : n ≡ byte s 5 = count-is s n e in
+    let z : 0 + j ≡ j = omega arith in
+    subst (λ (i : ℕ). ReadsFunction s (functionPlace 8 s i)) z (at-places s (byte s 5) 0 p ep j (omega arith))
+
 module _ (s : List ℕ) (n : ℕ) (e : verdict s ≡ ok n) (small : Bytes s) where
   pub all-fit : AllFit s n
-  unfolding functionPlace
   all-fit j l =
-      let (p, ep) = functions-read s n e in
-      let q : n ≡ byte s 5 = count-is s n e in
       let w : u16 s 6 ≡ length s = length-is s n e in
       let a = small 6 in
       let b = small 7 in
-      let z : 0 + j ≡ j = omega arith in
-      function-fit s (omega arith) j (subst (λ (i : ℕ). ReadsFunction s (functionPlace 8 s i)) z (at-places s (byte s 5) 0 p ep j (omega arith)))
-
-  -- and of the first of them
-  pub first-fit : (k : ℕ) → k < n → AllFit s (k + 1)
-  first-fit k l j h = all-fit j (omega arith)
+      function-fit s (omega arith) j (was-read s n e j l)
 
   pub sound-here : (k : ℕ) → k < n → AllSound (functionOf 8 s k ∷ earlier 8 s k)
   unfolding earlier
   sound-here k l = sound-at s n k l (accepted s small (earlier 8 s n) (functions-are s n e))
+
+-- ---- of the first k functions
+
+module _ (s : List ℕ) (k : ℕ) (acc : Accepted s k) where
+  pub few : k ≤ functionLimit
+  few = let a = few-functions s (acc .functions) (acc .judged) in let b = acc .most in omega arith
+
+  pub fit-below : AllFit s k
+  fit-below j l = let b = acc .most in all-fit s (acc .functions) (acc .judged) (acc .small) j (omega arith)
+
+  pub sound-below : (j : ℕ) → j < k → AllSound (functionOf 8 s j ∷ earlier 8 s j)
+  sound-below j l = let b = acc .most in sound-here s (acc .functions) (acc .judged) (acc .small) j (omega arith)
+
+  pub read-below : (j : ℕ) → j < k → ReadsFunction s (placeOf s j)
+  read-below j l = let b = acc .most in was-read s (acc .functions) (acc .judged) j (omega arith)
+
+  pub short : length s < 65536
+  short =
+      let w : u16 s 6 ≡ length s = length-is s (acc .functions) (acc .judged) in
+      let a = acc .small 6 in
+      let b = acc .small 7 in
+      omega arith
+
+-- the functions before j
+pub fewer : (s : List ℕ) (k j : ℕ) → Accepted s k → j ≤ k → Accepted s j
+fewer s k j acc l = let m = acc .most in record { functions = acc .functions; judged = acc .judged; most = omega arith; small = acc .small }

@@ -8,4 +8,3 @@ pub mod CodeLimits
 pub mod Accepted
 pub mod Widths
 pub mod Measuring
-pub mod Choosing

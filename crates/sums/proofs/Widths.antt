@@ -5,11 +5,12 @@ use mathlib.Core.Bool.{Bool, true, false, cond}
 use mathlib.Core.List.{List, _∷_}
 use native.Mathlib.Omega.{arith}
 use lib.Dec.{eqb}
+use Rattle.base.specs.Limits.{portLimit, portWordLimit}
 use Rattle.ports.specs.Ports.{width, widths}
 use Rattle.base.specs.Bytes.{byte}
 use Rattle.graph.specs.Types.{outputTypes}
-use Rattle.reader.specs.Layout.{inputsAt, outputsAt, inputCount, outputCount, outputsPlace, functionAt, functionPlace, functionOf}
-use Rattle.sums.specs.Answers.{typesBy}
+use Rattle.reader.specs.Layout.{inputsAt, outputsAt, inputCount, outputCount, outputsPlace, functionAt}
+use Rattle.sums.specs.Answers.{typesBy, PortWordsAt}
 
 -- ---- the types at their places
 
@@ -31,17 +32,17 @@ module _ (s : List ℕ) (p : ℕ) where
   unfolding functionAt
   output-widths = ap widths (outputs-are (outputCount s p) s (outputsPlace s p))
 
--- of the function at position k, whose place is p
-module _ (s : List ℕ) (k p : ℕ) (e : p ≡ functionPlace 8 s k) where
-  pub inputs-by : (i : ℕ) → i ≡ byte s (p + 2) → widths (typesBy 1 i s (p + 6)) ≡ widths (functionOf 8 s k .inputs)
-  inputs-by i q = ap (λ (n : ℕ). widths (typesBy 1 n s (p + 6))) q ∙ input-widths s p ∙ ap (λ (x : ℕ). widths (functionAt s x .inputs)) e
-
-  pub outputs-by : (i n : ℕ) → i ≡ byte s (p + 2) → n ≡ byte s (p + 3) → widths (typesBy 4 n s (p + 6 + i)) ≡ widths (outputTypes (functionOf 8 s k .outputs))
-  outputs-by i n q r =
-      ap (λ (m : ℕ). widths (typesBy 4 m s (p + 6 + i))) r
-      ∙ ap (λ (m : ℕ). widths (typesBy 4 (outputCount s p) s (p + 6 + m))) q
-      ∙ output-widths s p
-      ∙ ap (λ (x : ℕ). widths (outputTypes (functionAt s x .outputs))) e
+-- as they are counted
+pub port-words : (s : List ℕ) (p i n wi wo : ℕ) → i ≡ inputCount s p → n ≡ outputCount s p → wi ≡ widths (typesBy 1 i s (p + 6)) → wo ≡ widths (typesBy 4 n s (p + 6 + i))
+    → wi ≤ portWordLimit → wo ≤ portWordLimit → PortWordsAt s p (record { inputs = wi; outputs = wo })
+port-words s p i n wi wo ei en ew eo li lo =
+    record {
+      inputs = ew ∙ ap (λ (m : ℕ). widths (typesBy 1 m s (p + 6))) ei ∙ input-widths s p;
+      outputs =
+          eo ∙ ap (λ (m : ℕ). widths (typesBy 4 m s (p + 6 + i))) en ∙ ap (λ (m : ℕ). widths (typesBy 4 (outputCount s p) s (p + 6 + m))) ei
+          ∙ output-widths s p;
+      few = (li, lo);
+    }
 
 -- ---- one after another
 
@@ -82,5 +83,5 @@ module _ (s : List ℕ) (p step n : ℕ) where
       let u : w + 0 ≡ widths (typesBy step n s p) = rw z at t in
       omega arith
 
-  pub width-room : (w q i x : ℕ) → Adding w q i → i < n → n < 256 → x ≡ width (byte s q) → w + x < 65536
+  pub width-room : (w q i x : ℕ) → Adding w q i → i < n → n ≤ portLimit → x ≡ width (byte s q) → w + x < 65536
   width-room w q i x h lt l e = let m : width (byte s q) ≤ 16 = width-few (byte s q) in let few = h .few in omega arith

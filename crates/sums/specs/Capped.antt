@@ -77,3 +77,7 @@ pub record Summed (s os ws cs bs : List ℕ) (j : ℕ) : Type 0 where
 -- and of all before k
 abbrev pub AllSummed : List ℕ → List ℕ → List ℕ → List ℕ → List ℕ → ℕ → Type 0
 AllSummed s ops words counts sizes k = (j : ℕ) → j < k → Summed s ops words counts sizes j
+
+-- the words of the functions before k
+abbrev pub WordsHeld : List ℕ → List ℕ → ℕ → Type 0
+WordsHeld s words k = (g : ℕ) → g < k → getD words g 0 ≡ cappedWords s g

@@ -8,7 +8,9 @@ use lib.ListN.{getD}
 use Rattle.base.specs.Limits.{functionLimit, nodeLimit, portLimit}
 use Rattle.ports.specs.declared.Form.the-variants.{Call}
 use Rattle.ports.specs.Ports.{formOf}
-use Rattle.base.specs.Bytes.{byte, u16}
+use Rattle.base.specs.Bytes.{Bytes, byte, u16}
+use Rattle.base.specs.Outcome.{ok}
+use Rattle.graph.specs.Judge.{verdict}
 use Rattle.graph.specs.Graph.{Function}
 use Rattle.reader.specs.Layout.{kindAt, nodeEnd, inputCount, outputCount, nodeCount, nodesPlace, functionPlace, functionOf, earlier}
 use Rattle.reader.specs.Find.{ReadsNode}
@@ -58,3 +60,12 @@ pub record Fit (s : List ℕ) (k : ℕ) : Type 0 where
 
 abbrev pub AllFit : List ℕ → ℕ → Type 0
 AllFit s k = (j : ℕ) → j < k → Fit s j
+
+-- ---- accepted tables
+
+-- an accepted table with at least k functions
+pub record Accepted (s : List ℕ) (k : ℕ) : Type 0 where
+  pub functions : ℕ
+  pub judged : verdict s ≡ ok functions
+  pub most : k ≤ functions
+  pub small : Bytes s

@@ -1,18 +1,15 @@
 // Operations, words and code length of a table's functions, by sums that are taken once for each function.
 ghost use mathlib.Core.Path.{_≡_};
 ghost use Prim.Native.Nat.{suc, _+_, _*_, _<_, _≤_, _^_, min};
-ghost use lib.ListN.{length, set};
+ghost use lib.ListN.{length, getD, set};
 ghost use lib.Seq.{sets};
-ghost use Rattle.base.specs.Limits.{functionLimit, valueLimit};
+ghost use Rattle.base.specs.Limits.{functionLimit, portLimit, portWordLimit};
 ghost use Rattle.ports.specs.Ports.{constantIn, widths, calling};
-ghost use Rattle.base.specs.Outcome.{ok};
 ghost use Rattle.base.specs.Bytes.{byte, u16};
-ghost use Rattle.graph.specs.Judge.{verdict};
-ghost use Rattle.lowering.specs.Answers.{compilable};
-ghost use Rattle.reader.specs.Layout.{nodeAt, nodeEnd, nodePlace, nodesPlace};
-ghost use Rattle.sums.specs.Position.{tabulate, placeOf, positionOf, Starts, NodesFit, Fit, AllFit};
-ghost use Rattle.sums.specs.Capped.{Caps, AllSummed, cappedOperations, cappedWords, cappedInstructions, cappedBytes};
-ghost use Rattle.sums.specs.Answers.{typesBy, codeLength, sizesOf, Names, measuredOf, upTo, countOf, named, operationCount, wordCount, codeCount};
+ghost use Rattle.reader.specs.Layout.{inputCount, outputCount, nodeAt, nodeEnd, nodePlace, nodesPlace};
+ghost use Rattle.sums.specs.Position.{tabulate, placeOf, positionOf, Starts, NodesFit, Fit, AllFit, Accepted};
+ghost use Rattle.sums.specs.Capped.{Caps, Summed, AllSummed, WordsHeld, cappedOperations, cappedWords, cappedInstructions, cappedBytes};
+ghost use Rattle.sums.specs.Answers.{typesBy, codeLength, PortWordsAt, Measures};
 use base::CODE_LIMIT;
 use base::FUNCTION_LIMIT;
 use base::OPERATION_LIMIT;
@@ -22,7 +19,7 @@ use base::padded_u16;
 use base::wide;
 use base::wide16;
 use base::wide32;
-use checker::Verdict;
+use base::within_limits;
 use ports::Ports;
 
 // ---- numbers
@@ -110,7 +107,7 @@ pub fn position_of(t: &[u8], starts: &[u16; FUNCTION_LIMIT], k: usize, c: usize)
 
 // ---- sums
 
-// Operations, result words, instructions and bytes of code; at a cap or above it, some number that is.
+// Operations, result words, instructions and bytes of code, saturated: exact below the cap.
 pub struct Sums {
     pub operations: usize,
     pub words: usize,
@@ -236,9 +233,9 @@ pub fn all_sums(
 // ---- sizes
 
 // The words of n types, the first at p and each `step` bytes behind the one before it.
-pub fn widths_at(t: &[u8], p: usize, step: usize, n: usize) -> usize
-    requires { ⌜ (p < 2 ^ 20) × (step ≤ 4) × (n < 256) ⌝ }
-    ensures { λ r. ⌜ (r ≡ widths (typesBy step n (now (t .entry)) p)) × (r < 65536) × (r ≤ valueLimit * n) ⌝ }
+fn widths_at(t: &[u8], p: usize, step: usize, n: usize) -> usize
+    requires { ⌜ (p < 2 ^ 20) × (step ≤ 4) × (n ≤ portLimit) ⌝ }
+    ensures { λ r. ⌜ (r ≡ widths (typesBy step n (now (t .entry)) p)) × (r ≤ portWordLimit) ⌝ }
 {
     let mut total = 0;
     let mut q = p;
@@ -251,194 +248,95 @@ pub fn widths_at(t: &[u8], p: usize, step: usize, n: usize) -> usize
     total
 }
 
-// The length of the code; 0 where a count is above its limit.
-fn code_size(operations: usize, words: usize, bytes: usize, outputs: usize) -> usize
+// The words of a function's inputs and of its outputs.
+pub struct PortWords {
+    pub inputs: usize,
+    pub outputs: usize,
+}
+
+// Of the function at p.
+fn port_words(t: &[u8], p: usize) -> PortWords
+    requires { ⌜ (p < 65536) × (inputCount (now t) p ≤ portLimit) × (outputCount (now t) p ≤ portLimit) ⌝ }
+    ensures { λ r. ⌜ PortWordsAt (now (t .entry)) p r ⌝ }
+{
+    let input_count = wide(padded_byte(t, p + 2));
+    let inputs = widths_at(t, p + 6, 1, input_count);
+    let output_count = wide(padded_byte(t, p + 3));
+    let outputs = widths_at(t, p + 6 + input_count, 4, output_count);
+    PortWords { inputs, outputs }
+}
+
+// The length of the code; 0 where operations or words are above their limits.
+fn code_length(operations: usize, words: usize, bytes: usize, outputs: usize) -> usize
     requires { ⌜ (bytes < 2 ^ 32) × (outputs < 65536) ⌝ }
     ensures { λ r. ⌜ r ≡ codeLength operations words bytes outputs ⌝ }
 {
-    if operations <= OPERATION_LIMIT {
-        if words <= WORD_LIMIT {
-            12 + bytes + 2 * outputs
-        } else {
-            0
-        }
+    if within_limits(operations, words) {
+        12 + bytes + 2 * outputs
     } else {
         0
     }
 }
 
-// A function's place, its operations and words, each one above its limit where it is above it, the length of its code,
-// 0 where one of the two is above its limit, and the words of its inputs and outputs.
+// A function's place; its operations, words and instructions, saturated: exact up to the limits; the length of its code, 0 where
+// operations or words are above their limits; the words of its inputs and outputs.
 pub struct Sizes {
     pub place: usize,
     pub operations: usize,
     pub words: usize,
+    pub instructions: usize,
     pub code: usize,
     pub arguments: usize,
     pub outputs: usize,
 }
 
-// The sizes of the function at position k of an accepted table.
-pub fn measure(table: &[u8], count: usize, k: usize) -> Sizes
-    requires { ⌜ (verdict (now table) ≡ ok count) × (k < count) ⌝ }
-    ensures { λ r. ⌜ (r ≡ sizesOf (now (table .entry)) k) × (r .place < 65536) ⌝ }
+// The sizes of the function at position k of an accepted table, whose sums are taken.
+pub fn sizes_at(
+    t: &[u8],
+    starts: &[u16; FUNCTION_LIMIT],
+    k: usize,
+    ops: &[u32; FUNCTION_LIMIT],
+    words: &[u32; FUNCTION_LIMIT],
+    counts: &[u32; FUNCTION_LIMIT],
+    sizes: &[u32; FUNCTION_LIMIT],
+) -> Sizes
+    requires { ⌜ Accepted (now t) (suc k) × (getD (now starts) k 0 ≡ placeOf (now t) k) × Summed (now t) (now ops) (now words) (now counts) (now sizes) k ⌝ }
+    ensures { λ r. ⌜ Measures (now (t .entry)) k r ⌝ }
 {
-    let mut starts = [0u16; FUNCTION_LIMIT];
-    find_starts(table, k + 1, &mut starts);
-    let mut ops = [0u32; FUNCTION_LIMIT];
-    let mut results = [0u32; FUNCTION_LIMIT];
-    let mut counts = [0u32; FUNCTION_LIMIT];
-    let mut sizes = [0u32; FUNCTION_LIMIT];
-    all_sums(
-        table,
-        &starts,
-        k + 1,
-        &mut ops,
-        &mut results,
-        &mut counts,
-        &mut sizes,
-    );
-    let p = wide16(starts[k]);
+    let place = wide16(starts[k]);
+    let ports = port_words(t, place);
     let operations = wide32(ops[k]);
-    let own = wide32(results[k]);
+    let own = wide32(words[k]);
+    let instructions = wide32(counts[k]);
     let bytes = wide32(sizes[k]);
-    let inputs = wide(padded_byte(table, p + 2));
-    let arguments = widths_at(table, p + 6, 1, inputs);
-    let outputs = widths_at(table, p + 6 + inputs, 4, wide(padded_byte(table, p + 3)));
-    let words = capped(arguments + own, WORD_CAP);
-    let code = code_size(operations, words, bytes, outputs);
+    let arguments = ports.inputs;
+    let outputs = ports.outputs;
+    let all = capped(arguments + own, WORD_CAP);
+    let code = code_length(operations, all, bytes, outputs);
     Sizes {
-        place: p,
+        place,
         operations,
-        words,
+        words: all,
+        instructions,
         code,
         arguments,
         outputs,
     }
 }
 
-// ---- by the function's id
-
-// The count of an accepted table's functions and the position of the one asked for, or a refusal.
-pub enum Named {
-    At(usize, usize),
-    Refused(u8, usize),
-}
-
-fn find_named(table: &[u8], id: u16) -> Named
-    ensures { λ r. ⌜ Names (now (table .entry)) id r ⌝ }
+// The sizes of the function at position k of an accepted table, and the words of the functions up to it.
+pub fn measure(
+    t: &[u8],
+    starts: &[u16; FUNCTION_LIMIT],
+    k: usize,
+    words: &mut [u32; FUNCTION_LIMIT],
+) -> Sizes
+    requires { ⌜ Accepted (now t) (suc k) × Starts (now t) (now starts) (suc k) × (length (now words) ≡ functionLimit) ⌝ }
+    ensures { λ r. ⌜ Measures (now (t .entry)) k r × WordsHeld (now (t .entry)) (now (words .exit)) (suc k) ⌝ }
 {
-    let answer = checker::check(table);
-    match answer {
-        Verdict::Accepted(count) => {
-            let mut starts = [0u16; FUNCTION_LIMIT];
-            find_starts(table, count, &mut starts);
-            let k = position_of(table, &starts, count, wide16(id));
-            if k < count {
-                Named::At(count, k)
-            } else {
-                Named::Refused(14, 0)
-            }
-        }
-        Verdict::Refused(number, place) => Named::Refused(number, place),
-    }
-}
-
-// The sizes of a function that can be compiled, or the refusal.
-pub enum Measured {
-    Is(Sizes),
-    Refused(u8, usize),
-}
-
-// The sizes of the function of an id: the table's refusals, then 14, 15 and 16.
-pub fn measure_named(table: &[u8], id: u16) -> Measured
-    ensures { λ r. ⌜ r ≡ measuredOf (compilable (now (table .entry)) id) ⌝ }
-{
-    let answer = find_named(table, id);
-    match answer {
-        Named::At(count, k) => {
-            let m = measure(table, count, k);
-            let operations = m.operations;
-            let words = m.words;
-            if operations <= OPERATION_LIMIT {
-                if words <= WORD_LIMIT {
-                    Measured::Is(m)
-                } else {
-                    Measured::Refused(16, 0)
-                }
-            } else {
-                Measured::Refused(15, 0)
-            }
-        }
-        Named::Refused(number, place) => Measured::Refused(number, place),
-    }
-}
-
-// A count within its limit, a count above it, or the refusal of the table or of the id.
-pub enum Count {
-    Exactly(usize),
-    Over,
-    Refused(u8, usize),
-}
-
-fn up_to(limit: usize, n: usize) -> Count
-    ensures { λ r. ⌜ r ≡ upTo limit n ⌝ }
-{
-    if n <= limit {
-        Count::Exactly(n)
-    } else {
-        Count::Over
-    }
-}
-
-// The operations of the function of an id: the table's refusals, then 14.
-pub fn operations(table: &[u8], id: u16) -> Count
-    ensures { λ r. ⌜ r ≡ countOf operationCount (named (now (table .entry)) id) ⌝ }
-{
-    let answer = find_named(table, id);
-    match answer {
-        Named::At(count, k) => {
-            let m = measure(table, count, k);
-            up_to(OPERATION_LIMIT, m.operations)
-        }
-        Named::Refused(number, place) => Count::Refused(number, place),
-    }
-}
-
-// The words of the function of an id.
-pub fn words(table: &[u8], id: u16) -> Count
-    ensures { λ r. ⌜ r ≡ countOf wordCount (named (now (table .entry)) id) ⌝ }
-{
-    let answer = find_named(table, id);
-    match answer {
-        Named::At(count, k) => {
-            let m = measure(table, count, k);
-            up_to(WORD_LIMIT, m.words)
-        }
-        Named::Refused(number, place) => Count::Refused(number, place),
-    }
-}
-
-// The length of the code of the function of an id; over where its operations or its words are.
-pub fn code_length(table: &[u8], id: u16) -> Count
-    ensures { λ r. ⌜ r ≡ countOf codeCount (named (now (table .entry)) id) ⌝ }
-{
-    let answer = find_named(table, id);
-    match answer {
-        Named::At(count, k) => {
-            let m = measure(table, count, k);
-            let operations = m.operations;
-            let words = m.words;
-            if operations <= OPERATION_LIMIT {
-                if words <= WORD_LIMIT {
-                    Count::Exactly(m.code)
-                } else {
-                    Count::Over
-                }
-            } else {
-                Count::Over
-            }
-        }
-        Named::Refused(number, place) => Count::Refused(number, place),
-    }
+    let mut ops = [0u32; FUNCTION_LIMIT];
+    let mut counts = [0u32; FUNCTION_LIMIT];
+    let mut sizes = [0u32; FUNCTION_LIMIT];
+    all_sums(t, starts, k + 1, &mut ops, words, &mut counts, &mut sizes);
+    sizes_at(t, starts, k, &ops, words, &counts, &sizes)
 }

@@ -15,7 +15,8 @@ use Rattle.reader.specs.Find.{ReadsNodes}
 use Rattle.sums.specs.Position.{placeOf, Fit}
 use Rattle.compiler.specs.Locating.{Slots, Places, outputCodes}
 use Rattle.compiler.proofs.Filling.{places-are, slots-are}
-use Rattle.compiler.proofs.Accepting.{few, fit-at, reads-nodes, fresh-at}
+use Rattle.sums.proofs.Accepted.{few, fit-below, short}
+use Rattle.compiler.proofs.Accepting.{reads-nodes, fresh-at}
 use Rattle.compiler.proofs.Outputs.{function-allocated}
 use Rattle.compiler.proofs.allocate_function.Statement.{statement}
 use Rattle.compiler.proofs.allocate_function.Tie as tie
@@ -25,7 +26,7 @@ low : (c : tie.Start) → c .args .k < 16
 low c = let l = few (c .args .t .now) (suc (c .args .k)) (c .pre .0 .0) in omega arith
 
 fit : (c : tie.Start) → Fit (c .args .t .now) (c .args .k)
-fit c = fit-at (c .args .t .now) (suc (c .args .k)) (c .pre .0 .0) (c .args .k) (omega arith)
+fit c = fit-below (c .args .t .now) (suc (c .args .k)) (c .pre .0 .0) (c .args .k) (omega arith)
 
 mul-wide16 : tie.Need-mul-wide16
 mul-wide16 c = let l = low (c .before) in omega arith
@@ -60,7 +61,7 @@ single c =
     rw (e, b) (fresh-at (d .args .t .now) (suc (d .args .k)) (d .pre .0 .0) (d .args .k) (omega arith))
 
 places-requires : tie.Need-places-requires
-places-requires c κs = let (x, z) = nodes (c .before) in (z, x, (let l = c .before .before .before .before .before .before .pre .0 .0 .short in omega arith), length-replicate {A = ℕ} nodeLimit 0)
+places-requires c κs = let (x, z) = nodes (c .before) in (z, x, (let l = short (c .before .before .before .before .before .before .args .t .now) (suc (c .before .before .before .before .before .before .args .k)) (c .before .before .before .before .before .before .pre .0 .0) in omega arith), length-replicate {A = ℕ} nodeLimit 0)
 
 resolve-requires : tie.Need-resolve-requires
 resolve-requires c κs = let (x, z) = nodes (c .before .before .before) in (z, x, length-replicate {A = ℕ} slotLimit 0, single (c .before .before .before))

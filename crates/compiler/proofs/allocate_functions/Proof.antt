@@ -4,8 +4,8 @@ use mathlib.Core.Path.{_≡_, refl, sym, subst}
 use native.Mathlib.Omega.{arith}
 use Rattle.compiler.specs.Emit.{AllAllocated}
 use Rattle.compiler.specs.Locating.{AllOuts, AllocatedTo}
-use Rattle.compiler.proofs.Accepting.{few}
-use Rattle.compiler.proofs.Tables.{fewer, allocated-none}
+use Rattle.sums.proofs.Accepted.{few, fewer}
+use Rattle.compiler.proofs.Tables.{allocated-none}
 use Rattle.compiler.proofs.allocate_functions.Statement.{statement}
 use Rattle.compiler.proofs.allocate_functions.Tie as tie
 

@@ -9,10 +9,10 @@ use Rattle.graph.specs.Look.{reads}
 use Rattle.graph.proofs.Formed.{refs-length}
 use Rattle.reader.specs.Layout.{nodeAt, nodesPlace, nodeCount}
 use Rattle.order.specs.Indices.{indexOrder}
-use Rattle.sums.specs.Position.{placeOf, NodeFit}
+use Rattle.sums.specs.Position.{placeOf, NodeFit, Accepted}
 use Rattle.sums.specs.Capped.{addsWords}
-use Rattle.compiler.specs.Locating.{Accepted, Slots, Places}
-use Rattle.compiler.proofs.Accepting.{few, fit-at}
+use Rattle.compiler.specs.Locating.{Slots, Places}
+use Rattle.sums.proofs.Accepted.{few, fit-below}
 use Rattle.compiler.proofs.Allocating.{State, start, index-low, node-fits, advance, finished}
 use Rattle.compiler.proofs.allocate_nodes.Statement.{statement}
 use Rattle.compiler.proofs.allocate_nodes.Tie as tie
@@ -41,7 +41,7 @@ lent c =
       subst (λ (n : ℕ). Slots s at n (a .targets .now)) e x,
       subst (λ (n : ℕ). Places s at (a .places .now) n) e y,
       subst (λ (n : ℕ). a .index .now ≡ sets (replicate nodeLimit 0) 0 (indexOrder (a .targets .now) n)) e z,
-      fit-at s (suc (a .k)) (c .pre .0 .0) (a .k) (omega arith) .count,
+      fit-below s (suc (a .k)) (c .pre .0 .0) (a .k) (omega arith) .count,
       omega arith,
     )
 
@@ -132,7 +132,7 @@ allocate-node-requires c κs =
     let n = count (c .before .before .before .before .before) in
     let a = c .before .before .before .before .before .before .before .before .before .before .before .before .before .args in (
       (omega arith, omega arith, fit, c .before .before .before .before .before .before .before .before .before .before .before .before .before .pre .1 .0 .0, c .before .before .before .before .before .before .before .before .before .before .before .before .before .pre .1 .0 .1),
-      (((λ j jl. fit-at (a .t .now) (suc (a .k)) (c .before .before .before .before .before .before .before .before .before .before .before .before .before .pre .0 .0) j (omega arith)), c .before .before .before .before .before .before .before .before .before .before .before .before .before .pre .1 .0 .2, omega arith, n), words),
+      (((λ j jl. fit-below (a .t .now) (suc (a .k)) (c .before .before .before .before .before .before .before .before .before .before .before .before .before .pre .0 .0) j (omega arith)), c .before .before .before .before .before .before .before .before .before .before .before .before .before .pre .1 .0 .2, omega arith, n), words),
     )
 
 add-here : tie.Need-add-here Inv-loop μ-loop

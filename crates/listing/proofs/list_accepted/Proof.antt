@@ -18,8 +18,8 @@ put-bytes-requires c κs =
     let room = accepted-rooms (a .count) (omega arith) in
     room-rest newline (one .put-field .ensures) (omega arith)
 
-put-functions-requires : tie.Need-put-functions-requires
-put-functions-requires c κs =
+put-table-requires : tie.Need-put-table-requires
+put-table-requires c κs =
     let two = c .before in
     let one = two .before .before .before in
     let s = one .before .before .before .before in
@@ -32,11 +32,11 @@ returns c =
     let one = two .before .before .before in
     let s = one .before .before .before .before in (
       same (listing-accepted (s .args .table .now) (s .args .count) (s .pre))
-          (then (then (one .put-field .ensures) (two .put-bytes .ensures)) (c .put-functions .ensures .0)),
-      c .put-functions .ensures .1,
+          (then (then (one .put-field .ensures) (two .put-bytes .ensures)) (c .put-table .ensures .0)),
+      c .put-table .ensures .1,
     )
 
 pub list-accepted-spec : {M : Type 1} → statement M
 list-accepted-spec =
     tie.close
-    (tie.spec (λ c. search needs) put-field-requires (λ c. search needs) put-bytes-requires put-functions-requires returns)
+    (tie.spec (λ c. search needs) put-field-requires (λ c. search needs) put-bytes-requires put-table-requires returns)

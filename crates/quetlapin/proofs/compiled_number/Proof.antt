@@ -1,7 +1,7 @@
 -- `quetlapin::compiled_number`, by the answer.
 use borrow.Author.Needs.{needs}
 use mathlib.Core.Path.{subst}
-use Rattle.compiler.specs.declared.Compiled.{Compiled}
+use Rattle.quetlapin.specs.declared.Compiled.{Compiled}
 use Rattle.quetlapin.specs.Numbers.{Bounded, ofCompiled}
 use Rattle.quetlapin.proofs.compiled_number.Statement.{statement}
 use Rattle.quetlapin.proofs.compiled_number.Tie as tie

@@ -1,48 +1,25 @@
 use borrow.Author.Needs.{needs}
-use mathlib.Core.Path.{_≡_, subst}
-use Prim.Native.Nat.{_<_}
-use Rattle.base.specs.Outcome.{ok}
-use Rattle.graph.specs.Judge.{verdict}
-use Rattle.sums.specs.Answers.{named, chosenAt, Names, codeCount}
-use Rattle.sums.proofs.Choosing.{its-code, no-code-either, no-code, count-refused}
+use mathlib.Core.Path.{_≡_, sym, _∙_}
+use mathlib.Core.Bool.{true, false}
+use Rattle.base.specs.Limits.{withinLimits}
+use Rattle.sums.specs.Answers.{codeLength}
 use Rattle.sums.proofs.code_length.Statement.{statement}
 use Rattle.sums.proofs.code_length.Tie as tie
 
--- the function that was found
-found : (d : tie.After-known-told) →
-    let a = d .before .before .before .before .before .args in
-    let g = d .before .answer .given .0 in
-    (verdict (a .table .now) ≡ ok (g .0)) × (g .1 .0 < g .0) × (named (a .table .now) (a .id) ≡ ok (chosenAt (a .table .now) (g .1 .0)))
-found d = let a = d .before .before .before .before .before .args in subst (Names (a .table .now) (a .id)) (d .before .answer .given .1) (d .before .before .before .find-named .ensures)
-
-measure-requires : tie.Need-measure-requires
-measure-requires c κs = (found c .0, found c .1)
-
 returns : tie.Need-returns
+unfolding codeLength
 returns c =
-    let d = c .before .before .before in
-    let a = d .before .before .before .before .before .args in
-    let m = c .before .before .measure in
-    its-code (a .table .now) (a .id) (d .before .answer .given .0 .1 .0) (found d .2) (m .result) (m .ensures .0) (c .before .if1 .taken) (c .if2 .taken)
+    let a = c .before .before .args in
+    let e : withinLimits (a .operations) (a .words) ≡ true = sym (c .before .within-limits .ensures) ∙ c .if1 .taken in
+    rw e
 
 returns-2 : tie.Need-returns-2
+unfolding codeLength
 returns-2 c =
-    let d = c .before .before .before in
-    let a = d .before .before .before .before .before .args in
-    let m = c .before .before .measure in
-    no-code-either (a .table .now) (a .id) (d .before .answer .given .0 .1 .0) (found d .2) (m .result) (m .ensures .0) (c .before .if1 .taken) (c .if2 .left)
-
-returns-3 : tie.Need-returns-3
-returns-3 c =
-    let d = c .before .before in
-    let a = d .before .before .before .before .before .args in
-    let m = c .before .measure in
-    no-code (a .table .now) (a .id) (d .before .answer .given .0 .1 .0) (found d .2) (m .result) (m .ensures .0) (c .if1 .left)
-
-returns-4 : tie.Need-returns-4
-returns-4 c = let a = c .before .before .before .before .before .args in count-refused codeCount (a .table .now) (a .id) _ _ (subst (Names (a .table .now) (a .id)) (c .before .answer2 .given .1) (c .before .before .before .find-named .ensures))
+    let a = c .before .before .args in
+    let e : withinLimits (a .operations) (a .words) ≡ false = sym (c .before .within-limits .ensures) ∙ c .if1 .left in
+    rw e
 
 pub code-length-spec : {M : Type 1} → statement M
 code-length-spec =
-    tie.close
-    (tie.spec (λ c κs. search needs) (λ c. search needs) measure-requires (λ c. search needs) returns returns-2 returns-3 returns-4)
+    tie.close (tie.spec (λ c κs. search needs) (λ c. search needs) (λ c. search needs) (λ c. search needs) returns returns-2)

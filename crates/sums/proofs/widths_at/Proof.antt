@@ -51,7 +51,7 @@ returns c =
     let few = l .inv .few in
     let index = l .inv .index in
     let n = c .before .before .before .pre .2 in
-    (add-done (a .t .now) (a .p) (a .step) (a .n) (l .total) (l .q) (l .i) (l .inv) (c .loop-test .left), omega arith, omega arith)
+    (add-done (a .t .now) (a .p) (a .step) (a .n) (l .total) (l .q) (l .i) (l .inv) (c .loop-test .left), omega arith)
 
 pub widths-at-spec : {M : Type 1} → statement M
 widths-at-spec =

@@ -1,4 +1,4 @@
--- The function of an id in an accepted table, and what its capped sizes say of its counts.
+-- The function of an id in a table, and what its saturated sizes say of its counts and of whether it can be compiled.
 use Prim.Native.Nat.{ℕ, suc, _≤_, _<_, min}
 use mathlib.Core.Path.{_≡_, refl, sym, ap, _∙_, subst}
 use mathlib.Core.Bool.{Bool, true, false, cond}
@@ -8,27 +8,29 @@ use native.Mathlib.Omega.{arith}
 use lib.Dec.{leb, eqb}
 use lib.ListN.{length}
 use borrow.Author.Tests.{leb-true, le-leb, lt-leb}
-use Rattle.sums.specs.Capped.{operationCap, wordCap}
+use Rattle.base.specs.Limits.{operationLimit, wordLimit, withinLimits}
 use Rattle.base.specs.Outcome.{Outcome, ok, fault, _>>=_, _>>_, need, orElse}
 use Rattle.base.specs.Bytes.{u16}
+use Rattle.base.proofs.Outcomes.{takes, stops, passes, fails}
 use Rattle.graph.specs.Graph.{Function}
 use Rattle.graph.specs.Judge.{table, verdict}
 use Rattle.graph.specs.Sums.{functionOperations, operationsOf, functionWords}
 use Rattle.graph.specs.Table.{Chosen, chosen}
-use Rattle.base.proofs.Outcomes.{takes, stops, passes, fails}
 use Rattle.lowering.specs.Answers.{within, compilable, codeOf}
-use Rattle.base.specs.Limits.{operationLimit, wordLimit}
 use Rattle.reader.specs.Layout.{functionAt, functionOf, earlier}
 use Rattle.checker.specs.declared.Verdict.{Verdict}
 use Rattle.checker.specs.Answers.{verdictOf}
 use Rattle.sums.specs.declared.Sizes.{Sizes}
-use Rattle.sums.specs.declared.Measured.{Measured}
-use Rattle.sums.specs.declared.Count.{Count}
+use Rattle.sums.specs.CodeSums.{functionInstructions, instructionsOf}
 use Rattle.sums.specs.Position.{placeOf, before, positionOf}
-use Rattle.sums.specs.Answers.{cappedSizes, sizesOf, named, chosenAt, exactSizes, measuredOf, upTo, countOf, operationCount, wordCount, codeCount}
+use Rattle.sums.specs.Capped.{operationCap, wordCap}
+use Rattle.sums.specs.Answers.{cappedSizes, sizesOf}
 use Rattle.sums.proofs.Positions.{at-position, no-position}
-use Rattle.sums.proofs.Accepted.{functions-are, few-functions}
+use Rattle.sums.proofs.Accepted.{functions-are, few-functions, refused-table}
+use Rattle.sums.proofs.CodeSizes.{function-operations}
 use Rattle.sums.proofs.Measuring.{leb-cap}
+use Rattle.quetlapin.specs.declared.Count.{Count}
+use Rattle.quetlapin.specs.Measures.{named, chosenAt, exactSizes, upTo, countOf, operationCount, wordCount, codeCount}
 
 -- ---- what an answer of the checker says of the verdict
 
@@ -42,14 +44,9 @@ is-refused (fault x y) a b e = (cc)
 
 -- ---- the function of an id
 
-pub chosen-one : (s : List ℕ) (m c : ℕ) → chosen c (before s (suc m)) ≡ cond (eqb (u16 s (placeOf s m)) c) (some (chosenAt s m)) (chosen c (before s m))
+chosen-one : (s : List ℕ) (m c : ℕ) → chosen c (before s (suc m)) ≡ cond (eqb (u16 s (placeOf s m)) c) (some (chosenAt s m)) (chosen c (before s m))
 unfolding earlier functionAt
 chosen-one s m c = refl
-
-pub faulted : (o : Outcome (List Function)) (a b : ℕ) → (o >>= λ fs. ok (length fs)) ≡ fault a b → o ≡ fault a b
-unfolding _>>=_
-faulted (ok fs) a b e = let z : _≡_ {A = ℕ} 0 1 = cc in absurd (omega arith)
-faulted (fault n p) a b e = (cc)
 
 module _ (s : List ℕ) (c : ℕ) where
   module _ (n g : ℕ) (e : verdict s ≡ ok n) (eg : g ≡ positionOf s n c) where
@@ -69,8 +66,7 @@ module _ (s : List ℕ) (c : ℕ) where
         here ∙ ap (λ (o : Option Chosen). orElse o 14 0) p
 
   pub named-refused : (a b : ℕ) → verdict s ≡ fault a b → named s c ≡ fault a b
-  unfolding verdict
-  named-refused a b e = stops (table s) (λ fs. orElse (chosen c fs) 14 0) a b (faulted (table s) a b e)
+  named-refused a b e = stops (table s) (λ fs. orElse (chosen c fs) 14 0) a b (refused-table s a b e)
 
 -- ---- 15 and 16
 
@@ -90,8 +86,8 @@ unfolding _>>=_
 within-refused (ok fs) c a b e = stops (orElse (chosen c fs) 14 0) _ a b e
 within-refused (fault n p) c a b e = e
 
-pub compilable-refused : (s : List ℕ) (c a b : ℕ) → named s c ≡ fault a b → Measured.Refused a b ≡ measuredOf (compilable s c)
-compilable-refused s c a b e = ap measuredOf (sym (within-refused (table s) c a b e))
+pub compilable-refused : (s : List ℕ) (c a b : ℕ) → named s c ≡ fault a b → compilable s c ≡ fault a b
+compilable-refused s c a b e = within-refused (table s) c a b e
 
 pub count-refused : (g : Chosen → Count) (s : List ℕ) (c a b : ℕ) → named s c ≡ fault a b → Count.Refused a b ≡ countOf g (named s c)
 count-refused g s c a b e = ap (countOf g) (sym e)
@@ -129,59 +125,57 @@ module _ (s : List ℕ) (c k : ℕ) (e : named s c ≡ ok (chosenAt s k)) (m : S
   words-test : leb (m .words) wordLimit ≡ leb (functionWords (earlier 8 s k) (functionOf 8 s k)) wordLimit
   words-test = ap (λ (n : ℕ). leb n wordLimit) capped-words ∙ leb-cap wordLimit (functionWords (earlier 8 s k) (functionOf 8 s k))
 
-  module _ (l : operationLimit < m .operations) where
-    many : leb (functionOperations (operationsOf (earlier 8 s k)) (functionOf 8 s k)) operationLimit ≡ false
-    many = sym operations-test ∙ lt-leb (m .operations) operationLimit l
+  abbrev operations : ℕ
+  operations = functionOperations (operationsOf (earlier 8 s k)) (functionOf 8 s k)
 
-    pub over-operations : Measured.Refused 15 0 ≡ measuredOf (compilable s c)
-    over-operations = ap measuredOf (sym (within-found (table s) c (chosenAt s k) e ∙ fails _ 15 0 _ many))
+  abbrev words : ℕ
+  words = functionWords (earlier 8 s k) (functionOf 8 s k)
 
-    pub no-code : Count.Over ≡ countOf codeCount (named s c)
-    unfolding codeCount
-    no-code = sym (ap (countOf codeCount) e ∙ rw many)
+  pub over-operations : operationLimit < m .operations → compilable s c ≡ fault 15 0
+  over-operations l = within-found (table s) c (chosenAt s k) e ∙ fails _ 15 0 _ (sym operations-test ∙ lt-leb (m .operations) operationLimit l)
 
   module _ (l : m .operations ≤ operationLimit) where
-    few : leb (functionOperations (operationsOf (earlier 8 s k)) (functionOf 8 s k)) operationLimit ≡ true
+    few : leb operations operationLimit ≡ true
     few = sym operations-test ∙ le-leb (m .operations) operationLimit l
 
-    module _ (h : wordLimit < m .words) where
-      long : leb (functionWords (earlier 8 s k) (functionOf 8 s k)) wordLimit ≡ false
-      long = sym words-test ∙ lt-leb (m .words) wordLimit h
-
-      pub over-words : Measured.Refused 16 0 ≡ measuredOf (compilable s c)
-      over-words = ap measuredOf (sym (within-found (table s) c (chosenAt s k) e ∙ passes _ 15 0 _ few ∙ fails _ 16 0 _ long))
-
-      pub no-code-either : Count.Over ≡ countOf codeCount (named s c)
-      unfolding codeCount
-      no-code-either = sym (ap (countOf codeCount) e ∙ rw (few, long))
+    pub over-words : wordLimit < m .words → compilable s c ≡ fault 16 0
+    over-words h =
+        within-found (table s) c (chosenAt s k) e ∙ passes _ 15 0 _ few ∙ fails _ 16 0 _ (sym words-test ∙ lt-leb (m .words) wordLimit h)
 
     module _ (h : m .words ≤ wordLimit) where
-      short : leb (functionWords (earlier 8 s k) (functionOf 8 s k)) wordLimit ≡ true
+      short : leb words wordLimit ≡ true
       short = sym words-test ∙ le-leb (m .words) wordLimit h
 
+      pub within-limits : compilable s c ≡ ok (chosenAt s k)
+      within-limits = within-found (table s) c (chosenAt s k) e ∙ passes _ 15 0 _ few ∙ passes _ 16 0 _ short
+
       -- within the limits the sizes are exact
-      exact : cappedSizes (earlier 8 s k) (functionOf 8 s k) ≡ exactSizes (chosenAt s k)
+      pub exact : m ≡ exactSizes (chosenAt s k)
       unfolding cappedSizes exactSizes
       exact =
           let eo = capped-operations in
           let ew = capped-words in
-          let zo : min operationCap (functionOperations (operationsOf (earlier 8 s k)) (functionOf 8 s k)) ≡ functionOperations (operationsOf (earlier 8 s k)) (functionOf 8 s k) = omega arith in
-          let zw : min wordCap (functionWords (earlier 8 s k) (functionOf 8 s k)) ≡ functionWords (earlier 8 s k) (functionOf 8 s k) = omega arith in
-          rw (few, short, zo, zw)
+          let i = function-operations (earlier 8 s k) (functionOf 8 s k) in
+          let zo : min operationCap operations ≡ operations = omega arith in
+          let zw : min wordCap words ≡ words = omega arith in
+          let zi : min operationCap (functionInstructions (instructionsOf (earlier 8 s k)) (functionOf 8 s k)) ≡ functionInstructions (instructionsOf (earlier 8 s k)) (functionOf 8 s k) = omega arith in
+          em ∙ rw (few, short, zo, zw, zi)
 
-      pub within-limits : Measured.Is m ≡ measuredOf (compilable s c)
-      within-limits =
-          ap (λ (x : Sizes). Measured.Is x) (em ∙ exact)
-          ∙ ap measuredOf (sym (within-found (table s) c (chosenAt s k) e ∙ passes _ 15 0 _ few ∙ passes _ 16 0 _ short))
+  -- ---- the code's length
 
-      code-exact : exactSizes (chosenAt s k) .code ≡ length (codeOf (chosenAt s k))
-      unfolding exactSizes
-      code-exact = refl
+  both-test : withinLimits (m .operations) (m .words) ≡ withinLimits operations words
+  both-test = rw (operations-test, words-test)
 
-      pub its-code : Count.Exactly (m .code) ≡ countOf codeCount (named s c)
-      unfolding codeCount
-      its-code =
-          ap (λ (x : Sizes). Count.Exactly (x .code)) (em ∙ exact) ∙ ap (λ (n : ℕ). Count.Exactly n) code-exact ∙ sym (ap (countOf codeCount) e ∙ rw (few, short))
+  pub its-code : withinLimits (m .operations) (m .words) ≡ true → Count.Exactly (m .code) ≡ countOf codeCount (named s c)
+  unfolding codeCount cappedSizes
+  its-code t =
+      let b : withinLimits operations words ≡ true = sym both-test ∙ t in
+      let z : m .code ≡ length (codeOf (chosenAt s k)) = ap (λ (x : Sizes). x .code) em ∙ rw b in
+      ap (λ (n : ℕ). Count.Exactly n) z ∙ sym (ap (countOf codeCount) e ∙ rw b)
+
+  pub no-code : withinLimits (m .operations) (m .words) ≡ false → Count.Over ≡ countOf codeCount (named s c)
+  unfolding codeCount
+  no-code t = let b : withinLimits operations words ≡ false = sym both-test ∙ t in sym (ap (countOf codeCount) e ∙ rw b)
 
   -- ---- each count by itself
 

@@ -1,6 +1,6 @@
-use Rattle.sums.proofs.Choosing.{up-to-fits, up-to-over}
-use Rattle.sums.proofs.up_to.Statement.{statement}
-use Rattle.sums.proofs.up_to.Tie as tie
+use Rattle.quetlapin.proofs.Choosing.{up-to-fits, up-to-over}
+use Rattle.quetlapin.proofs.up_to.Statement.{statement}
+use Rattle.quetlapin.proofs.up_to.Tie as tie
 
 returns : tie.Need-returns
 returns c = up-to-fits (c .before .args .limit) (c .before .args .n) (c .if1 .taken)

@@ -1,0 +1,16 @@
+-- What `compile` answers, and the buffer after it.
+use Prim.Native.Nat.{ℕ}
+use mathlib.Core.List.{List}
+use Rattle.base.specs.Outcome.{Outcome, ok, fault}
+use Rattle.lowering.specs.Answers as Answers
+use Rattle.quetlapin.specs.declared.Compiled.{Compiled}
+
+-- the length, or the refusal with 01's number and place
+abbrev pub answerOf : Outcome Answers.Compiled → Compiled
+answerOf (ok r) = Compiled.Length (r .size)
+answerOf (fault n p) = Compiled.Refused n p
+
+-- the buffer after it: a refusal leaves every byte
+abbrev pub codeAfter : List ℕ → Outcome Answers.Compiled → List ℕ
+codeAfter code (ok r) = r .buffer
+codeAfter code (fault n p) = code
