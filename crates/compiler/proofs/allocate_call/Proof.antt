@@ -34,7 +34,7 @@ loop-holds c =
     (omega arith, rw (z, y) (run-start (rebasedCodes (a .outs .now) (a .locations .now) (a .cell) (a .n) (a .d) (8 * a .g) (a .count)) (a .allocated .now) (8 * a .i)))
 
 rebase-requires : tie.Need-rebase-requires Inv-loop μ-loop
-rebase-requires c κs = let (g, count, locations, i, d) = wide16-to-start c .pre in (locations, d, c .wide16 .ensures .1)
+rebase-requires c κs = let (g, count, locations, i, d) = wide16-to-start c .pre in (locations, omega arith, c .wide16 .ensures .1)
 
 loop-again : tie.Need-loop-again Inv-loop μ-loop
 loop-again c =
