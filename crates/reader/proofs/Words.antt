@@ -18,18 +18,6 @@ use Rattle.base.specs.Lists.{every}
 use Rattle.reader.specs.Records.{floatAt, rowAt, matrixAt, vectorAt}
 use Rattle.base.specs.Bytes.{u64, constants}
 
--- the first of some words, and those behind it
-pub infinite-first : (n : ℕ) (s : List ℕ) (at : ℕ) → 0 < n → 2047 * 2 ^ 52 ≤ u64 s at % 2 ^ 63 → every constantWord (constants n s at) ≡ false
-infinite-first zero s at h e = absurd (not-suc-le-zero h)
-infinite-first (suc n) s at h e = rw (le-ltb (u64 s at % 2 ^ 63) (2047 * 2 ^ 52) e) refl
-
-pub finite-first :
-    (n : ℕ) (s : List ℕ) (at : ℕ) → 0 < n → u64 s at % 2 ^ 63 < 2047 * 2 ^ 52 → every constantWord (constants n s at) ≡ every constantWord (constants (n - 1) s (at + 8))
-finite-first zero s at h e = absurd (not-suc-le-zero h)
-finite-first (suc n) s at h e =
-    let m : suc n - 1 ≡ n = omega arith in
-    rw (m, lt-ltb (u64 s at % 2 ^ 63) (2047 * 2 ^ 52) e) refl
-
 -- ---- the value that the words stand for
 
 constant-word : (n i : ℕ) (s : List ℕ) (at : ℕ) → i < n → getD (constants n s at) i 0 ≡ u64 s (at + 8 * i)

@@ -76,24 +76,6 @@ pub fn float_at(s: &[u8], at: usize) -> f64
     value::float_of(u64_at(s, at))
 }
 
-// The n words at `at` may be constants: they are finite.
-pub fn all_finite(s: &[u8], at: usize, n: usize) -> bool
-    requires { ⌜ at + 8 * n ≤ length (now s) ⌝ }
-    ensures { λ r. ⌜ r ≡ every constantWord (constants n (now (s .entry)) at) ⌝ }
-{
-    let mut p = at;
-    let mut left = n;
-    while 0 < left {
-        let w = u64_at(s, p);
-        if 0x7FF0_0000_0000_0000 <= w % 0x8000_0000_0000_0000 {
-            return false;
-        }
-        p += 8;
-        left -= 1;
-    }
-    true
-}
-
 fn row_at(s: &[u8], at: usize) -> Row
     requires { ⌜ at + 32 ≤ length (now s) ⌝ }
     ensures { λ r. ⌜ r ≡ rowAt (now (s .entry)) at ⌝ }
@@ -168,7 +150,7 @@ fn read_constant(s: &[u8], at: usize, kind: u8, row: Ports) -> PayloadRead
     let Record::Ends(end) = read_record(s, at, 8 * n) else {
         return PayloadRead::Fault(5, at);
     };
-    if !all_finite(s, at, n) {
+    if !value::constants_allowed(s, at, n) {
         return PayloadRead::Fault(7, at);
     }
     PayloadRead::Is(Payload::Constant(constant_at(s, at, ty)), end)

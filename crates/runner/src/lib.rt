@@ -49,22 +49,6 @@ pub enum Progress {
 
 // ---- the check of a code
 
-fn constants_allowed(s: &[u8], from: usize, count: usize) -> bool
-    requires { ⌜ from + 8 * count ≤ length (now s) ⌝ }
-    ensures { λ r. ⌜ r ≡ every constantWord (constants count (now (s .entry)) from) ⌝ }
-{
-    let mut at = from;
-    let mut left = count;
-    while 0 < left {
-        if !value::constant_word(base::u64_at(s, at)) {
-            return false;
-        }
-        at += 8;
-        left -= 1;
-    }
-    true
-}
-
 // Operands of the type t, their words all before `result`.
 fn operands_below(s: &[u8], from: usize, count: usize, t: u8, result: usize) -> bool
     requires { ⌜ from + 2 * count ≤ length (now s) ⌝ }
@@ -138,7 +122,7 @@ fn check_instruction(s: &[u8], at: usize, result: usize, row: Ports) -> Progress
     if !all_below(s, p, n, first, rest, result) {
         return Progress::Refused;
     }
-    if !constants_allowed(s, p + 2 * n, c) {
+    if !value::constants_allowed(s, p + 2 * n, c) {
         return Progress::Refused;
     }
     Progress::Passed(Next {

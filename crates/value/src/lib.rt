@@ -1,11 +1,13 @@
 // The values of a graph: their words, the arithmetic of each kind, and values in a memory of words.
 ghost use mathlib.Core.Path.{_≡_};
-ghost use Prim.Native.Nat.{_+_, _≤_, _<_};
+ghost use Prim.Native.Nat.{_+_, _*_, _≤_, _<_};
 ghost use lib.ListN.{length};
 ghost use lib.Seq.{sets};
 ghost use lib.Ieee as Ieee;
 ghost use lib.Ieee.{binary64};
 ghost use Rattle.ports.specs.Ports.{width};
+ghost use Rattle.base.specs.Bytes.{constants};
+ghost use Rattle.base.specs.Lists.{every};
 ghost use Rattle.value.specs.Values as Values;
 ghost use Rattle.value.specs.Values.{vec, typeOf, word, rowWords, wordsOf, floatAt, vecAt, rowAt, matAt, valueAt, constantWord, argumentWord};
 ghost use Rattle.value.specs.Steps as Steps;
@@ -87,6 +89,23 @@ pub fn constant_word(w: u64) -> bool
     ensures { λ r. ⌜ r ≡ constantWord w ⌝ }
 {
     finite(w)
+}
+
+// Whether each of `count` constants from the byte `from` on may be one.
+pub fn constants_allowed(s: &[u8], from: usize, count: usize) -> bool
+    requires { ⌜ from + 8 * count ≤ length (now s) ⌝ }
+    ensures { λ r. ⌜ r ≡ every constantWord (constants count (now (s .entry)) from) ⌝ }
+{
+    let mut at = from;
+    let mut left = count;
+    while 0 < left {
+        if !constant_word(base::u64_at(s, at)) {
+            return false;
+        }
+        at += 8;
+        left -= 1;
+    }
+    true
 }
 
 // Whether a word may be an argument's.

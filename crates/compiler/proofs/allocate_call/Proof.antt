@@ -15,6 +15,17 @@ Inv-loop outs g count locations cell n allocated₀ i d q₀ allocated q =
 abbrev μ-loop : tie.MeasureT-loop
 μ-loop outs g count locations cell n allocated₀ i d q₀ allocated q = count - q
 
+-- ---- places: from one back to another
+
+abbrev wide16-to-start : tie.After-wide16 Inv-loop μ-loop → tie.Start Inv-loop μ-loop
+wide16-to-start c = let d = c .before .before .before in d .before
+
+abbrev rebase-to-at-loop : tie.After-rebase Inv-loop μ-loop → tie.At-loop Inv-loop μ-loop
+rebase-to-at-loop c = let d = c .before .before .before in d .before
+
+abbrev rebase-to-start : tie.After-rebase Inv-loop μ-loop → tie.Start Inv-loop μ-loop
+rebase-to-start c = wide16-to-start (c .before)
+
 loop-holds : tie.Need-loop-holds Inv-loop μ-loop
 loop-holds c =
     let a = c .args in
@@ -23,12 +34,12 @@ loop-holds c =
     (omega arith, rw (z, y) (run-start (rebasedCodes (a .outs .now) (a .locations .now) (a .cell) (a .n) (a .d) (8 * a .g) (a .count)) (a .allocated .now) (8 * a .i)))
 
 rebase-requires : tie.Need-rebase-requires Inv-loop μ-loop
-rebase-requires c κs = let (g, count, locations, i, d) = c .before .before .before .before .pre in (locations, d, c .wide16 .ensures .1)
+rebase-requires c κs = let (g, count, locations, i, d) = wide16-to-start c .pre in (locations, omega arith, c .wide16 .ensures .1)
 
 loop-again : tie.Need-loop-again Inv-loop μ-loop
 loop-again c =
-    let a = c .before .before .before .before .before .args in
-    let l = c .before .before .before .before .loop in
+    let a = rebase-to-start c .args in
+    let l = rebase-to-at-loop c .loop in
     let e = c .rebase .ensures ∙ ap (rebasedCode (a .locations .now) (a .cell) (a .n) (a .d)) (c .before .wide16 .ensures .0) in (
       omega arith,
       run-step (rebasedCodes (a .outs .now) (a .locations .now) (a .cell) (a .n) (a .d) (8 * a .g) (a .count)) (a .allocated .now) (8 * a .i) (l .allocated) (l .q) (c .rebase .result) _ _ (l .inv .1)

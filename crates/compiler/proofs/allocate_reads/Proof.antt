@@ -16,6 +16,17 @@ Inv-loop t targets allocated i first n locations₀ cell q₀ j₀ locations q j
 abbrev μ-loop : tie.MeasureT-loop
 μ-loop t targets allocated i first n locations₀ cell q₀ j₀ locations q j = n - j
 
+-- ---- places: from one back to another
+
+abbrev location-of-to-in-loop : tie.After-location-of Inv-loop μ-loop → tie.In-loop Inv-loop μ-loop
+location-of-to-in-loop c = let d = c .before .before .before in d .before .before
+
+abbrev location-of-to-at-loop : tie.After-location-of Inv-loop μ-loop → tie.At-loop Inv-loop μ-loop
+location-of-to-at-loop c = location-of-to-in-loop c .before
+
+abbrev location-of-to-start : tie.After-location-of Inv-loop μ-loop → tie.Start Inv-loop μ-loop
+location-of-to-start c = location-of-to-at-loop c .before .before
+
 loop-holds : tie.Need-loop-holds Inv-loop μ-loop
 loop-holds c =
     let a = c .before .args in
@@ -25,15 +36,15 @@ loop-holds c =
 
 loop-again : tie.Need-loop-again Inv-loop μ-loop
 loop-again c =
-    let a = c .before .before .before .before .before .before .before .before .args in
-    let l = c .before .before .before .before .before .before .loop in
+    let a = location-of-to-start c .args in
+    let l = location-of-to-at-loop c .loop in
     let e =
     c .location-of .ensures ∙ ap (λ (v : ℕ). portCode (a .allocated .now) v (c .before .wide .result)) (c .before .before .before .wide16 .ensures .0)
     ∙ ap (portCode (a .allocated .now) (getD (a .targets .now) (16 * a .i + l .j) 0)) (c .before .wide .ensures .0 ∙ c .before .before .padded-byte .ensures) in (
       omega arith,
       omega arith,
       run-step (readCodes (a .t .now) (a .targets .now) (a .allocated .now) (16 * a .i) (a .n) (a .first)) (a .locations .now) (a .cell) (l .locations) (l .j) (c .location-of .result) _ _ (l .inv .2)
-          (reads-next (a .t .now) (a .targets .now) (a .allocated .now) (16 * a .i) (a .n) (l .j) (l .q) (c .before .before .before .before .before .loop-test .taken)
+          (reads-next (a .t .now) (a .targets .now) (a .allocated .now) (16 * a .i) (a .n) (l .j) (l .q) (location-of-to-in-loop c .loop-test .taken)
           ∙ ap (λ (x : ℕ). x ∷ readCodes (a .t .now) (a .targets .now) (a .allocated .now) (16 * a .i + (l .j + 1)) (a .n - (l .j + 1)) (l .q + 3)) (sym e)),
     )
 

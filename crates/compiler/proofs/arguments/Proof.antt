@@ -13,20 +13,31 @@ Inv-loop locations cell n ins first args₀ j₀ args j = NodePorts locations in
 abbrev μ-loop : tie.MeasureT-loop
 μ-loop locations cell n ins first args₀ j₀ args j = n - j
 
+-- ---- places: from one back to another
+
+abbrev address-to-at-loop : tie.After-address Inv-loop μ-loop → tie.At-loop Inv-loop μ-loop
+address-to-at-loop c = let d = c .before .before .before in d .before
+
+abbrev wide16-to-start : tie.After-wide16 Inv-loop μ-loop → tie.Start Inv-loop μ-loop
+wide16-to-start c = let d = c .before .before .before in d .before
+
+abbrev address-to-start : tie.After-address Inv-loop μ-loop → tie.Start Inv-loop μ-loop
+address-to-start c = wide16-to-start (c .before)
+
 loop-holds : tie.Need-loop-holds Inv-loop μ-loop
 loop-holds c = let a = c .args in allocate-start (a .locations .now) (a .ins .now) (a .first) (a .cell) (a .n) (a .args .now) 0
 
 loop-again : tie.Need-loop-again Inv-loop μ-loop
 loop-again c =
-    let a = c .before .before .before .before .before .args in
-    let l = c .before .before .before .before .loop in
+    let a = address-to-start c .args in
+    let l = address-to-at-loop c .loop in
     let z : 0 + l .j ≡ l .j = omega arith in
     rw z at
     (allocate-step (a .locations .now) (a .ins .now) (a .first) (a .cell) (a .n) (a .args .now) (l .args) 0 (l .j) (c .address .result) (l .inv) (c .before .before .before .loop-test .taken)
     (c .address .ensures ∙ ap (addressOf (a .ins .now) (a .first)) (c .before .wide16 .ensures .0)))
 
 address-requires : tie.Need-address-requires Inv-loop μ-loop
-address-requires c κs = (c .before .before .before .before .pre .0, c .wide16 .ensures .1)
+address-requires c κs = (wide16-to-start c .pre .0, c .wide16 .ensures .1)
 
 returns : tie.Need-returns Inv-loop μ-loop
 returns c =

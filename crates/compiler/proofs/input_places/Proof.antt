@@ -19,6 +19,11 @@ Inv-loop t at n ins₀ q₀ w₀ j₀ ins q w j =
 abbrev μ-loop : tie.MeasureT-loop
 μ-loop t at n ins₀ q₀ w₀ j₀ ins q w j = n - j
 
+-- ---- places: from one back to another
+
+abbrev width-to-start : tie.After-width Inv-loop μ-loop → tie.Start Inv-loop μ-loop
+width-to-start c = let d = c .before .before .before in d .before .before
+
 loop-holds : tie.Need-loop-holds Inv-loop μ-loop
 loop-holds c =
     let a = c .before .args in
@@ -27,7 +32,7 @@ loop-holds c =
 
 loop-again : tie.Need-loop-again Inv-loop μ-loop
 loop-again c =
-    let a = c .before .before .before .before .before .args in
+    let a = width-to-start c .args in
     let l = c .before .before .before .loop in
     let s = a .t .now in
     let y = c .width .ensures .0 ∙ ap width (c .before .padded-byte .ensures) in

@@ -7,6 +7,14 @@ use Rattle.compiler.proofs.Ending.{header-stored}
 use Rattle.compiler.proofs.put_header.Statement.{statement}
 use Rattle.compiler.proofs.put_header.Tie as tie
 
+-- ---- places: from one back to another
+
+abbrev slice-known3-to-put16 : tie.After-slice-known3 → tie.After-put16
+slice-known3-to-put16 c = let d = c .before .before .before in d .before .before .before
+
+abbrev slice-known3-to-start : tie.After-slice-known3 → tie.Start
+slice-known3-to-start c = slice-known3-to-put16 c .before .before .before
+
 slice-write-code-2 : tie.Need-slice-write-code-2
 slice-write-code-2 c = simp length-set (omega arith)
 
@@ -39,12 +47,12 @@ put16-requires-2 : tie.Need-put16-requires-2
 put16-requires-2 c κs = let e = same (c .before .before .before) in omega arith
 
 same-length : tie.Need-same-length
-same-length c = c .before .before .put162 .kept .0 ∙ same (c .before .before .before .before .before .before)
+same-length c = c .before .before .put162 .kept .0 ∙ same (slice-known3-to-put16 c)
 
 returns : tie.Need-returns
 returns c =
-    let a = c .before .before .before .before .before .before .before .before .before .args in
-    header-stored (a .code .now) (c .before .before .before .before .before .before .put16 .last .0) (c .before .before .put162 .last .0) (a .arguments) (a .outputs) (a .count) (a .words) (c .before .before .before .before .before .before .put16 .ensures) (c .before .before .put162 .ensures)
+    let a = slice-known3-to-start c .args in
+    header-stored (a .code .now) (slice-known3-to-put16 c .put16 .last .0) (c .before .before .put162 .last .0) (a .arguments) (a .outputs) (a .count) (a .words) (slice-known3-to-put16 c .put16 .ensures) (c .before .before .put162 .ensures)
 
 pub put-header-spec : {M : Type 1} → statement M
 put-header-spec =

@@ -9,15 +9,23 @@ use Rattle.listing.proofs.Text.{same}
 use Rattle.listing.proofs.put_decimal.Statement.{statement}
 use Rattle.listing.proofs.put_decimal.Tie as tie
 
+-- ---- places: from one back to another
+
+abbrev put-bytes-to-fill-digits : tie.After-put-bytes → tie.After-fill-digits
+put-bytes-to-fill-digits c = let d = c .before .before .before in d .before
+
+abbrev put-bytes-arg2-to-start : tie.After-put-bytes-arg2 → tie.Start
+put-bytes-arg2-to-start c = let d = c .before .before .before in d .before .before
+
 put-bytes-requires : tie.Need-put-bytes-requires
 put-bytes-requires c κs =
     let d = c .before .before .before in
     let e = all-digits (d .fill-digits .last .0) (d .fill-digits .result) (d .fill-digits .ensures .1) (d .fill-digits .ensures .0) in
-    rw e (c .before .before .before .before .before .pre)
+    rw e (put-bytes-arg2-to-start c .pre)
 
 returns : tie.Need-returns
 returns c =
-    let d = c .before .before .before .before in
+    let d = put-bytes-to-fill-digits c in
     same (all-digits (d .fill-digits .last .0) (d .fill-digits .result) (d .fill-digits .ensures .1) (d .fill-digits .ensures .0)) (c .put-bytes .ensures)
 
 pub put-decimal-spec : {M : Type 1} → statement M

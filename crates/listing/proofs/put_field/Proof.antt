@@ -6,6 +6,11 @@ use Rattle.listing.proofs.Text.{then, room-first, room-rest}
 use Rattle.listing.proofs.put_field.Statement.{statement}
 use Rattle.listing.proofs.put_field.Tie as tie
 
+-- ---- places: from one back to another
+
+abbrev put-decimal-arg-to-start : tie.After-put-decimal-arg → tie.Start
+put-decimal-arg-to-start c = let d = c .before .before .before in d .before
+
 put-bytes-requires : tie.Need-put-bytes-requires
 put-bytes-requires c κs =
     let s = c .before .before in
@@ -13,7 +18,7 @@ put-bytes-requires c κs =
 
 put-decimal-requires : tie.Need-put-decimal-requires
 put-decimal-requires c κs =
-    let s = c .before .before .before .before in
+    let s = put-decimal-arg-to-start c in
     room-rest (decimal (s .args .n)) (c .before .put-bytes .ensures) (s .pre)
 
 returns : tie.Need-returns

@@ -73,7 +73,7 @@ returns-2 c =
     let w = width-of-known-told d in
     let a = w .before .before .args in
     ap (payloadRead (kindOf (a .kind)) (a .at))
-    (sym (constant-infinite (a .s .now) (a .at) (kindOf (a .kind)) (w .width .result) (words w) (room d .0) (sym (c .before .all-finite .ensures) ∙ not-true _ (c .if1 .taken))))
+    (sym (constant-infinite (a .s .now) (a .at) (kindOf (a .kind)) (w .width .result) (words w) (room d .0) (sym (c .before .constants-allowed .ensures) ∙ not-true _ (c .if1 .taken))))
 
 returns-3 : tie.Need-returns-3
 returns-3 c =
@@ -88,7 +88,7 @@ returns-3 c =
     ∙ ap
     (λ (n : ℕ). PayloadRead.Is (Payloads.Payload.Constant (valueOf (portsOf (kindOf (a .kind)) .result) (constants (w .width .result) (a .s .now) (a .at)))) n)
     (room d .1)
-    ∙ sym (constant-read (a .s .now) (a .at) (kindOf (a .kind)) (w .width .result) (words w) (room d .0) (sym (f .all-finite .ensures) ∙ not-false _ (c .before .if1 .left)))
+    ∙ sym (constant-read (a .s .now) (a .at) (kindOf (a .kind)) (w .width .result) (words w) (room d .0) (sym (f .constants-allowed .ensures) ∙ not-false _ (c .before .if1 .left)))
 
 pub read-constant-spec : {M : Type 1} → statement M
 read-constant-spec =

@@ -12,22 +12,42 @@ Inv-loop t starts n ops₀ words₀ counts₀ sizes₀ k₀ ops words counts siz
 abbrev μ-loop : tie.MeasureT-loop
 μ-loop t starts n ops₀ words₀ counts₀ sizes₀ k₀ ops words counts sizes k = n - k
 
+-- ---- places: from one back to another
+
+abbrev function-sums-arg4-to-in-loop : tie.After-function-sums-arg4 Inv-loop μ-loop → tie.In-loop Inv-loop μ-loop
+function-sums-arg4-to-in-loop c = let d = c .before .before .before in d .before
+
+abbrev function-sums-arg4-to-at-loop : tie.After-function-sums-arg4 Inv-loop μ-loop → tie.At-loop Inv-loop μ-loop
+function-sums-arg4-to-at-loop c = function-sums-arg4-to-in-loop c .before
+
+abbrev function-sums-to-in-loop : tie.After-function-sums Inv-loop μ-loop → tie.In-loop Inv-loop μ-loop
+function-sums-to-in-loop c = function-sums-arg4-to-in-loop (c .before)
+
+abbrev function-sums-to-at-loop : tie.After-function-sums Inv-loop μ-loop → tie.At-loop Inv-loop μ-loop
+function-sums-to-at-loop c = function-sums-arg4-to-at-loop (c .before)
+
+abbrev function-sums-arg4-to-start : tie.After-function-sums-arg4 Inv-loop μ-loop → tie.Start Inv-loop μ-loop
+function-sums-arg4-to-start c = function-sums-arg4-to-at-loop c .before .before
+
+abbrev function-sums-to-start : tie.After-function-sums Inv-loop μ-loop → tie.Start Inv-loop μ-loop
+function-sums-to-start c = function-sums-arg4-to-start (c .before)
+
 loop-holds : tie.Need-loop-holds Inv-loop μ-loop
 loop-holds c = let a = c .before .args in (omega arith, sums-none (a .t .now) (a .ops .now) (a .words .now) (a .counts .now) (a .sizes .now))
 
 function-sums-requires : tie.Need-function-sums-requires Inv-loop μ-loop
 function-sums-requires c κs =
-    let b = c .before .before .before .before .before .before .before in
-    let l = c .before .before .before .before .before .loop in
-    let t = c .before .before .before .before .loop-test .taken in
+    let b = function-sums-arg4-to-start c in
+    let l = function-sums-arg4-to-at-loop c .loop in
+    let t = function-sums-arg4-to-in-loop c .loop-test .taken in
     let n = b .pre .0 .0 in
     ((omega arith, b .pre .0 .1 (l .k) t, λ j h. b .pre .0 .2 j (omega arith)), summed-in (b .args .t .now) (b .args .ops .now) (b .args .words .now) (b .args .counts .now) (b .args .sizes .now) (l .ops) (l .words) (l .counts) (l .sizes) (l .k) (l .inv .1) (b .pre .1) (omega arith))
 
 loop-again : tie.Need-loop-again Inv-loop μ-loop
 loop-again c =
-    let b = c .before .before .before .before .before .before .before .before in
-    let l = c .before .before .before .before .before .before .loop in
-    let t = c .before .before .before .before .before .loop-test .taken in
+    let b = function-sums-to-start c in
+    let l = function-sums-to-at-loop c .loop in
+    let t = function-sums-to-in-loop c .loop-test .taken in
     let n = b .pre .0 .0 in
     let a = b .args in
     (omega arith, sums-more (a .t .now) (a .ops .now) (a .words .now) (a .counts .now) (a .sizes .now) (l .ops) (l .words) (l .counts) (l .sizes) _ _ _ _ (l .k) (l .inv .1) (c .function-sums .ensures))

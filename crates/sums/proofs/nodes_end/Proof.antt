@@ -10,6 +10,11 @@ Inv-loop t at n q₀ i₀ q i = Passing t at n q i
 abbrev μ-loop : tie.MeasureT-loop
 μ-loop t at n q₀ i₀ q i = n - i
 
+-- ---- places: from one back to another
+
+abbrev node-end-to-start : tie.After-node-end Inv-loop μ-loop → tie.Start Inv-loop μ-loop
+node-end-to-start c = let d = c .before .before .before in d .before
+
 loop-holds : tie.Need-loop-holds Inv-loop μ-loop
 loop-holds c = let d = c .before in pass-start (d .args .t .now) (d .args .at) (d .args .n) (d .pre .0) (d .pre .1)
 
@@ -21,7 +26,7 @@ node-end-requires c κs =
 
 loop-again : tie.Need-loop-again Inv-loop μ-loop
 loop-again c =
-    let a = c .before .before .before .before .args in
+    let a = node-end-to-start c .args in
     let l = c .before .before .loop in
     pass-step (a .t .now) (a .at) (a .n) (l .q) (l .i) (c .node-end .result) (l .inv) (c .before .loop-test .taken) (c .node-end .ensures .0) (c .node-end .ensures .1)
 

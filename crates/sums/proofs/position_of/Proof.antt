@@ -14,23 +14,37 @@ Inv-loop t starts k c m₀ m = (m ≤ k) × (positionOf t k c ≡ positionOf t m
 abbrev μ-loop : tie.MeasureT-loop
 μ-loop t starts k c m₀ m = m
 
+-- ---- places: from one back to another
+
+abbrev then1-to-at-loop : tie.Then1 Inv-loop μ-loop → tie.At-loop Inv-loop μ-loop
+then1-to-at-loop c = let d = c .before .before .before in d .before .before
+
+abbrev else1-to-at-loop : tie.Else1 Inv-loop μ-loop → tie.At-loop Inv-loop μ-loop
+else1-to-at-loop c = let d = c .before .before .before in d .before .before
+
+abbrev then1-to-start : tie.Then1 Inv-loop μ-loop → tie.Start Inv-loop μ-loop
+then1-to-start c = then1-to-at-loop c .before .before
+
+abbrev else1-to-start : tie.Else1 Inv-loop μ-loop → tie.Start Inv-loop μ-loop
+else1-to-start c = else1-to-at-loop c .before .before
+
 loop-holds : tie.Need-loop-holds Inv-loop μ-loop
 loop-holds c = (omega arith, refl)
 
 returns : tie.Need-returns Inv-loop μ-loop
 returns c =
-    let b = c .before .before .before .before .before .before .before in
+    let b = then1-to-start c in
     let a = b .args in
-    let l = c .before .before .before .before .before .loop in
+    let l = then1-to-at-loop c .loop in
     let w = c .before .before .wide16 .ensures .0 ∙ b .pre .1 (l .m - 1) (search needs) in
     let e = ap (λ (q : ℕ). u16 (a .t .now) q) (sym w) ∙ sym (c .before .padded-u16 .ensures .0) ∙ c .if1 .taken in
     sym (l .inv .1 ∙ position-hit (a .t .now) (l .m) (a .c) (search needs) e)
 
 loop-again : tie.Need-loop-again Inv-loop μ-loop
 loop-again c =
-    let b = c .before .before .before .before .before .before .before in
+    let b = else1-to-start c in
     let a = b .args in
-    let l = c .before .before .before .before .before .loop in
+    let l = else1-to-at-loop c .loop in
     let w = c .before .before .wide16 .ensures .0 ∙ b .pre .1 (l .m - 1) (search needs) in (
       omega arith,
       l .inv .1 ∙ position-miss (a .t .now) (l .m) (a .c) (search needs) (λ e. c .if1 .left (c .before .padded-u16 .ensures .0 ∙ ap (λ (q : ℕ). u16 (a .t .now) q) w ∙ e)),

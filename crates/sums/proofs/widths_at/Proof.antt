@@ -14,35 +14,40 @@ Inv-loop t p step n w₀ q₀ i₀ w q i = Adding t p step n w q i
 abbrev μ-loop : tie.MeasureT-loop
 μ-loop t p step n w₀ q₀ i₀ w q i = n - i
 
+-- ---- places: from one back to another
+
+abbrev width-to-start : tie.After-width Inv-loop μ-loop → tie.Start Inv-loop μ-loop
+width-to-start c = let d = c .before .before .before in d .before .before
+
 loop-holds : tie.Need-loop-holds Inv-loop μ-loop
 loop-holds c = let a = c .before .args in add-start (a .t .now) (a .p) (a .step) (a .n)
 
 -- the words of the type at hand
-own : (c : tie.After-width Inv-loop μ-loop) → c .width .result ≡ width (byte (c .before .before .before .before .before .args .t .now) (c .before .before .before .loop .q))
+own : (c : tie.After-width Inv-loop μ-loop) → c .width .result ≡ width (byte (width-to-start c .args .t .now) (c .before .before .before .loop .q))
 own c = let e : c .width .result ≡ width (c .before .padded-byte .result) = c .width .ensures .0 in e ∙ ap width (c .before .padded-byte .ensures)
 
 add-total : tie.Need-add-total Inv-loop μ-loop
 add-total c =
-    let a = c .before .before .before .before .before .args in
+    let a = width-to-start c .args in
     let l = c .before .before .before .loop in
-    let x = width-room (a .t .now) (a .p) (a .step) (a .n) (l .total) (l .q) (l .i) (c .width .result) (l .inv) (c .before .before .loop-test .taken) (c .before .before .before .before .before .pre .2) (own c) in
+    let x = width-room (a .t .now) (a .p) (a .step) (a .n) (l .total) (l .q) (l .i) (c .width .result) (l .inv) (c .before .before .loop-test .taken) (width-to-start c .pre .2) (own c) in
     omega arith
 
 add-q : tie.Need-add-q Inv-loop μ-loop
 add-q c =
     let near = c .before .before .before .loop .inv .near in
     let lt = c .before .before .loop-test .taken in
-    let (x, y, z) = c .before .before .before .before .before .pre in
+    let (x, y, z) = width-to-start c .pre in
     omega arith
 
 add-i : tie.Need-add-i Inv-loop μ-loop
-add-i c = let lt = c .before .before .loop-test .taken in let (x, y, z) = c .before .before .before .before .before .pre in omega arith
+add-i c = let lt = c .before .before .loop-test .taken in let (x, y, z) = width-to-start c .pre in omega arith
 
 loop-again : tie.Need-loop-again Inv-loop μ-loop
 loop-again c =
-    let a = c .before .before .before .before .before .args in
+    let a = width-to-start c .args in
     let l = c .before .before .before .loop in
-    add-step (a .t .now) (a .p) (a .step) (a .n) (l .total) (l .q) (l .i) (c .width .result) (l .inv) (c .before .before .loop-test .taken) (c .before .before .before .before .before .pre .1) (own c)
+    add-step (a .t .now) (a .p) (a .step) (a .n) (l .total) (l .q) (l .i) (c .width .result) (l .inv) (c .before .before .loop-test .taken) (width-to-start c .pre .1) (own c)
 
 returns : tie.Need-returns Inv-loop μ-loop
 returns c =
