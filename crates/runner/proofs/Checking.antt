@@ -28,9 +28,6 @@ use Rattle.runner.proofs.Walks.{Walk}
 
 -- ---- loops
 
-pub constants-walk : (s : List ℕ) → Walk (λ n at. every constantWord (constants n s at)) (λ at. constantWord (u64 s at)) 8
-constants-walk s = record { none = λ at. refl; more = λ n at. refl }
-
 pub operands-walk : (s : List ℕ) (t result : ℕ)
     → Walk (λ n at. allBelow result (replicate n t) (addresses n s at)) (λ at. leb (u16 s at + width t) result) 2
 operands-walk s t result = record { none = λ at. refl; more = λ n at. refl }
