@@ -10,6 +10,12 @@
  * An answer below 2^32 is a success. Any other answer is a refusal: number * 2^32
  * + place. A refusal leaves every lent byte and word unchanged.
  *
+ * Two things no proof can see are the caller's. The thread's floating-point state must be
+ * the default one: rounding to nearest, subnormals not flushed to zero, no traps. A
+ * program linked with -ffast-math changes it at its start: 1e-310 times 1 was then 0. And
+ * the stack must have room: ifg_compile and ifg_evaluate need a thread of 68 KB, ifg_check
+ * 16 KB, ifr_run 4 KB, beside what the caller uses.
+ *
  * Words are the bits of IEEE 754 binary64 values. A scalar is 1 word, a vector 3
  * (x, y, z), a matrix 16 (row by row). A NaN that a step gives is always
  * 0x7FF8000000000000.

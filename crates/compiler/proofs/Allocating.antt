@@ -18,13 +18,13 @@ use Rattle.ports.specs.Kinds.{kindOf}
 use Rattle.ports.specs.Ports.{portsOf, formOf, calling}
 use Rattle.base.specs.Bytes.{byte, u16}
 use Rattle.graph.specs.Graph.{Ref, Payload, consts, refs, calls, Node}
-use Rattle.graph.specs.Look.{reads, readsOf}
+use Rattle.graph.specs.Look.{reads, readsOf, ids}
 use Rattle.graph.specs.Read.{references}
 use Rattle.graph.specs.Schedule.{schedule}
 use Rattle.graph.specs.Formed.{FormedPayload, FormedNode}
 use Rattle.graph.specs.Sound.{AllSound}
 use Rattle.graph.specs.Sums.{sum, nodeWords, resultWordsOf}
-use Rattle.graph.proofs.Order.{ids, sound-closed, scheduled, schedule-within}
+use Rattle.graph.proofs.Order.{sound-closed, scheduled, schedule-within}
 use Rattle.base.proofs.Outcomes.{is-each}
 use Rattle.graph.proofs.Formed.{refs-length}
 use Rattle.reader.specs.Layout.{kindAt, nodeAt, nodesAt, nodePlace, nodesPlace, nodeCount, functionAt, earlier}

@@ -13,13 +13,12 @@ use Rattle.ports.specs.Kinds.{kindOf}
 use Rattle.ports.specs.Ports.{width, widths, gives}
 use Rattle.base.specs.Lists.{Each, member, Is}
 use Rattle.graph.specs.Graph.{Ref, Payload, consts, refs, calls, Node, Function}
-use Rattle.graph.specs.Look.{findNode, findFunction, readsOf, reads, outputRefs}
+use Rattle.graph.specs.Look.{findNode, findFunction, readsOf, reads, outputRefs, ids}
 use Rattle.graph.specs.Schedule.{ready, schedule}
 use Rattle.graph.specs.Types.{outputTypes, wantsOf, givesOf, givesAt, refType}
 use Rattle.graph.specs.Sound.{Wired, Shaped, Sound, AllSound}
-use Rattle.graph.proofs.Loops.{In}
 use Rattle.base.proofs.Bools.{and-inv, and-both, or-left, or-right}
-use Rattle.graph.proofs.Order.{ids, in-is, Ordered, scheduled, schedule-within, reads-in}
+use Rattle.graph.proofs.Order.{in-is, Ordered, scheduled, schedule-within, reads-in}
 use Rattle.bytecode.specs.Run.{places}
 use Rattle.compiler.specs.Static.{Location, nowhere, input, offset, rebase, Located, locationsOf, locationOf, Callee, nodeSummary, Allocation, allocate, functionSummary, summary}
 use Rattle.compiler.proofs.Locations.{locating}
@@ -239,7 +238,7 @@ module _ (early : List Function) (f : Function) where
         (⊎-elim (λ e. or-left _ _ (eq-eqb (r .node) 0 e)) (λ i. or-right (eqb (r .node) 0) _ (present (r .node) i)) (reads-in early f r t x))
         (all-ready ts rs w)
       where
-        present : (j : ℕ) → In j (ids (f .nodes)) → member j (locatedIds (whole .located)) ≡ true
+        present : (j : ℕ) → Is j (ids (f .nodes)) → member j (locatedIds (whole .located)) ≡ true
         present j h =
             let (n, is, e) = in-is j (f .nodes) h in
             rw e (whole-end .has n (scheduled early f sound .has n is))

@@ -13,16 +13,14 @@ use borrow.Author.Tests.{eqb-true, eqb-false, leb-true, leb-false, lt-ltb, le-lt
 use Rattle.base.specs.Limits.{nodeLimit, wordLimit, noNode}
 use Rattle.base.proofs.Numbers.{lt-or-le}
 use Rattle.base.proofs.Lists.{some-is}
-use Rattle.base.specs.Lists.{Each}
+use Rattle.base.specs.Lists.{Is, Each}
 use Rattle.ports.specs.declared.Form.{Form}
 use Rattle.ports.specs.declared.Form.the-variants.{Absent, Constant, References, Call}
 use Rattle.ports.specs.Ports.{width, own, portsOf, formOf, calling}
 use Rattle.base.specs.Bytes.{byte, u16}
 use Rattle.graph.specs.Graph.{Ref, Payload, calls, Node, Output}
-use Rattle.graph.specs.Look.{reads, readsOf, outputRefs}
+use Rattle.graph.specs.Look.{reads, readsOf, outputRefs, ids}
 use Rattle.graph.specs.Read.{reference, references}
-use Rattle.graph.proofs.Loops.{In}
-use Rattle.graph.proofs.Order.{ids}
 use Rattle.graph.proofs.Formed.{refs-length}
 use Rattle.reader.specs.Layout.{kindAt, payloadAt, nodeAt, outputsAt, outputCount, outputsPlace, functionAt, earlier}
 use Rattle.bytecode.specs.Run.{places}
@@ -76,7 +74,7 @@ codes-stored out b es xs h l q =
 -- ---- ports of nodes that have their locations
 
 module _ (ns : List Node) (few : length ns ≤ nodeLimit) (allocated : List ℕ) (located : List Located) (known : Knows ns allocated located) where
-  pub port-coded : (r : Ref) → (r .node ≡ 0) ⊎ In (r .node) (ids ns) → Codes (portCode allocated (target ns (some r)) (r .port)) (locationOf located r)
+  pub port-coded : (r : Ref) → (r .node ≡ 0) ⊎ Is (r .node) (ids ns) → Codes (portCode allocated (target ns (some r)) (r .port)) (locationOf located r)
   port-coded r h = pickOne (eqb (r .node) 0) refl (leb 8 (r .port)) refl
     where
       pickOne : (b : Bool) → eqb (r .node) 0 ≡ b → (a : Bool) → leb 8 (r .port) ≡ a
@@ -86,7 +84,7 @@ module _ (ns : List Node) (few : length ns ≤ nodeLimit) (allocated : List ℕ)
       pickOne true q true w = λ l. let z : 8 ≤ r .port = leb-true 8 (r .port) w in absurd (omega arith)
       pickOne true q false w = λ l. refl
       pickOne false q a w =
-          let i : In (r .node) (ids ns) = ⊎-elim (λ z. absurd (eqb-false (r .node) 0 q z)) (λ x. x) h in
+          let i : Is (r .node) (ids ns) = ⊎-elim (λ z. absurd (eqb-false (r .node) 0 q z)) (λ x. x) h in
           let l : indexOf (r .node) ns < length ns = in-index (r .node) ns i in
           let (m, g, f, e) = index-of (r .node) ns l in
           let c : PortsCoded (locationsOf (r .node) located) allocated (8 * indexOf (r .node) ns) =
@@ -100,7 +98,7 @@ module _ (ns : List Node) (few : length ns ≤ nodeLimit) (allocated : List ℕ)
 
   -- the references of the i-th node
   module _ (s ts : List ℕ) (i : ℕ) (x : Node) (slots : (j : ℕ) → j < 16 → slot ts i j ≡ target ns (getElem? (reads x) j))
-      (inside : (r : Ref) (w : ℕ) → getElem? (reads x) w ≡ some r → (r .node ≡ 0) ⊎ In (r .node) (ids ns)) where
+      (inside : (r : Ref) (w : ℕ) → getElem? (reads x) w ≡ some r → (r .node ≡ 0) ⊎ Is (r .node) (ids ns)) where
     reads-from : (m j q : ℕ) → ((w : ℕ) → getElem? (reads x) (j + w) ≡ getElem? (references m s q) w) → j + m ≤ 16
         → AllCodes (readCodes s ts allocated (16 * i + j) m q) (map (locationOf located) (references m s q))
     unfolding readCodes

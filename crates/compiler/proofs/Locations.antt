@@ -13,7 +13,7 @@ use Rattle.ports.specs.Kinds.{kindOf}
 use Rattle.ports.specs.Ports.{width, gives}
 use Rattle.graph.specs.Graph.{Ref, Payload, consts, refs, calls, Node, Function}
 use Rattle.base.specs.Lists.{Each, member, Distinct, Is}
-use Rattle.graph.specs.Look.{readsOf, reads, outputRefs}
+use Rattle.graph.specs.Look.{readsOf, reads, outputRefs, ids}
 use Rattle.graph.specs.Schedule.{ready, schedule}
 use Rattle.base.specs.Outcome.{ok, _>>_}
 use Rattle.graph.specs.Format.{version1}
@@ -27,7 +27,7 @@ use Rattle.graph.specs.Formed.{AllFormed}
 use Rattle.base.proofs.Bools.{and-inv, or-inv}
 use Rattle.base.proofs.Outcomes.{took, after, ok-is}
 use Rattle.graph.proofs.Fresh.{judged-distinct}
-use Rattle.graph.proofs.Order.{ids, Ordered, scheduled, schedule-within, schedule-distinct}
+use Rattle.graph.proofs.Order.{Ordered, scheduled, schedule-within, schedule-distinct}
 use Rattle.bytecode.specs.Run.{Instruction, places}
 use Rattle.lowering.specs.Compile.{Written, portsAt, address, Inlined, Inline, single, inlineNode, also, inlineNodes, inlineFunction, inlined}
 use Rattle.compiler.specs.Static.{Location, nowhere, input, offset, addressAt, rebase, Located, locationsOf, locationOf, Summary, Callee, nodeSummary, allocate, functionSummary, summary, emitNodes, Agrees}

@@ -8,15 +8,14 @@ use lib.ListN.{length, getD}
 use lib.Seq.{sets, length-sets}
 use Rattle.compiler.specs.Sizes.{outputLimit}
 use Rattle.base.specs.Limits.{nodeLimit}
-use Rattle.base.specs.Lists.{Each}
+use Rattle.base.specs.Lists.{Is, Each}
 use Rattle.graph.specs.Graph.{Ref, Node, Function}
 use Rattle.graph.specs.Types.{refType, outputTypes}
-use Rattle.graph.specs.Look.{outputRefs}
+use Rattle.graph.specs.Look.{outputRefs, ids}
 use Rattle.graph.specs.Read.{reference}
 use Rattle.graph.specs.Schedule.{schedule}
 use Rattle.graph.specs.Sound.{Wired}
-use Rattle.graph.proofs.Loops.{In}
-use Rattle.graph.proofs.Order.{ids, reads-in}
+use Rattle.graph.proofs.Order.{reads-in}
 use Rattle.reader.specs.Layout.{nodesAt, nodesPlace, nodeCount, outputsAt, outputCount, outputsPlace, functionAt, earlier}
 use Rattle.compiler.specs.Static.{nowhere, Located, locationOf, summary, allocate}
 use Rattle.sums.specs.Position.{placeOf, functionIn, before, Accepted}
@@ -28,7 +27,7 @@ use Rattle.compiler.proofs.Coding.{AllCodes, codes-length, codes-stored
 use Rattle.sums.proofs.Accepted.{few, sound-below, fit-below}
 
 abbrev Inside : List Node → Ref → Type 0
-Inside ns r = (r .node ≡ 0) ⊎ In (r .node) (ids ns)
+Inside ns r = (r .node ≡ 0) ⊎ Is (r .node) (ids ns)
 
 wired-inside : (early : List Function) (f : Function) (ws : List ℕ) (rs : List Ref) → Wired (refType early f) ws rs → Each (Inside (f .nodes)) rs
 wired-inside early f [] [] h = tt

@@ -20,7 +20,7 @@ use Rattle.value.specs.Typed.{Of, Typed}
 use Rattle.value.specs.Results.{results}
 use Rattle.value.proofs.Laws.{results-typed}
 use Rattle.graph.specs.Graph.{Ref, Payload, consts, refs, calls, Node, Function}
-use Rattle.graph.specs.Look.{findNode, findFunction, reads, outputRefs}
+use Rattle.graph.specs.Look.{findNode, findFunction, reads, outputRefs, ids}
 use Rattle.graph.specs.Types.{outputTypes, wantsOf, givesOf, givesAt, refType}
 use Rattle.graph.specs.Format.{version1}
 use Rattle.graph.specs.Rules.{Meets}
@@ -29,8 +29,7 @@ use Rattle.graph.specs.Sound.{Wired, Shaped, Sound, AllSound}
 use Rattle.graph.specs.Orders.{Ordered}
 use Rattle.graph.specs.Meaning.{bind, all, Call, Env, refMeans, payloadMeans, nodeMeans, functionMeans, meaningOf}
 use Rattle.graph.specs.Equations.{Solves, Model, OneMeaning}
-use Rattle.graph.proofs.Loops.{In}
-use Rattle.graph.proofs.Order.{ids, is-in, in-is, cond-or, member-first, schedule-within, reads-in, scheduled}
+use Rattle.graph.proofs.Order.{is-in, in-is, cond-or, member-first, schedule-within, reads-in, scheduled}
 use Rattle.graph.proofs.Means.{node-mono}
 use Rattle.graph.proofs.Formed.{accepted}
 use Rattle.graph.proofs.Exactly.{table-back}
@@ -62,13 +61,13 @@ module _
         go false q e = more k i (h i e)
 
     along : (os : List Node) (done : List ℕ) (k t : ℕ) → length os + k ≡ t → ((n : Node) → Is n os → Is n (f .nodes)) → Ordered done os → Done k done
-        → (i : ℕ) → (member i done ≡ true) ⊎ In i (ids os) → P t i
+        → (i : ℕ) → (member i done ≡ true) ⊎ Is i (ids os) → P t i
     along [] done k t e within o h i (inl m) = subst (λ (j : ℕ). P j i) (omega arith) (h i m)
     along [] done k t e within o h i (inr x) = absurd x
     along (n ∷ os) done k t e within (fit, o) h i x =
         along os (n .id ∷ done) (suc k) t (omega arith) (λ m j. within m (inr j)) o (done-next k done n (within n (inl refl)) fit h) i (next x)
       where
-        next : (member i done ≡ true) ⊎ In i (ids (n ∷ os)) → (member i (n .id ∷ done) ≡ true) ⊎ In i (ids os)
+        next : (member i done ≡ true) ⊎ Is i (ids (n ∷ os)) → (member i (n .id ∷ done) ≡ true) ⊎ Is i (ids os)
         next (inl m) = inl (cond-or (eqb (n .id) i) _ m)
         next (inr (inl q)) = inl (rw q (member-first (n .id) done))
         next (inr (inr y)) = inr y
@@ -89,7 +88,7 @@ module _
     at-refs (t ∷ ts) (x ∷ xs) (w, ws) r (inl q) =
         subst (λ (y : Ref). (y .node ≡ 0) ⊎ P (length (f .nodes)) (y .node)) (sym q) (⊎-elim (λ z. inl z) (λ i. inr (there i)) (reads-in early f x t w))
       where
-        there : In (x .node) (ids (f .nodes)) → P (length (f .nodes)) (x .node)
+        there : Is (x .node) (ids (f .nodes)) → P (length (f .nodes)) (x .node)
         there i = let (n, is, e) = in-is (x .node) (f .nodes) i in rw e (at-node n is)
 
 -- ---- two solutions in one function

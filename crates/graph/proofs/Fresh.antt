@@ -10,14 +10,11 @@ use lib.Dec.{eqb}
 use borrow.Author.Tests.{eqb-true, eqb-false, eq-eqb, ne-eqb}
 use Rattle.base.specs.Outcome.{Outcome, ok, _>>_, need}
 use Rattle.graph.specs.Graph.{Node, Function}
-use Rattle.graph.specs.Look.{findNode, findFunction, found}
+use Rattle.graph.specs.Look.{findNode, findFunction, found, ids}
 use Rattle.base.specs.Lists.{member, Is, Distinct}
 use Rattle.graph.specs.Judge.{fresh, judge}
 use Rattle.base.proofs.Outcomes.{passed, after, passes}
 use Rattle.graph.proofs.Accept.{not-found}
-
-abbrev ids : List Node → List ℕ
-ids = map (λ n. n .id)
 
 -- none of the ids is among those of `before`
 abbrev Apart : List Node → List Node → Type 0

@@ -11,10 +11,10 @@ use lib.ListN.{length, getElem?}
 use borrow.Author.Tests.{eqb-true, eqb-false, eq-eqb}
 use Rattle.graph.specs.Graph.{Ref, Payload, Node, Output, Function}
 use Rattle.base.specs.Lists.{member, Is, Distinct}
-use Rattle.graph.specs.Look.{readIds, findNode, reads}
+use Rattle.graph.specs.Look.{readIds, findNode, reads, ids}
 use Rattle.graph.specs.Loops.{readsId, Leads, one, more}
 use Rattle.graph.specs.Schedule.{ready, Picked, before, pick, order, schedule}
-use Rattle.graph.proofs.Loops.{In, stuck-loops, leads-node}
+use Rattle.graph.proofs.Loops.{stuck-loops, leads-node}
 use Rattle.base.proofs.Bools.{and-inv, or-inv}
 use Rattle.graph.proofs.Accept.{loop-free-iff, among-is}
 use Rattle.base.proofs.Outcomes.{is-each}
@@ -27,15 +27,12 @@ pub use Rattle.graph.specs.Orders.{Ordered}
 use Rattle.graph.specs.Types.{refType, givesAt, wantsOf}
 use Rattle.graph.specs.Judge.{loopFree}
 
-abbrev pub ids : List Node → List ℕ
-ids = map (λ n. n .id)
-
-pub is-in : (n : Node) (ns : List Node) → Is n ns → In (n .id) (ids ns)
+pub is-in : (n : Node) (ns : List Node) → Is n ns → Is (n .id) (ids ns)
 is-in n [] h = absurd h
 is-in n (x ∷ xs) (inl e) = inl (ap (λ (m : Node). m .id) e)
 is-in n (x ∷ xs) (inr h) = inr (is-in n xs h)
 
-pub in-is : (i : ℕ) (ns : List Node) → In i (ids ns) → (n : Node) × Is n ns × (i ≡ n .id)
+pub in-is : (i : ℕ) (ns : List Node) → Is i (ids ns) → (n : Node) × Is n ns × (i ≡ n .id)
 in-is i [] h = absurd h
 in-is i (x ∷ xs) (inl e) = (x, inl refl, e)
 in-is i (x ∷ xs) (inr h) = let (n, a, e) = in-is i xs h in (n, inr a, e)
@@ -155,7 +152,7 @@ module _ (ns : List Node) where
   -- the nodes of the function: their ids are their own, and what they read is an input or a node
   pub record Closed : Type 0 where
     pub own : (n : Node) → Is n ns → findNode (n .id) ns ≡ some n
-    pub closed : (n : Node) (j : ℕ) → Is n ns → member j (map (λ r. r .node) (reads n)) ≡ true → (j ≡ 0) ⊎ In j (ids ns)
+    pub closed : (n : Node) (j : ℕ) → Is n ns → member j (map (λ r. r .node) (reads n)) ≡ true → (j ≡ 0) ⊎ Is j (ids ns)
     pub free : (i : ℕ) → Leads ns i i → ⊥
 
   -- of the nodes, those that are not done are left
@@ -165,13 +162,13 @@ module _ (ns : List Node) where
 
   module _ (s : Closed) where
     -- a node that waits leads to one that is left
-    onward : (done : List ℕ) (left : List Node) → State done left → (n : Node) → Is n left → Waits done (reads n) → (j : ℕ) × In j (ids left) × Leads ns (n .id) j
+    onward : (done : List ℕ) (left : List Node) → State done left → (n : Node) → Is n left → Waits done (reads n) → (j : ℕ) × Is j (ids left) × Leads ns (n .id) j
     onward done left st n h (j, m, z, d) = ⊎-elim (λ e. absurd (z e)) node (s .closed n j (st .within n h) m)
       where
         reaches : readsId ns (n .id) j ≡ true
         reaches = rw (s .own n (st .within n h)) m
 
-        node : In j (ids ns) → (i : ℕ) × In i (ids left) × Leads ns (n .id) i
+        node : Is j (ids ns) → (i : ℕ) × Is i (ids left) × Leads ns (n .id) i
         node i =
             let (o, is, e) = in-is j ns i in
             ⊎-elim (λ a. let b : member j done ≡ true = rw e a in let c : _≡_ {A = ℕ} 0 1 = cc in absurd (omega arith))
@@ -180,7 +177,7 @@ module _ (ns : List Node) where
     never-stuck : (done : List ℕ) (x : Node) (xs : List Node) → State done (x ∷ xs) → pick done (x ∷ xs) ≡ none → ⊥
     never-stuck done x xs st e = let (k, i, p) = stuck-loops ns (x .id) (ids xs) on in s .free k p
       where
-        on : (k : ℕ) → In k (ids (x ∷ xs)) → (j : ℕ) × In j (ids (x ∷ xs)) × Leads ns k j
+        on : (k : ℕ) → Is k (ids (x ∷ xs)) → (j : ℕ) × Is j (ids (x ∷ xs)) × Leads ns k j
         on k i =
             let (n, h, q) = in-is k (x ∷ xs) i in
             rw q (onward done (x ∷ xs) st n h (waits done (reads n) (pick-none done (x ∷ xs) e n h)))
@@ -238,36 +235,36 @@ schedule-within ns n h = order-within (length ns) [] ns n h
 
 -- ---- what an accepted function reads is an input or a node of it
 
-found-in : (ns : List Node) (early : List Function) (j p w : ℕ) → getElem? (givesAt early (findNode j ns)) p ≡ some w → In j (ids ns)
+found-in : (ns : List Node) (early : List Function) (j p w : ℕ) → getElem? (givesAt early (findNode j ns)) p ≡ some w → Is j (ids ns)
 found-in [] early j p w e = let z : _≡_ {A = ℕ} 0 1 = cc in absurd (omega arith)
 found-in (x ∷ xs) early j p w e = go (eqb (x .id) j) refl (λ f. found-in xs early j p w f) e
   where
     go :
-        (b : Bool) → eqb (x .id) j ≡ b → (getElem? (givesAt early (findNode j xs)) p ≡ some w → In j (ids xs))
-        → getElem? (givesAt early (cond b (some x) (findNode j xs))) p ≡ some w → (j ≡ x .id) ⊎ In j (ids xs)
+        (b : Bool) → eqb (x .id) j ≡ b → (getElem? (givesAt early (findNode j xs)) p ≡ some w → Is j (ids xs))
+        → getElem? (givesAt early (cond b (some x) (findNode j xs))) p ≡ some w → (j ≡ x .id) ⊎ Is j (ids xs)
     go true q ih f = inl (sym (eqb-true (x .id) j q))
     go false q ih f = inr (ih f)
 
-pub reads-in : (early : List Function) (f : Function) (r : Ref) (w : ℕ) → refType early f r ≡ some w → (r .node ≡ 0) ⊎ In (r .node) (ids (f .nodes))
+pub reads-in : (early : List Function) (f : Function) (r : Ref) (w : ℕ) → refType early f r ≡ some w → (r .node ≡ 0) ⊎ Is (r .node) (ids (f .nodes))
 reads-in early f r w e = go (eqb (r .node) 0) refl e
   where
     go :
         (b : Bool) → eqb (r .node) 0 ≡ b → getElem? (cond b (f .inputs) (givesAt early (findNode (r .node) (f .nodes)))) (r .port) ≡ some w
-        → (r .node ≡ 0) ⊎ In (r .node) (ids (f .nodes))
+        → (r .node ≡ 0) ⊎ Is (r .node) (ids (f .nodes))
     go true q h = inl (eqb-true (r .node) 0 q)
     go false q h = inr (found-in (f .nodes) early (r .node) (r .port) w h)
 
 pub wired-in :
     (early : List Function) (f : Function) (ws : List ℕ) (rs : List Ref) → Wired (refType early f) ws rs → (j : ℕ) → member j (map (λ r. r .node) rs) ≡ true
-    → (j ≡ 0) ⊎ In j (ids (f .nodes))
+    → (j ≡ 0) ⊎ Is j (ids (f .nodes))
 wired-in early f ws [] h j e = let z : _≡_ {A = ℕ} 0 1 = cc in absurd (omega arith)
 wired-in early f [] (r ∷ rs) h j e = absurd h
 wired-in early f (w ∷ ws) (r ∷ rs) (t, h) j e = go (eqb (r .node) j) refl (λ g. wired-in early f ws rs h j g) e
   where
     go :
-        (b : Bool) → eqb (r .node) j ≡ b → (member j (map (λ r. r .node) rs) ≡ true → (j ≡ 0) ⊎ In j (ids (f .nodes)))
-        → cond b true (member j (map (λ r. r .node) rs)) ≡ true → (j ≡ 0) ⊎ In j (ids (f .nodes))
-    go true q ih g = subst (λ (i : ℕ). (i ≡ 0) ⊎ In i (ids (f .nodes))) (eqb-true (r .node) j q) (reads-in early f r w t)
+        (b : Bool) → eqb (r .node) j ≡ b → (member j (map (λ r. r .node) rs) ≡ true → (j ≡ 0) ⊎ Is j (ids (f .nodes)))
+        → cond b true (member j (map (λ r. r .node) rs)) ≡ true → (j ≡ 0) ⊎ Is j (ids (f .nodes))
+    go true q ih g = subst (λ (i : ℕ). (i ≡ 0) ⊎ Is i (ids (f .nodes))) (eqb-true (r .node) j q) (reads-in early f r w t)
     go false q ih g = ih g
 
 pub sound-closed : (early : List Function) (f : Function) → Sound early f → Closed (f .nodes)

@@ -35,6 +35,9 @@ outputRefs = map (λ o. o .ref)
 
 -- ---- ids
 
+abbrev pub ids : List Node → List ℕ
+ids = map (λ n. n .id)
+
 -- the ids that the nodes with these ids read
 abbrev pub readIds : Option Node → List ℕ
 readIds none = []

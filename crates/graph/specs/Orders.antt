@@ -4,7 +4,7 @@ use mathlib.Core.Path.{_≡_}
 use mathlib.Core.Bool.{true, false}
 use mathlib.Core.List.{List, [], _∷_, _++_, map}
 use Rattle.graph.specs.Graph.{Node}
-use Rattle.graph.specs.Look.{reads}
+use Rattle.graph.specs.Look.{reads, ids}
 use Rattle.base.specs.Lists.{member, Is, Distinct}
 use Rattle.graph.specs.Loops.{Leads}
 use Rattle.graph.specs.Schedule.{ready}
@@ -26,5 +26,5 @@ Ordered done (n ∷ ns) = (ready done (reads n) ≡ true) × Ordered (n .id ∷ 
 pub record Orders (ns os : List Node) : Type 0 where
   pub within : (n : Node) → Is n os → Is n ns
   pub has : (n : Node) → Is n ns → Is n os
-  pub once : Distinct (map (λ n. n .id) os)
+  pub once : Distinct (ids os)
   pub ordered : Ordered [] os

@@ -21,14 +21,13 @@ use Rattle.value.specs.Typed.{Of, Typed}
 use Rattle.value.specs.Results.{results}
 use Rattle.value.proofs.Laws.{of-width, typed-widths, results-typed}
 use Rattle.graph.specs.Graph.{Ref, Payload, consts, refs, calls, Node, Output, Function}
-use Rattle.graph.specs.Look.{findNode, findFunction, reads, readsOf, outputRefs}
+use Rattle.graph.specs.Look.{findNode, findFunction, reads, readsOf, outputRefs, ids}
 use Rattle.graph.specs.Types.{outputTypes, outputsOf, inputsOf, wantsOf, givesOf, givesAt, refType}
 use Rattle.graph.specs.Sound.{Wired, Shaped, Sound, AllSound}
 use Rattle.graph.specs.Formed.{FormedPayload, FormedNode}
 use Rattle.base.proofs.Outcomes.{is-each}
 use Rattle.graph.specs.Meaning.{bind, all, Call, Env, refMeans, payloadMeans, nodeStep, nodeMeans, functionMeans, meaningOf}
 use Rattle.graph.proofs.Means.{node-mono}
-use Rattle.graph.proofs.Loops.{In}
 use Rattle.base.proofs.Bools.{and-inv, and-both, or-left, or-right}
 use Rattle.bytecode.specs.Run.{Instruction, BoardList, valuesAt, execute, executeAll, places}
 use Rattle.graph.specs.Schedule.{ready, schedule}
@@ -37,7 +36,7 @@ use Rattle.bytecode.specs.Code.{nextWord}
 use Rattle.bytecode.specs.WellFormed.{Below, Fit, AllFit}
 use Rattle.bytecode.proofs.Memory.{Keeps, keeps-none, keeps-sets, keeps-then, StandsAt, Stand, stays, values-at, stand-placed, execute-append}
 use Rattle.base.proofs.Stores.{sets-words}
-use Rattle.graph.proofs.Order.{Ordered, Right, scheduled, schedule-within, reads-in, in-is, ids}
+use Rattle.graph.proofs.Order.{Ordered, Right, scheduled, schedule-within, reads-in, in-is}
 
 -- ---- the words only grow
 
@@ -339,13 +338,13 @@ module _ (early : List Function) (f : Function) (args : List Value) (ins : List 
 
     -- ---- the outputs
 
-    member-of : (b : Body) → ((n : Node) → Is n (schedule (f .nodes)) → member (n .id) (writtenIds (b .written)) ≡ true) → (j : ℕ) → In j (ids (f .nodes))
+    member-of : (b : Body) → ((n : Node) → Is n (schedule (f .nodes)) → member (n .id) (writtenIds (b .written)) ≡ true) → (j : ℕ) → Is j (ids (f .nodes))
         → member j (writtenIds (b .written)) ≡ true
     member-of b has j h =
         let (n, is, e) = in-is j (f .nodes) h in
         rw e (has n (scheduled early f sound .has n is))
 
-    all-ready : (b : Body) → ((j : ℕ) → In j (ids (f .nodes)) → member j (writtenIds (b .written)) ≡ true) → (ts : List ℕ) (rs : List Ref)
+    all-ready : (b : Body) → ((j : ℕ) → Is j (ids (f .nodes)) → member j (writtenIds (b .written)) ≡ true) → (ts : List ℕ) (rs : List Ref)
         → Wired (refType early f) ts rs → ready (writtenIds (b .written)) rs ≡ true
     all-ready b has ts [] w = refl
     all-ready b has [] (r ∷ rs) w = absurd w

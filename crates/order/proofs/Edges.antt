@@ -10,12 +10,11 @@ use lib.Dec.{eqb}
 use lib.ListN.{length, getElem?}
 use borrow.Author.Tests.{ne-eqb}
 use Rattle.graph.specs.Graph.{Ref, Node}
-use Rattle.graph.specs.Look.{findNode, readIds, reads}
+use Rattle.graph.specs.Look.{findNode, readIds, reads, ids}
 use Rattle.base.specs.Lists.{member, Is}
 use Rattle.graph.specs.Loops.{readsId, Leads}
 use Rattle.graph.specs.Loops as Ids
-use Rattle.graph.proofs.Loops.{In, Among, leads-node}
-use Rattle.graph.proofs.Order.{ids}
+use Rattle.graph.proofs.Loops.{Among, leads-node}
 use Rattle.graph.proofs.Accept.{among-is}
 use Rattle.order.specs.Indices.{slot}
 use Rattle.order.specs.Paths.{readsIndex, Path, one, more}
@@ -24,7 +23,7 @@ use Rattle.order.proofs.Closure.{read-below, read-slot, slot-read}
 use Rattle.order.proofs.Nodes.{at-is, at-below, index-of, in-index, ref-member, member-ref}
 use Rattle.base.specs.Limits.{noNode}
 
-among-in : (i : ℕ) (ns : List Node) → Among i ns → In i (ids ns)
+among-in : (i : ℕ) (ns : List Node) → Among i ns → Is i (ids ns)
 among-in i [] h = absurd h
 among-in i (x ∷ xs) (inl e) = inl e
 among-in i (x ∷ xs) (inr h) = inr (among-in i xs h)
@@ -54,7 +53,7 @@ module _ (ts : List ℕ) (ns : List Node) (r : Resolves ts ns) where
       let (s, l, q) = read-slot ts (length ns) x y h in
       slot-ref a y s (getElem? (reads a) s) refl (sym (r .slots x s a e l) ∙ q) (read-below ts (length ns) x y h)
 
-  ref-edge : (x j : ℕ) (a : Node) → getElem? ns x ≡ some a → member j (map (λ q. q .node) (reads a)) ≡ true → (j ≡ 0 → ⊥) → In j (ids ns)
+  ref-edge : (x j : ℕ) (a : Node) → getElem? ns x ≡ some a → member j (map (λ q. q .node) (reads a)) ≡ true → (j ≡ 0 → ⊥) → Is j (ids ns)
       → readsIndex ts (length ns) x (indexOf j ns) ≡ true
   ref-edge x j a e h z i =
       let (s, p, q, same) = member-ref (reads a) j h in
@@ -96,10 +95,10 @@ module _ (ts : List ℕ) (ns : List Node) (r : Resolves ts ns) where
         let h : member j (map (λ q. q .node) (reads m)) ≡ true = ap (λ (o : Option Node). member j (readIds o)) (sym found) ∙ s in
         ref-edge (indexOf i ns) j m stands h z (inside m stands h)
       where
-        inside : (m : Node) → getElem? ns (indexOf i ns) ≡ some m → member j (map (λ q. q .node) (reads m)) ≡ true → In j (ids ns)
+        inside : (m : Node) → getElem? ns (indexOf i ns) ≡ some m → member j (map (λ q. q .node) (reads m)) ≡ true → Is j (ids ns)
         inside m stands h = pickOne (r .closed m j (at-is ns (indexOf i ns) m stands) h)
           where
-            pickOne : (j ≡ 0) ⊎ In j (ids ns) → In j (ids ns)
+            pickOne : (j ≡ 0) ⊎ Is j (ids ns) → Is j (ids ns)
             pickOne (inl e) = absurd (z e)
             pickOne (inr a) = a
 

@@ -10,10 +10,8 @@ use lib.Dec.{eqb}
 use lib.ListN.{length, getElem?}
 use borrow.Author.Tests.{eqb-true, eqb-false, eq-eqb, ne-eqb}
 use Rattle.graph.specs.Graph.{Ref, Node}
-use Rattle.graph.specs.Look.{findNode}
+use Rattle.graph.specs.Look.{findNode, ids}
 use Rattle.base.specs.Lists.{member, Is}
-use Rattle.graph.proofs.Loops.{In}
-use Rattle.graph.proofs.Order.{ids}
 use Rattle.order.specs.Resolve.{indexOf}
 use Rattle.base.proofs.Lists.{some-is}
 
@@ -50,12 +48,12 @@ index-of j (n ∷ ns) h = pickOne (eqb (n .id) j) refl (λ l. index-of j ns l) h
     pickOne true q ih l = (n, refl, refl, eqb-true (n .id) j q)
     pickOne false q ih l = ih (omega arith)
 
-pub in-index : (j : ℕ) (ns : List Node) → In j (ids ns) → indexOf j ns < length ns
+pub in-index : (j : ℕ) (ns : List Node) → Is j (ids ns) → indexOf j ns < length ns
 in-index j [] h = absurd h
 in-index j (n ∷ ns) h = pickOne (eqb (n .id) j) refl (λ i. in-index j ns i) h
   where
     pickOne :
-        (b : Bool) → eqb (n .id) j ≡ b → (In j (ids ns) → indexOf j ns < length ns) → (j ≡ n .id) ⊎ In j (ids ns)
+        (b : Bool) → eqb (n .id) j ≡ b → (Is j (ids ns) → indexOf j ns < length ns) → (j ≡ n .id) ⊎ Is j (ids ns)
         → cond b 0 (suc (indexOf j ns)) < suc (length ns)
     pickOne true q ih h = omega arith
     pickOne false q ih (inl e) = absurd (eqb-false (n .id) j q (sym e))

@@ -10,13 +10,11 @@ use lib.Dec.{eqb, ltb}
 use lib.ListN.{length, getElem?}
 use borrow.Author.Tests.{eqb-true, eqb-false, eq-eqb, ne-eqb, le-leb, lt-leb, lt-ltb, le-ltb}
 use Rattle.graph.specs.Graph.{Ref, Node}
-use Rattle.graph.specs.Look.{findNode, reads}
+use Rattle.graph.specs.Look.{findNode, reads, ids}
 use Rattle.base.specs.Lists.{member, Is}
 use Rattle.graph.specs.Schedule.{Picked, before, pick, order, schedule}
 use Rattle.graph.specs.Schedule as Graph
-use Rattle.graph.proofs.Loops.{In}
 use Rattle.base.proofs.Bools.{and-inv}
-use Rattle.graph.proofs.Order.{ids}
 use Rattle.order.specs.Indices.{firstOf, allOf, slot, settled, ready, eligible, next, orderFrom, indexOrder}
 use Rattle.order.specs.Resolve.{indexOf, target, Resolves}
 use Rattle.order.proofs.Range.{First, first-is, all-same}
@@ -85,7 +83,7 @@ module _ (ts : List ℕ) (ns : List Node) (r : Resolves ts ns) where
 
   -- an id is done where the first node that has it is
   abbrev Agree : List ℕ → List ℕ → Type 0
-  Agree is done = (j : ℕ) → In j (ids ns) → member (indexOf j ns) is ≡ member j done
+  Agree is done = (j : ℕ) → Is j (ids ns) → member (indexOf j ns) is ≡ member j done
 
   target-settled :
       (is done : List ℕ) → Agree is done → (x : Node) → Is x ns → (s : ℕ) (q : Ref) → getElem? (reads x) s ≡ some q
@@ -97,7 +95,7 @@ module _ (ts : List ℕ) (ns : List Node) (r : Resolves ts ns) where
           → settled (length ns) (λ v. member v is) (cond b noNode (indexOf (q .node) ns)) ≡ b || member (q .node) done
       pickOne true w = ap (λ (b : Bool). b || member noNode is) (le-leb (length ns) noNode (let f = r .few in omega arith))
       pickOne false w =
-          let j : In (q .node) (ids ns) =
+          let j : Is (q .node) (ids ns) =
           ⊎-elim (λ z. absurd (eqb-false (q .node) 0 w z)) (λ a. a) (r .closed x (q .node) i (ref-member (reads x) s q e)) in
           ap (λ (b : Bool). b || member (indexOf (q .node) ns) is) (lt-leb (length ns) (indexOf (q .node) ns) (in-index (q .node) ns j)) ∙ h (q .node) j
 

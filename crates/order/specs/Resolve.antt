@@ -9,9 +9,7 @@ use lib.Dec.{eqb}
 use lib.ListN.{length, getElem?}
 use Rattle.graph.specs.Graph.{Ref, Node}
 use Rattle.base.specs.Lists.{member, Is}
-use Rattle.graph.specs.Look.{reads}
-use Rattle.graph.proofs.Loops.{In}
-use Rattle.graph.proofs.Order.{ids}
+use Rattle.graph.specs.Look.{reads, ids}
 use Rattle.order.specs.Indices.{slot}
 use Rattle.base.specs.Limits.{nodeLimit, operandLimit, slotLimit, noNode}
 
@@ -30,5 +28,5 @@ pub record Resolves (ts : List ℕ) (ns : List Node) : Type 0 where
   pub size : length ts ≡ slotLimit
   -- a node has at most `operandLimit` references, each to an input or a node
   pub narrow : (n : Node) → Is n ns → length (reads n) ≤ operandLimit
-  pub closed : (n : Node) (j : ℕ) → Is n ns → member j (map (λ r. r .node) (reads n)) ≡ true → (j ≡ 0) ⊎ In j (ids ns)
+  pub closed : (n : Node) (j : ℕ) → Is n ns → member j (map (λ r. r .node) (reads n)) ≡ true → (j ≡ 0) ⊎ Is j (ids ns)
   pub slots : (i j : ℕ) (n : Node) → getElem? ns i ≡ some n → j < operandLimit → slot ts i j ≡ target ns (getElem? (reads n) j)
