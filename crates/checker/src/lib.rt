@@ -91,9 +91,10 @@ fn call_good(s: &[u8], at: usize, starts: &[usize; FUNCTION_LIMIT], k: usize) ->
         Form::Constant => true,
         Form::References => true,
         Form::Call => {
-            let found = reader::find_function(s, starts, k, u16_at(s, at + 4));
+            let found = reader::find_function(s, starts, k, reader::callee_at(s, at));
+            let arguments = reader::arguments_at(s, at);
             match found {
-                Found::At(_, p) => s[at + 4 + 2] == s[p + 2],
+                Found::At(_, p) => arguments.count == wide(s[p + 2]),
                 Found::Nothing => false,
             }
         }
@@ -195,7 +196,7 @@ fn node_port(s: &[u8], at: usize, starts: &[usize; FUNCTION_LIMIT], k: usize, po
         Form::Absent => row_port(row, ty, port),
         Form::Constant => row_port(row, ty, port),
         Form::References => row_port(row, ty, port),
-        Form::Call => callee_port(s, starts, k, u16_at(s, at + 4), port),
+        Form::Call => callee_port(s, starts, k, reader::callee_at(s, at), port),
     }
 }
 
@@ -370,7 +371,8 @@ fn node_good(
             )
         }
         Form::Call => {
-            let found = reader::find_function(s, starts, k, u16_at(s, at + 4));
+            let found = reader::find_function(s, starts, k, reader::callee_at(s, at));
+            let arguments = reader::arguments_at(s, at);
             match found {
                 Found::At(_, p) => references_good(
                     s,
@@ -380,8 +382,8 @@ fn node_good(
                     places,
                     targets,
                     Want::Inputs(p),
-                    at + 4 + 3,
-                    wide(s[at + 4 + 2]),
+                    arguments.first,
+                    arguments.count,
                     i,
                 ),
                 Found::Nothing => Seen::Good,

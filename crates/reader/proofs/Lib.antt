@@ -5,3 +5,4 @@ pub mod Payloads
 pub mod Functions
 pub mod Standing
 pub mod Passed
+pub mod AsRead

@@ -105,6 +105,9 @@ form-is s at row e h q = ap (λ (r : Ports). r .form) (sym e) ∙ q
 pub end-references : (s : List ℕ) (at : ℕ) (row : Ports) → row ≡ portsOf (kindAt s at) → row .form ≡ References → at + 4 + 3 * row .operands ≡ nodeEnd s at
 end-references s at row e q = ap (λ (r : Ports). at + 4 + 3 * r .operands) e ∙ same-form s at References (form-is s at row e References q)
 
+pub end-constant : (s : List ℕ) (at : ℕ) → formOf (kindAt s at) ≡ Constant → at + 4 + 8 * constantWords (kindAt s at) ≡ nodeEnd s at
+end-constant s at q = same-form s at Constant q
+
 pub end-call : (s : List ℕ) (at : ℕ) (row : Ports) → row ≡ portsOf (kindAt s at) → row .form ≡ Call → at + 4 + 3 + 3 * byte s (at + 4 + 2) ≡ nodeEnd s at
 end-call s at row e q = same-form s at Call (form-is s at row e Call q)
 
@@ -118,6 +121,9 @@ module _ (s : List ℕ) (at n : ℕ) (e : n ≡ nodeSize (portsOf (kindAt s at))
       pickOne Constant q w = absurd (omega (arith, w))
       pickOne References q w = absurd (omega (arith, w))
       pickOne Call q w = q
+
+  pub call-zero : formOf (kindAt s at) ≡ Call → n ≡ 0
+  call-zero q = e ∙ ap (λ (h : Form). sizeBy h (portsOf (kindAt s at))) q
 
   pub end-zero : n ≡ 0 → at + 4 + 3 + 3 * byte s (at + 4 + 2) ≡ nodeEnd s at
   end-zero z = same-form s at Call (zero-call z)

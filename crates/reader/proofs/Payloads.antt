@@ -59,10 +59,11 @@ module _ (s : List ℕ) (at : ℕ) (k : Kind) where
     pub refs-short : length s < at + 3 * n → payload Forms.Form.References k s at ≡ fault 5 at
     refs-short h = fails _ 5 at _ (lt-leb (at + 3 * arity k) (length s) (rw e at h))
 
-    pub refs-good : at + 3 * n ≤ length s → payloadRead k at (payload Forms.Form.References k s at) ≡ PayloadRead.Is (References at) (at + 3 * n)
+    pub refs-good : at + 3 * n ≤ length s → payloadRead k at (payload Forms.Form.References k s at) ≡ PayloadRead.Is (References (record { first = at; count = n })) (at + 3 * n)
     refs-good h =
         ap (payloadRead k at) (passes _ 5 at _ (le-leb (at + 3 * arity k) (length s) (rw e at h)))
-        ∙ ap (λ (m : ℕ). PayloadRead.Is (References at) (at + 3 * m)) (sym e)
+        ∙ ap (λ (m : ℕ). PayloadRead.Is (References (record { first = at; count = m })) (at + 3 * arity k)) (refs-length (arity k) s at)
+        ∙ ap (λ (m : ℕ). PayloadRead.Is (References (record { first = at; count = m })) (at + 3 * m)) (sym e)
 
   -- ---- calls
 
@@ -77,10 +78,10 @@ module _ (s : List ℕ) (at : ℕ) (k : Kind) where
 
   pub call-good :
       at + 3 ≤ length s → byte s (at + 2) ≤ 8 → at + 3 + 3 * byte s (at + 2) ≤ length s
-      → payloadRead k at (payload Forms.Form.Call k s at) ≡ PayloadRead.Is (Call (u16 s at) (byte s (at + 2)) (at + 3)) (at + 3 + 3 * byte s (at + 2))
+      → payloadRead k at (payload Forms.Form.Call k s at) ≡ PayloadRead.Is (Call (u16 s at) (record { first = at + 3; count = byte s (at + 2) })) (at + 3 + 3 * byte s (at + 2))
   call-good h m l =
       ap (payloadRead k at) (passes _ 5 at _ (le-leb _ _ h) ∙ (passes _ 6 at _ (le-leb _ _ m) ∙ passes _ 5 (at + 3) _ (le-leb _ _ l)))
-      ∙ ap (λ (n : ℕ). PayloadRead.Is (Call (u16 s at) n (at + 3)) (at + 3 + 3 * byte s (at + 2))) (refs-length (byte s (at + 2)) s (at + 3))
+      ∙ ap (λ (n : ℕ). PayloadRead.Is (Call (u16 s at) (record { first = at + 3; count = n })) (at + 3 + 3 * byte s (at + 2))) (refs-length (byte s (at + 2)) s (at + 3))
 
 -- ---- nodes
 

@@ -1,15 +1,18 @@
 -- What the lookups answer, and where they may look.
-use Prim.Native.Nat.{ℕ, zero, suc, _+_, _<_}
+use Prim.Native.Nat.{ℕ, zero, suc, _+_, _*_, _≤_, _<_}
 use mathlib.Core.Path.{_≡_}
 use mathlib.Core.Bool.{Bool, true, false, cond}
 use mathlib.Core.List.{List, [], _∷_}
 use lib.Dec.{eqb}
 use lib.ListN.{length, getD}
+use Rattle.base.specs.Limits.{operandLimit}
 use Rattle.base.specs.Outcome.{Outcome, ok, Part}
 use Rattle.graph.specs.Graph.{Node, Function}
 use Rattle.graph.specs.Format.{version1}
-use Rattle.graph.specs.Read.{node, nodes, function}
-use Rattle.reader.specs.Layout.{functionPlace}
+use Rattle.graph.specs.Look.{reads}
+use Rattle.graph.specs.Read.{references, node, nodes, function}
+use Rattle.reader.specs.Layout.{nodeAt, functionPlace}
+use Rattle.reader.specs.declared.Reads.{Reads}
 use Rattle.reader.specs.declared.Found.{Found}
 use Rattle.reader.specs.declared.Found.the-variants.{At, Nothing}
 
@@ -20,6 +23,12 @@ ReadsNode s at = (x : Part Node) × (node s at ≡ ok x)
 
 abbrev pub ReadsNodes : ℕ → List ℕ → ℕ → Type 0
 ReadsNodes n s at = (x : Part (List Node)) × (nodes n s at ≡ ok x)
+
+-- the references of the node at a place: at most `operandLimit`, from `first` on
+pub record ReadsOf (s : List ℕ) (at : ℕ) (r : Reads) : Type 0 where
+  pub refs : reads (nodeAt s at) ≡ references (r .count) s (r .first)
+  pub few : r .count ≤ operandLimit
+  pub fits : r .first + 3 * r .count ≤ length s
 
 abbrev pub ReadsFunction : List ℕ → ℕ → Type 0
 ReadsFunction s at = (x : Part Function) × (function (version1 .nodeLimit) s at ≡ ok x)

@@ -15,7 +15,7 @@ use Rattle.value.specs.Values.{vec, row, mat, valueOf}
 use Rattle.base.specs.Outcome.{Outcome, ok, fault, Part}
 use Rattle.graph.specs.Graph as Graph
 use Rattle.graph.specs.Graph.{consts, refs, calls}
-use Rattle.base.specs.Bytes.{u64}
+use Rattle.base.specs.Bytes.{byte, u64}
 use Rattle.reader.specs.declared.Next.{Next}
 use Rattle.reader.specs.declared.Seen.{Seen}
 use Rattle.reader.specs.declared.Record.{Record}
@@ -24,6 +24,7 @@ use Rattle.reader.specs.declared.NodeRead.{NodeRead}
 use Rattle.reader.specs.declared.Payload.{Payload}
 use Rattle.reader.specs.declared.Payload.the-variants.{Constant, Call, References}
 use Rattle.reader.specs.declared.PayloadRead.{PayloadRead}
+use Rattle.reader.specs.declared.Reads.{Reads}
 
 -- ---- answers
 
@@ -61,12 +62,17 @@ matrixAt s at = mat (rowAt s at) (rowAt s (at + 32)) (rowAt s (at + 64)) (rowAt 
 abbrev pub vectorAt : List ℕ → ℕ → Vec3
 vectorAt s at = vec (floatAt s at) (floatAt s (at + 8)) (floatAt s (at + 16))
 
--- ---- payloads and nodes: a call and the others keep where their references begin
+-- ---- payloads and nodes
 
+-- references are read where they are needed: a node keeps where they begin, and how many there are
 abbrev pub payloadOf : Kind → ℕ → Graph.Payload → Payload
 payloadOf k at (consts ws) = Constant (valueOf (portsOf k .result) ws)
-payloadOf k at (calls c rs) = Call c (length rs) (at + 3)
-payloadOf k at (refs rs) = References at
+payloadOf k at (calls c rs) = Call c (record { first = at + 3; count = length rs })
+payloadOf k at (refs rs) = References (record { first = at; count = length rs })
+
+-- the arguments of the call at a place
+abbrev pub argumentsAt : List ℕ → ℕ → Reads
+argumentsAt s at = record { first = at + 4 + 3; count = byte s (at + 4 + 2) }
 
 abbrev pub payloadRead : Kind → ℕ → Outcome (Part Graph.Payload) → PayloadRead
 payloadRead k at (ok p) = PayloadRead.Is (payloadOf k at (p .it)) (p .next)

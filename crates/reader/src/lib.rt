@@ -6,18 +6,18 @@ ghost use lib.Ieee as Ieee;
 ghost use lib.Ieee.{binary64};
 ghost use Rattle.ports.specs.Kinds.{kindOf};
 ghost use Rattle.ports.specs.Ports as PortList;
-ghost use Rattle.ports.specs.Ports.{portsOf, formOf};
+ghost use Rattle.ports.specs.Ports.{portsOf, formOf, arity};
 ghost use Rattle.ports.specs.declared.Form as Forms;
 ghost use Rattle.value.specs.Values.{constantWord, valueOf};
 ghost use Rattle.base.specs.Lists.{every};
-ghost use Rattle.base.specs.Bytes.{u64, constants};
+ghost use Rattle.base.specs.Bytes.{u16, u64, constants};
 ghost use Rattle.base.specs.Limits.{functionLimit};
 ghost use Rattle.graph.specs.Format.{version1};
 ghost use Rattle.graph.specs.Read.{inputs, outputs, inRange, payload, node, nodes, function, functions, parse};
-ghost use Rattle.reader.specs.Layout.{kindAt, nodeEnd, nodesAt, nodePlace, earlier};
+ghost use Rattle.reader.specs.Layout.{kindAt, nodeAt, nodeEnd, nodesAt, nodePlace, earlier};
 ghost use Rattle.reader.specs.Sizes.{nodeSize, nodeSizes, operandCounts};
-ghost use Rattle.reader.specs.Find.{ReadsNode, ReadsNodes, Started, nodeFound, functionFound};
-ghost use Rattle.reader.specs.Records.{recordAt, rowAt, matrixAt, vectorAt, payloadRead, nodeRead, seen, next, behind};
+ghost use Rattle.reader.specs.Find.{ReadsNode, ReadsNodes, ReadsOf, Started, nodeFound, functionFound};
+ghost use Rattle.reader.specs.Records.{recordAt, rowAt, matrixAt, vectorAt, argumentsAt, payloadOf, payloadRead, nodeOf, nodeRead, seen, next, behind};
 use base::FUNCTION_LIMIT;
 use base::NODE_LIMIT;
 use base::PORT_LIMIT;
@@ -129,11 +129,17 @@ pub fn constant_at(s: &[u8], at: usize, ty: u8) -> Value
 
 // ---- payloads
 
+// What a node reads: where its references begin, and how many there are.
+pub struct Reads {
+    pub first: usize,
+    pub count: usize,
+}
+
+// A constant's value, a call's callee and arguments, or the references.
 pub enum Payload {
     Constant(Value),
-    // callee, argument count, where the references begin
-    Call(usize, usize, usize),
-    References(usize),
+    Call(usize, Reads),
+    References(Reads),
 }
 
 pub enum PayloadRead {
@@ -169,17 +175,27 @@ fn read_call(s: &[u8], at: usize, kind: u8) -> PayloadRead
     let Record::Ends(end) = read_record(s, begin, 3 * count) else {
         return PayloadRead::Fault(5, begin);
     };
-    PayloadRead::Is(Payload::Call(u16_at(s, at), count, begin), end)
+    PayloadRead::Is(
+        Payload::Call(
+            u16_at(s, at),
+            Reads {
+                first: begin,
+                count,
+            },
+        ),
+        end,
+    )
 }
 
 fn read_references(s: &[u8], at: usize, kind: u8, row: Ports) -> PayloadRead
     requires { ⌜ row ≡ portsOf (kindOf kind) ⌝ }
     ensures { λ r. ⌜ r ≡ payloadRead (kindOf kind) at (payload Forms.Form.References (kindOf kind) (now (s .entry)) at) ⌝ }
 {
-    let Record::Ends(end) = read_record(s, at, 3 * (row.operands as usize)) else {
+    let count = row.operands as usize;
+    let Record::Ends(end) = read_record(s, at, 3 * count) else {
         return PayloadRead::Fault(5, at);
     };
-    PayloadRead::Is(Payload::References(at), end)
+    PayloadRead::Is(Payload::References(Reads { first: at, count }), end)
 }
 
 // The payload of a kind with this row.
@@ -422,7 +438,84 @@ pub fn read_table(s: &[u8]) -> Seen
     }
 }
 
-// ---- lookups, in a table whose reading passed
+// ---- nodes of a table whose reading passed
+
+// The id that the call at `at` calls.
+pub fn callee_at(s: &[u8], at: usize) -> usize
+    requires { ⌜ ReadsNode (now s) at × (formOf (kindAt (now s) at) ≡ Forms.Form.Call) ⌝ }
+    ensures { λ r. ⌜ r ≡ u16 (now (s .entry)) (at + 4) ⌝ }
+{
+    u16_at(s, at + 4)
+}
+
+// The arguments of the call at `at`.
+pub fn arguments_at(s: &[u8], at: usize) -> Reads
+    requires { ⌜ ReadsNode (now s) at × (formOf (kindAt (now s) at) ≡ Forms.Form.Call) ⌝ }
+    ensures { λ r. ⌜ r ≡ argumentsAt (now (s .entry)) at ⌝ }
+{
+    Reads {
+        first: at + 4 + 3,
+        count: wide(s[at + 4 + 2]),
+    }
+}
+
+// The payload of the node at `at`, whose kind has this row.
+fn payload_at(s: &[u8], at: usize, row: Ports) -> Payload
+    requires { ⌜ ReadsNode (now s) at × (row ≡ portsOf (kindAt (now s) at)) ⌝ }
+    ensures { λ r. ⌜ r ≡ payloadOf (kindAt (now (s .entry)) at) (at + 4) (nodeAt (now (s .entry)) at .payload) ⌝ }
+{
+    let form = row.form;
+    match form {
+        Form::Absent => Payload::References(Reads {
+            first: at + 4,
+            count: 0,
+        }),
+        Form::Constant => Payload::Constant(constant_at(s, at + 4, row.result)),
+        Form::References => Payload::References(Reads {
+            first: at + 4,
+            count: wide(row.operands),
+        }),
+        Form::Call => {
+            let arguments = arguments_at(s, at);
+            Payload::Call(callee_at(s, at), arguments)
+        }
+    }
+}
+
+// The node at `at`.
+pub fn node_at(s: &[u8], at: usize) -> Node
+    requires { ⌜ ReadsNode (now s) at ⌝ }
+    ensures { λ r. ⌜ r ≡ nodeOf (nodeAt (now (s .entry)) at) ⌝ }
+{
+    let kind = s[at + 2];
+    let payload = payload_at(s, at, ports::ports_of(kind));
+    Node {
+        id: u16_at(s, at),
+        place: at,
+        kind,
+        ty: s[at + 3],
+        payload,
+    }
+}
+
+// What the node at `at` reads.
+pub fn reads_at(s: &[u8], at: usize) -> Reads
+    requires { ⌜ ReadsNode (now s) at ⌝ }
+    ensures { λ r. ⌜ ReadsOf (now (s .entry)) at r ⌝ }
+{
+    let row = ports::ports_of(s[at + 2]);
+    let form = row.form;
+    if ports::is_call(form) {
+        arguments_at(s, at)
+    } else {
+        Reads {
+            first: at + 4,
+            count: wide(row.operands),
+        }
+    }
+}
+
+// ---- lookups
 
 // The bytes of a node of each kind, as the port list has them. 0 stands for a call: its argument count tells them.
 const SIZES: [u8; 25] = [
@@ -521,6 +614,21 @@ pub fn node_end(s: &[u8], at: usize) -> usize
     ensures { λ r. ⌜ r ≡ nodeEnd (now (s .entry)) at ⌝ }
 {
     end_by(s, at, node_size(s[at + 2]))
+}
+
+// What the node at `at` reads, by the size and the operands of its kind.
+pub fn reads_by(s: &[u8], at: usize, bytes: u8, operands: u8) -> Reads
+    requires { ⌜ ReadsNode (now s) at × (bytes ≡ nodeSize (portsOf (kindAt (now s) at))) × (operands ≡ arity (kindAt (now s) at)) ⌝ }
+    ensures { λ r. ⌜ ReadsOf (now (s .entry)) at r ⌝ }
+{
+    if bytes == 0 {
+        arguments_at(s, at)
+    } else {
+        Reads {
+            first: at + 4,
+            count: wide(operands),
+        }
+    }
 }
 
 // Where a node is found: its index among those looked through, and its place.

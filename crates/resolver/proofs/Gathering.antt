@@ -12,8 +12,8 @@ use Rattle.graph.specs.Read.{references}
 use Rattle.graph.proofs.Formed.{refs-length}
 use Rattle.reader.specs.Layout.{nodeAt, nodeEnd, nodesAt, nodePlace}
 use Rattle.reader.proofs.Passed.{place-next}
-use Rattle.resolver.specs.declared.Reads.{Reads}
-use Rattle.resolver.specs.Operands.{ReadsOf}
+use Rattle.reader.specs.declared.Reads.{Reads}
+use Rattle.reader.specs.Find.{ReadsOf}
 use Rattle.resolver.specs.Groups.{idsOf, named, Gathered}
 use Rattle.base.proofs.Stores.{sets-append}
 use Rattle.base.specs.Limits.{nodeLimit, operandLimit}

@@ -2,7 +2,6 @@
 pub mod Storing
 pub mod Rows
 pub mod Walking
-pub mod Referring
 pub mod Gathering
 pub mod Matching
 pub mod Scattering

@@ -14,10 +14,10 @@ use Rattle.graph.proofs.Formed.{refs-length}
 use Rattle.reader.specs.Layout.{nodeAt, nodeEnd, nodesAt, nodePlace}
 use Rattle.reader.proofs.Passed.{place-next}
 use Rattle.order.specs.Resolve.{target}
-use Rattle.resolver.specs.declared.Reads.{Reads}
+use Rattle.reader.specs.declared.Reads.{Reads}
 use Rattle.resolver.specs.declared.Group.{Group}
 use Rattle.resolver.specs.declared.Reached.{Reached}
-use Rattle.resolver.specs.Operands.{ReadsOf}
+use Rattle.reader.specs.Find.{ReadsOf}
 use Rattle.resolver.specs.Slots.{padded, rowOf, rowsOf}
 use Rattle.resolver.specs.Groups.{idsOf, named, sought, entries, Gathered, FoundAll, Found, GroupDone}
 use Rattle.base.proofs.Stores.{sets-in}

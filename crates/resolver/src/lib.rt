@@ -6,16 +6,13 @@ ghost use Prim.Native.Nat.{_+_, _-_, _*_, _^_, _<_, _≤_};
 ghost use lib.Dec.{eqb};
 ghost use lib.ListN.{length, replicate};
 ghost use lib.Seq.{sets};
-ghost use Rattle.ports.specs.Ports.{portsOf, arity};
 ghost use Rattle.base.specs.Limits.{nodeLimit, operandLimit, slotLimit};
 ghost use Rattle.base.specs.Outcome.{ok};
 ghost use Rattle.graph.specs.Judge.{fresh};
 ghost use Rattle.graph.specs.Read.{references};
-ghost use Rattle.reader.specs.Layout.{kindAt, nodesAt, nodePlace};
-ghost use Rattle.reader.specs.Sizes.{nodeSize};
-ghost use Rattle.reader.specs.Find.{ReadsNode, ReadsNodes};
+ghost use Rattle.reader.specs.Layout.{nodesAt, nodePlace};
+ghost use Rattle.reader.specs.Find.{ReadsNodes};
 ghost use Rattle.resolver.specs.Slots.{padded, rowsOf, placesOf};
-ghost use Rattle.resolver.specs.Operands.{ReadsOf};
 ghost use Rattle.resolver.specs.Groups.{idsOf, entries, Gathered, Marked, FoundAll, Found, GroupDone};
 use base::NO_NODE;
 use base::NODE_LIMIT;
@@ -40,32 +37,6 @@ pub fn places(s: &[u8], first: usize, count: usize, places: &mut [u32; NODE_LIMI
         let bytes = sizes[k];
         at = reader::end_by(s, at, bytes);
         i += 1;
-    }
-}
-
-// ---- references
-
-// Where a node's references begin, and how many there are.
-struct Reads {
-    first: usize,
-    count: usize,
-}
-
-// The references of the node at `at`, by the size and the operands of its kind.
-fn reads_by(s: &[u8], at: usize, bytes: u8, operands: u8) -> Reads
-    requires { ⌜ ReadsNode (now s) at × (bytes ≡ nodeSize (portsOf (kindAt (now s) at))) × (operands ≡ arity (kindAt (now s) at)) ⌝ }
-    ensures { λ r. ⌜ ReadsOf (now (s .entry)) at r ⌝ }
-{
-    if bytes == 0 {
-        Reads {
-            first: at + 4 + 3,
-            count: wide(s[at + 4 + 2]),
-        }
-    } else {
-        Reads {
-            first: at + 4,
-            count: wide(operands),
-        }
     }
 }
 
@@ -110,7 +81,7 @@ fn gather(s: &[u8], at: usize, left: usize, wanted: &mut [u16; NODE_LIMIT]) -> G
         }
         let k = wide(s[p + 2]);
         let bytes = sizes[k];
-        let r = reads_by(s, p, bytes, operands[k]);
+        let r = reader::reads_by(s, p, bytes, operands[k]);
         let c = r.count;
         gather_node(s, r.first, c, wanted, m);
         m += c;
@@ -213,7 +184,7 @@ fn scatter(
     while n < nodes {
         let k = wide(s[p + 2]);
         let bytes = sizes[k];
-        let r = reads_by(s, p, bytes, operands[k]);
+        let r = reader::reads_by(s, p, bytes, operands[k]);
         let c = r.count;
         put_row(found, m, c, targets, i + n);
         m += c;

@@ -39,7 +39,7 @@ returns-2 c =
     let a = d .args in
     let r = c .before .before .before .read-record in
     let (h, e) = ends (a .s .now) (a .at) _ (r .result) (c .before .end .given .0 .0) (r .ensures) (c .before .end .given .1) in
-    ap (λ (n : ℕ). PayloadRead.Is (References (a .at)) n) e
+    ap (λ (n : ℕ). PayloadRead.Is (References (record { first = a .at; count = a .row .operands })) n) e
     ∙ sym (refs-good (a .s .now) (a .at) (kindOf (a .kind)) (a .row .operands) (ap (λ (p : Ports). p .operands) (d .pre)) h)
 
 pub read-references-spec : {M : Type 1} → statement M

@@ -1,0 +1,129 @@
+-- A node that was read, taken from its bytes: each form's payload, and what it reads.
+use Prim.Native.Nat.{ℕ, _+_, _*_, _≤_}
+use mathlib.Core.Path.{_≡_, refl, sym, ap, _∙_, subst}
+use mathlib.Core.Bool.{true, false}
+use mathlib.Core.List.{List, []}
+use native.Mathlib.Omega.{arith}
+use lib.ListN.{length}
+use Rattle.ports.specs.declared.Form.{Form}
+use Rattle.ports.specs.declared.Form as Forms
+use Rattle.ports.specs.declared.Ports.{Ports}
+use Rattle.ports.specs.Ports.{width, portsOf, arity, constantWords, formOf, calling, exists, typeFits, legal}
+use Rattle.base.specs.Bytes.{byte, u16, constants}
+use Rattle.base.proofs.Bools.{and-inv}
+use Rattle.value.specs.Values.{valueOf}
+use Rattle.graph.specs.Look.{readsOf, reads}
+use Rattle.graph.specs.Read.{references}
+use Rattle.graph.proofs.Formed.{refs-length}
+use Rattle.reader.specs.declared.Payload.{Payload}
+use Rattle.reader.specs.declared.Payload.the-variants.{Constant, Call, References}
+use Rattle.reader.specs.declared.Reads.{Reads}
+use Rattle.reader.specs.Layout.{kindAt, payloadAt, nodeAt}
+use Rattle.reader.specs.Records.{payloadOf, argumentsAt, nodeOf}
+use Rattle.reader.specs.Find.{ReadsNode, ReadsOf}
+use Rattle.reader.proofs.Rows.{operands-few, constant-operands, constant-width}
+use Rattle.reader.proofs.Passed.{head-fits, end-fits, callee-fits, node-legal, form-is, end-constant, end-call, end-references}
+
+-- ---- the payload, by the form
+
+module _ (s : List ℕ) (at : ℕ) where
+  -- the node's payload is that of its form
+  by : (h : Form) → formOf (kindAt s at) ≡ h → payloadAt h (kindAt s at) s (at + 4) ≡ nodeAt s at .payload
+  unfolding nodeAt
+  by h q = ap (λ (f : Form). payloadAt f (kindAt s at) s (at + 4)) (sym q)
+
+  abbrev kept : Payload
+  kept = payloadOf (kindAt s at) (at + 4) (nodeAt s at .payload)
+
+  pub kept-absent : formOf (kindAt s at) ≡ Forms.Form.Absent → References (record { first = at + 4; count = 0 }) ≡ kept
+  kept-absent q = ap (payloadOf (kindAt s at) (at + 4)) (by Forms.Form.Absent q)
+
+  pub kept-constant : formOf (kindAt s at) ≡ Forms.Form.Constant
+      → Constant (valueOf (portsOf (kindAt s at) .result) (constants (width (portsOf (kindAt s at) .result)) s (at + 4))) ≡ kept
+  kept-constant q =
+      ap (λ (n : ℕ). Constant (valueOf (portsOf (kindAt s at) .result) (constants n s (at + 4)))) (sym (constant-width (byte s (at + 2)) q))
+      ∙ ap (payloadOf (kindAt s at) (at + 4)) (by Forms.Form.Constant q)
+
+  pub kept-references : formOf (kindAt s at) ≡ Forms.Form.References → References (record { first = at + 4; count = arity (kindAt s at) }) ≡ kept
+  kept-references q =
+      ap (λ (n : ℕ). References (record { first = at + 4; count = n })) (sym (refs-length (arity (kindAt s at)) s (at + 4)))
+      ∙ ap (payloadOf (kindAt s at) (at + 4)) (by Forms.Form.References q)
+
+  pub kept-call : formOf (kindAt s at) ≡ Forms.Form.Call → Call (u16 s (at + 4)) (argumentsAt s at) ≡ kept
+  kept-call q =
+      ap (λ (n : ℕ). Call (u16 s (at + 4)) (record { first = at + 4 + 3; count = n })) (sym (refs-length (byte s (at + 4 + 2)) s (at + 4 + 3)))
+      ∙ ap (payloadOf (kindAt s at) (at + 4)) (by Forms.Form.Call q)
+
+  -- the node as read, from its parts
+  pub node-kept : (i : ℕ) → i ≡ u16 s at → (p : Payload) → p ≡ kept
+      → record { id = i; place = at; kind = byte s (at + 2); ty = byte s (at + 3); payload = p } ≡ nodeOf (nodeAt s at)
+  unfolding nodeAt
+  node-kept i e p q =
+      ap (λ (j : ℕ). record { id = j; place = at; kind = byte s (at + 2); ty = byte s (at + 3); payload = p }) e
+      ∙ ap (λ (r : Payload). record { id = u16 s at; place = at; kind = byte s (at + 2); ty = byte s (at + 3); payload = r }) q
+
+  -- a constant's bytes fit
+  pub constant-fits : ReadsNode s at → formOf (kindAt s at) ≡ Forms.Form.Constant → at + 4 + 8 * width (portsOf (kindAt s at) .result) ≤ length s
+  constant-fits r q =
+      subst (λ (n : ℕ). at + 4 + 8 * n ≤ length s) (constant-width (byte s (at + 2)) q)
+      (subst (λ (n : ℕ). n ≤ length s) (sym (end-constant s at q)) (end-fits s at r))
+
+  -- whether it is a call, by its row
+  module _ (row : Ports) (e : row ≡ portsOf (kindAt s at)) where
+    pub calling-call : calling (row .form) ≡ true → formOf (kindAt s at) ≡ Forms.Form.Call
+    calling-call t = form-is s at row e Forms.Form.Call (pickOne (row .form) t)
+      where
+        pickOne : (h : Form) → calling h ≡ true → h ≡ Forms.Form.Call
+        pickOne Forms.Form.Absent t = let z : _≡_ {A = ℕ} 0 1 = cc in absurd (omega arith)
+        pickOne Forms.Form.Constant t = let z : _≡_ {A = ℕ} 0 1 = cc in absurd (omega arith)
+        pickOne Forms.Form.References t = let z : _≡_ {A = ℕ} 0 1 = cc in absurd (omega arith)
+        pickOne Forms.Form.Call t = refl
+
+    pub call-calling : calling (row .form) ≡ false → formOf (kindAt s at) ≡ Forms.Form.Call → ⊥
+    call-calling t q =
+        let w : false ≡ true = sym t ∙ ap (λ (r : Ports). calling (r .form)) e ∙ ap calling q in
+        let z : _≡_ {A = ℕ} 0 1 = cc in
+        omega arith
+
+-- ---- what it reads
+
+module _ (s : List ℕ) (at : ℕ) (r : ReadsNode s at) where
+  pub call-reads : formOf (kindAt s at) ≡ Forms.Form.Call → ReadsOf s at (argumentsAt s at)
+  call-reads c =
+      let (a, b) = callee-fits s at r c in
+      let f = end-fits s at r in
+      let g = end-call s at (portsOf (kindAt s at)) refl c in
+      record {
+        refs = ap readsOf (sym (by s at Forms.Form.Call c));
+        few = omega (arith, b);
+        fits = omega (arith, f, g);
+      }
+
+  pub other-reads : (formOf (kindAt s at) ≡ Forms.Form.Call → ⊥) → (n : ℕ) → n ≡ arity (kindAt s at) → ReadsOf s at (record { first = at + 4; count = n })
+  other-reads z n q =
+      pickOne (formOf (kindAt s at)) refl (and-inv (exists (formOf (kindAt s at))) (typeFits (portsOf (kindAt s at)) (byte s (at + 3))) (node-legal s at r .1) .0)
+    where
+      none : arity (kindAt s at) ≡ 0 → (h : Form) → formOf (kindAt s at) ≡ h → readsOf (payloadAt h (kindAt s at) s (at + 4)) ≡ []
+          → ReadsOf s at (record { first = at + 4; count = n })
+      none a h w p =
+          let b = head-fits s at r in
+          let m : 0 ≡ n = omega (arith, a, q) in
+          record {
+            refs = ap readsOf (sym (by s at h w)) ∙ p ∙ ap (λ (k : ℕ). references k s (at + 4)) m;
+            few = omega (arith, m);
+            fits = omega (arith, m, b);
+          }
+
+      pickOne : (h : Form) → formOf (kindAt s at) ≡ h → exists h ≡ true → ReadsOf s at (record { first = at + 4; count = n })
+      pickOne Forms.Form.Absent w l = let y : _≡_ {A = ℕ} 0 1 = cc in absurd (omega arith)
+      pickOne Forms.Form.Constant w l = none (constant-operands (byte s (at + 2)) w) Forms.Form.Constant w refl
+      pickOne Forms.Form.References w l =
+          let b = operands-few (byte s (at + 2)) in
+          let c = end-references s at (portsOf (kindAt s at)) refl w in
+          let f = end-fits s at r in
+          record {
+            refs = ap readsOf (sym (by s at Forms.Form.References w)) ∙ ap (λ (k : ℕ). references k s (at + 4)) (sym q);
+            few = omega (arith, b, q);
+            fits = omega (arith, c, f, q);
+          }
+      pickOne Forms.Form.Call w l = absurd (z w)
