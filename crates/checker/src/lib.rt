@@ -357,6 +357,7 @@ fn node_good(
         Form::Constant => Seen::Good,
         Form::References => {
             let want = Want::Types(ports::own(ty, row.first), ports::own(ty, row.rest));
+            let reads = reader::references_at(s, at, row);
             references_good(
                 s,
                 starts,
@@ -365,8 +366,8 @@ fn node_good(
                 places,
                 targets,
                 want,
-                at + 4,
-                wide(row.operands),
+                reads.first,
+                reads.count,
                 i,
             )
         }

@@ -19,7 +19,7 @@ use Rattle.reader.specs.declared.Payload.{Payload}
 use Rattle.reader.specs.declared.Payload.the-variants.{Constant, Call, References}
 use Rattle.reader.specs.declared.Reads.{Reads}
 use Rattle.reader.specs.Layout.{kindAt, payloadAt, nodeAt}
-use Rattle.reader.specs.Records.{payloadOf, argumentsAt, nodeOf}
+use Rattle.reader.specs.Records.{payloadOf, argumentsAt, operandsAt, nodeOf}
 use Rattle.reader.specs.Find.{ReadsNode, ReadsOf}
 use Rattle.reader.proofs.Rows.{operands-few, constant-operands, constant-width}
 use Rattle.reader.proofs.Passed.{head-fits, end-fits, callee-fits, node-legal, form-is, end-constant, end-call, end-references}
@@ -44,7 +44,7 @@ module _ (s : List ℕ) (at : ℕ) where
       ap (λ (n : ℕ). Constant (valueOf (portsOf (kindAt s at) .result) (constants n s (at + 4)))) (sym (constant-width (byte s (at + 2)) q))
       ∙ ap (payloadOf (kindAt s at) (at + 4)) (by Forms.Form.Constant q)
 
-  pub kept-references : formOf (kindAt s at) ≡ Forms.Form.References → References (record { first = at + 4; count = arity (kindAt s at) }) ≡ kept
+  pub kept-references : formOf (kindAt s at) ≡ Forms.Form.References → References (operandsAt at (arity (kindAt s at))) ≡ kept
   kept-references q =
       ap (λ (n : ℕ). References (record { first = at + 4; count = n })) (sym (refs-length (arity (kindAt s at)) s (at + 4)))
       ∙ ap (payloadOf (kindAt s at) (at + 4)) (by Forms.Form.References q)
@@ -99,12 +99,23 @@ module _ (s : List ℕ) (at : ℕ) (r : ReadsNode s at) where
         fits = omega (arith, f, g);
       }
 
-  pub other-reads : (formOf (kindAt s at) ≡ Forms.Form.Call → ⊥) → (n : ℕ) → n ≡ arity (kindAt s at) → ReadsOf s at (record { first = at + 4; count = n })
+  pub operand-reads : formOf (kindAt s at) ≡ Forms.Form.References → (n : ℕ) → n ≡ arity (kindAt s at) → ReadsOf s at (operandsAt at n)
+  operand-reads w n q =
+      let b = operands-few (byte s (at + 2)) in
+      let c = end-references s at (portsOf (kindAt s at)) refl w in
+      let f = end-fits s at r in
+      record {
+        refs = ap readsOf (sym (by s at Forms.Form.References w)) ∙ ap (λ (k : ℕ). references k s (at + 4)) (sym q);
+        few = omega (arith, b, q);
+        fits = omega (arith, c, f, q);
+      }
+
+  pub other-reads : (formOf (kindAt s at) ≡ Forms.Form.Call → ⊥) → (n : ℕ) → n ≡ arity (kindAt s at) → ReadsOf s at (operandsAt at n)
   other-reads z n q =
       pickOne (formOf (kindAt s at)) refl (and-inv (exists (formOf (kindAt s at))) (typeFits (portsOf (kindAt s at)) (byte s (at + 3))) (node-legal s at r .1) .0)
     where
       none : arity (kindAt s at) ≡ 0 → (h : Form) → formOf (kindAt s at) ≡ h → readsOf (payloadAt h (kindAt s at) s (at + 4)) ≡ []
-          → ReadsOf s at (record { first = at + 4; count = n })
+          → ReadsOf s at (operandsAt at n)
       none a h w p =
           let b = head-fits s at r in
           let m : 0 ≡ n = omega (arith, a, q) in
@@ -114,16 +125,8 @@ module _ (s : List ℕ) (at : ℕ) (r : ReadsNode s at) where
             fits = omega (arith, m, b);
           }
 
-      pickOne : (h : Form) → formOf (kindAt s at) ≡ h → exists h ≡ true → ReadsOf s at (record { first = at + 4; count = n })
+      pickOne : (h : Form) → formOf (kindAt s at) ≡ h → exists h ≡ true → ReadsOf s at (operandsAt at n)
       pickOne Forms.Form.Absent w l = let y : _≡_ {A = ℕ} 0 1 = cc in absurd (omega arith)
       pickOne Forms.Form.Constant w l = none (constant-operands (byte s (at + 2)) w) Forms.Form.Constant w refl
-      pickOne Forms.Form.References w l =
-          let b = operands-few (byte s (at + 2)) in
-          let c = end-references s at (portsOf (kindAt s at)) refl w in
-          let f = end-fits s at r in
-          record {
-            refs = ap readsOf (sym (by s at Forms.Form.References w)) ∙ ap (λ (k : ℕ). references k s (at + 4)) (sym q);
-            few = omega (arith, b, q);
-            fits = omega (arith, c, f, q);
-          }
+      pickOne Forms.Form.References w l = operand-reads w n q
       pickOne Forms.Form.Call w l = absurd (z w)

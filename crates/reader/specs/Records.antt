@@ -74,6 +74,10 @@ payloadOf k at (refs rs) = References (record { first = at; count = length rs })
 abbrev pub argumentsAt : List ℕ → ℕ → Reads
 argumentsAt s at = record { first = at + 4 + 3; count = byte s (at + 4 + 2) }
 
+-- n references behind the head of the node at a place
+abbrev pub operandsAt : ℕ → ℕ → Reads
+operandsAt at n = record { first = at + 4; count = n }
+
 abbrev pub payloadRead : Kind → ℕ → Outcome (Part Graph.Payload) → PayloadRead
 payloadRead k at (ok p) = PayloadRead.Is (payloadOf k at (p .it)) (p .next)
 payloadRead k at (fault n p) = PayloadRead.Fault n p

@@ -17,7 +17,7 @@ ghost use Rattle.graph.specs.Read.{inputs, outputs, inRange, payload, node, nod
 ghost use Rattle.reader.specs.Layout.{kindAt, nodeAt, nodeEnd, nodesAt, nodePlace, earlier};
 ghost use Rattle.reader.specs.Sizes.{nodeSize, nodeSizes, operandCounts};
 ghost use Rattle.reader.specs.Find.{ReadsNode, ReadsNodes, ReadsOf, Started, nodeFound, functionFound};
-ghost use Rattle.reader.specs.Records.{recordAt, rowAt, matrixAt, vectorAt, argumentsAt, payloadOf, payloadRead, nodeOf, nodeRead, seen, next, behind};
+ghost use Rattle.reader.specs.Records.{recordAt, rowAt, matrixAt, vectorAt, argumentsAt, operandsAt, payloadOf, payloadRead, nodeOf, nodeRead, seen, next, behind};
 use base::FUNCTION_LIMIT;
 use base::NODE_LIMIT;
 use base::PORT_LIMIT;
@@ -451,11 +451,22 @@ pub fn callee_at(s: &[u8], at: usize) -> usize
 // The arguments of the call at `at`.
 pub fn arguments_at(s: &[u8], at: usize) -> Reads
     requires { ⌜ ReadsNode (now s) at × (formOf (kindAt (now s) at) ≡ Forms.Form.Call) ⌝ }
-    ensures { λ r. ⌜ r ≡ argumentsAt (now (s .entry)) at ⌝ }
+    ensures { λ r. ⌜ (r ≡ argumentsAt (now (s .entry)) at) × ReadsOf (now (s .entry)) at r ⌝ }
 {
     Reads {
         first: at + 4 + 3,
         count: wide(s[at + 4 + 2]),
+    }
+}
+
+// The references of the node at `at`, whose kind has this row.
+pub fn references_at(s: &[u8], at: usize, row: Ports) -> Reads
+    requires { ⌜ ReadsNode (now s) at × (row ≡ portsOf (kindAt (now s) at)) × (row .form ≡ Forms.Form.References) ⌝ }
+    ensures { λ r. ⌜ (r ≡ operandsAt at (row .operands)) × ReadsOf (now (s .entry)) at r ⌝ }
+{
+    Reads {
+        first: at + 4,
+        count: wide(row.operands),
     }
 }
 
@@ -471,10 +482,7 @@ fn payload_at(s: &[u8], at: usize, row: Ports) -> Payload
             count: 0,
         }),
         Form::Constant => Payload::Constant(constant_at(s, at + 4, row.result)),
-        Form::References => Payload::References(Reads {
-            first: at + 4,
-            count: wide(row.operands),
-        }),
+        Form::References => Payload::References(references_at(s, at, row)),
         Form::Call => {
             let arguments = arguments_at(s, at);
             Payload::Call(callee_at(s, at), arguments)

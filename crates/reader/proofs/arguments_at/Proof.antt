@@ -1,10 +1,13 @@
 use borrow.Author.Needs.{needs}
 use Prim.Native.Nat.{ℕ, _+_, _≤_}
-use mathlib.Core.Path.{_≡_, ap}
+use mathlib.Core.Path.{_≡_, ap, sym, subst}
 use native.Mathlib.Omega.{arith}
 use lib.ListN.{length}
 use Rattle.reader.specs.declared.Reads.{Reads}
+use Rattle.reader.specs.Records.{argumentsAt}
+use Rattle.reader.specs.Find.{ReadsOf}
 use Rattle.reader.proofs.Passed.{callee-fits}
+use Rattle.reader.proofs.AsRead.{call-reads}
 use Rattle.reader.proofs.arguments_at.Statement.{statement}
 use Rattle.reader.proofs.arguments_at.Tie as tie
 
@@ -14,8 +17,10 @@ fits b = callee-fits (b .args .s .now) (b .args .at) (b .pre .0) (b .pre .1) .0
 
 returns : tie.Need-returns
 returns c =
-    let a = c .before .before .before .args in
-    ap (λ (n : ℕ). record { first = a .at + 4 + 3; count = n }) (c .wide .ensures .0)
+    let b = c .before .before .before in
+    let a = b .args in
+    let e : record { first = a .at + 4 + 3; count = c .wide .result } ≡ argumentsAt (a .s .now) (a .at) = ap (λ (n : ℕ). record { first = a .at + 4 + 3; count = n }) (c .wide .ensures .0) in
+    (e, subst (ReadsOf (a .s .now) (a .at)) (sym e) (call-reads (a .s .now) (a .at) (b .pre .0) (b .pre .1)))
 
 pub arguments-at-spec : {M : Type 1} → statement M
 arguments-at-spec =

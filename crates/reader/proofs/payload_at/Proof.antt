@@ -14,7 +14,7 @@ use Rattle.reader.specs.declared.Reads.{Reads}
 use Rattle.reader.specs.declared.Payload.{Payload}
 use Rattle.reader.specs.declared.Payload.the-variants.{Constant, Call, References}
 use Rattle.reader.specs.Layout.{kindAt}
-use Rattle.reader.specs.Records.{argumentsAt}
+use Rattle.reader.specs.Records.{argumentsAt, operandsAt}
 use Rattle.reader.proofs.Passed.{head-fits, form-is}
 use Rattle.reader.proofs.AsRead.{kept-absent, kept-constant, kept-references, kept-call, constant-fits}
 use Rattle.reader.proofs.payload_at.Statement.{statement}
@@ -62,7 +62,8 @@ returns-3 : tie.Need-returns-3
 returns-3 c =
     let b = start-of-told-3 (c .before) in
     let a = b .args in
-    ap (λ (n : ℕ). References (record { first = a .at + 4; count = n })) (c .wide .ensures .0 ∙ ap (λ (r : Ports). r .operands) (b .pre .1))
+    ap References (c .references-at .ensures .0)
+    ∙ ap (λ (r : Ports). References (operandsAt (a .at) (r .operands))) (b .pre .1)
     ∙ kept-references (a .s .now) (a .at) (form b _ (c .before .enum-told3 .given .1))
 
 returns-4 : tie.Need-returns-4
@@ -71,7 +72,7 @@ returns-4 c =
     let b = start-of-told-4 d in
     let a = b .args in
     ap (λ (n : ℕ). Call n (c .before .arguments-at .result)) (c .callee-at .ensures)
-    ∙ ap (λ (r : Reads). Call (u16 (a .s .now) (a .at + 4)) r) (c .before .arguments-at .ensures)
+    ∙ ap (λ (r : Reads). Call (u16 (a .s .now) (a .at + 4)) r) (c .before .arguments-at .ensures .0)
     ∙ kept-call (a .s .now) (a .at) (form b _ (d .enum-told4 .given .1))
 
 pub payload-at-spec : {M : Type 1} → statement M
@@ -84,8 +85,7 @@ payload-at-spec =
     (λ c. omega (arith, room (start-of-told-2 c)))
     constant-room
     (λ c. search needs)
-    (λ c. omega (arith, room (start-of-told-3 c)))
-    (λ c κs. search needs)
+    (λ c κs. let b = start-of-told-3 c in (b .pre .0, b .pre .1, c .enum-told3 .given .1))
     (λ c. search needs)
     (λ c κs. let b = start-of-told-4 c in (b .pre .0, form b _ (c .enum-told4 .given .1)))
     (λ c κs. let b = start-of-told-4 (c .before) in (b .pre .0, form b _ (c .before .enum-told4 .given .1)))

@@ -1,5 +1,5 @@
 use borrow.Author.Needs.{needs}
-use mathlib.Core.Path.{_≡_, sym, ap, _∙_, subst}
+use mathlib.Core.Path.{_≡_, sym, ap, _∙_}
 use native.Mathlib.Omega.{arith}
 use Rattle.ports.specs.declared.Ports.{Ports}
 use Rattle.ports.specs.declared.Form.the-variants.{Call}
@@ -7,7 +7,7 @@ use Rattle.ports.specs.Ports.{formOf}
 use Rattle.reader.specs.Layout.{kindAt}
 use Rattle.reader.specs.Find.{ReadsOf}
 use Rattle.reader.proofs.Passed.{head-fits}
-use Rattle.reader.proofs.AsRead.{call-reads, other-reads, calling-call, call-calling}
+use Rattle.reader.proofs.AsRead.{other-reads, calling-call, call-calling}
 use Rattle.reader.proofs.reads_at.Statement.{statement}
 use Rattle.reader.proofs.reads_at.Tie as tie
 
@@ -20,12 +20,6 @@ is-call c =
     let r = c .before .before in
     let a = start-of-row r .args in
     calling-call (a .s .now) (a .at) (r .ports-of .result) (r .ports-of .ensures) (sym (c .before .is-call .ensures) ∙ c .if1 .taken)
-
-returns : tie.Need-returns
-returns c =
-    let b = start-of-row (c .before .before .before) in
-    let a = b .args in
-    subst (ReadsOf (a .s .now) (a .at)) (sym (c .arguments-at .ensures)) (call-reads (a .s .now) (a .at) (b .pre) (is-call (c .before)))
 
 returns-2 : tie.Need-returns-2
 returns-2 c =
@@ -48,5 +42,5 @@ reads-at-spec =
     (λ c κs. (start-of-row (c .before .before) .pre, is-call c))
     (λ c. let b = start-of-row (c .before .before) in omega (arith, head-fits (b .args .s .now) (b .args .at) (b .pre)))
     (λ c κs. search needs)
-    returns
+    (λ c. c .arguments-at .ensures .1)
     returns-2)

@@ -1,10 +1,10 @@
 use borrow.Author.Needs.{needs}
-use mathlib.Core.Path.{_≡_, sym, ap, _∙_, subst}
+use mathlib.Core.Path.{_≡_, sym, ap, _∙_}
 use native.Mathlib.Omega.{arith}
 use Rattle.reader.specs.declared.Reads.{Reads}
 use Rattle.reader.specs.Find.{ReadsOf}
 use Rattle.reader.proofs.Passed.{head-fits, zero-call, call-zero}
-use Rattle.reader.proofs.AsRead.{call-reads, other-reads}
+use Rattle.reader.proofs.AsRead.{other-reads}
 use Rattle.reader.proofs.reads_by.Statement.{statement}
 use Rattle.reader.proofs.reads_by.Tie as tie
 
@@ -13,13 +13,6 @@ start-of-then c = c .before .before
 
 abbrev start-of-else : tie.Else1 → tie.Start
 start-of-else c = c .before .before
-
-returns : tie.Need-returns
-returns c =
-    let b = start-of-then (c .before) in
-    let a = b .args in
-    let call = zero-call (a .s .now) (a .at) (a .bytes) (b .pre .1) (c .before .if1 .taken) in
-    subst (ReadsOf (a .s .now) (a .at)) (sym (c .arguments-at .ensures)) (call-reads (a .s .now) (a .at) (b .pre .0) call)
 
 returns-2 : tie.Need-returns-2
 returns-2 c =
@@ -35,5 +28,5 @@ reads-by-spec =
     (λ c κs. let b = start-of-then c in let a = b .args in (b .pre .0, zero-call (a .s .now) (a .at) (a .bytes) (b .pre .1) (c .if1 .taken)))
     (λ c. let b = start-of-else c in omega (arith, head-fits (b .args .s .now) (b .args .at) (b .pre .0)))
     (λ c κs. search needs)
-    returns
+    (λ c. c .arguments-at .ensures .1)
     returns-2)
