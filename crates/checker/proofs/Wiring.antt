@@ -177,13 +177,10 @@ module _ (s : List ℕ) (k f at : ℕ) where
 
   pub references-node :
       (row : Ports) → row ≡ portsOf (kindAt s at) → formOf (kindAt s at) ≡ References
-      → (nodeChecked s k f (nodeAt s at) ≡ referencesChecked s k f (takesRow row (byte s (at + 3))) (references (row .operands) s (at + 4)))
-      × (reads (nodeAt s at) ≡ references (row .operands) s (at + 4))
+      → nodeChecked s k f (nodeAt s at) ≡ referencesChecked s k f (takesRow row (byte s (at + 3))) (references (row .operands) s (at + 4))
   unfolding nodeAt
-  references-node row q e = (
-    by-form References e ∙ ap (λ (r : Ports). referencesChecked s k f (takesRow r (byte s (at + 3))) (references (r .operands) s (at + 4))) (sym q),
-    reads-form References e ∙ ap (λ (r : Ports). references (r .operands) s (at + 4)) (sym q),
-  )
+  references-node row q e =
+      by-form References e ∙ ap (λ (r : Ports). referencesChecked s k f (takesRow r (byte s (at + 3))) (references (r .operands) s (at + 4))) (sym q)
 
   -- a call that passed 10
   module _ (c : formOf (kindAt s at) ≡ Call) (good : callOk (earlier (version1 .header) s k) at (nodeAt s at .payload) ≡ ok tt) where
@@ -200,13 +197,10 @@ module _ (s : List ℕ) (k f at : ℕ) where
 
     pub call-node :
         (p : ℕ) → findFunction (u16 s (at + 4)) (earlier (version1 .header) s k) ≡ some (functionAt s p)
-        → (nodeChecked s k f (nodeAt s at)
-        ≡ referencesChecked s k f (inputsAt (byte s (at + 4 + 2)) s (p + 6)) (references (byte s (at + 4 + 2)) s (at + 4 + 3)))
-        × (reads (nodeAt s at) ≡ references (byte s (at + 4 + 2)) s (at + 4 + 3))
+        → nodeChecked s k f (nodeAt s at)
+        ≡ referencesChecked s k f (inputsAt (byte s (at + 4 + 2)) s (p + 6)) (references (byte s (at + 4 + 2)) s (at + 4 + 3))
     unfolding functionAt
-    call-node p e = (
-      by-form Call c
-          ∙ (ap (λ (o : Option Function). referencesChecked s k f (inputsOf o) (references (byte s (at + 4 + 2)) s (at + 4 + 3))) e
-          ∙ ap (λ (n : ℕ). referencesChecked s k f (inputsAt n s (p + 6)) (references (byte s (at + 4 + 2)) s (at + 4 + 3))) (sym (call-count p e))),
-      reads-form Call c,
-    )
+    call-node p e =
+        by-form Call c
+        ∙ (ap (λ (o : Option Function). referencesChecked s k f (inputsOf o) (references (byte s (at + 4 + 2)) s (at + 4 + 3))) e
+        ∙ ap (λ (n : ℕ). referencesChecked s k f (inputsAt n s (p + 6)) (references (byte s (at + 4 + 2)) s (at + 4 + 3))) (sym (call-count p e)))

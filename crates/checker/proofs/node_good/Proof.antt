@@ -5,7 +5,6 @@ use mathlib.Core.Option.{some}
 use native.Mathlib.Omega.{arith}
 use lib.ListN.{length}
 use Rattle.ports.specs.declared.Form.{Form}
-use Rattle.ports.specs.declared.Ports.{Ports}
 use Rattle.ports.specs.Ports.{formOf, own, types}
 use Rattle.base.specs.Outcome.{ok}
 use Rattle.base.specs.Bytes.{byte, u16}
@@ -14,18 +13,18 @@ use Rattle.graph.specs.Format.{version1}
 use Rattle.graph.specs.Read.{references}
 use Rattle.graph.specs.Judge.{callOk}
 use Rattle.reader.specs.declared.Seen.{Seen}
-use Rattle.reader.specs.Layout.{kindAt, nodeAt, nodeEnd, nodePlace, inputsAt, functionAt, functionPlace, earlier}
-use Rattle.reader.specs.Find.{ReadsNode, ReadsFunction, functionFound}
-use Rattle.reader.specs.Records.{seen}
-use Rattle.reader.proofs.Rows.{operands-few}
-use Rattle.reader.proofs.Passed.{head-fits, end-fits, callee-fits, place-reads, function-holds, found-function, no-function, form-is, end-references, end-call}
+use Rattle.reader.specs.declared.Reads.{Reads}
+use Rattle.reader.specs.Layout.{kindAt, nodeAt, nodePlace, inputsAt, functionAt, functionPlace, earlier}
+use Rattle.reader.specs.Find.{ReadsNode, ReadsOf, ReadsFunction, functionFound}
+use Rattle.reader.specs.Records.{seen, operandsAt}
+use Rattle.reader.proofs.Passed.{head-fits, place-reads, function-holds, found-function, no-function, form-is}
 use Rattle.checker.specs.Answers.{nodeChecked, referencesChecked}
 use Rattle.checker.specs.Slots.{RowIs}
 use Rattle.checker.proofs.Wiring.{absent-node, constant-node, references-node, call-found, call-count, call-node}
 use Rattle.checker.proofs.Slotting.{few-nodes, nodes-read, row-is}
 use Rattle.checker.proofs.node_good.Statement.{statement}
 use Rattle.checker.proofs.node_good.Tie as tie
-use Rattle.base.specs.Limits.{nodeLimit, operandLimit, portLimit}
+use Rattle.base.specs.Limits.{nodeLimit}
 
 -- ---- places
 
@@ -38,11 +37,11 @@ wide32-of-enum-told-4 c = wide32-of-ports-of (c .before .before .before)
 abbrev enum-told-4-of-find-function : tie.After-find-function → tie.After-enum-told4
 enum-told-4-of-find-function c = c .before .before
 
-abbrev enum-told-4-of-known-told : tie.After-known-told → tie.After-enum-told4
-enum-told-4-of-known-told c = enum-told-4-of-find-function (c .before .before .before)
+abbrev arguments-of-known-told : tie.After-known-told → tie.After-arguments-at
+arguments-of-known-told c = c .before .before .before
 
-abbrev enum-told-4-of-slice-4 : tie.After-shared-slice-known4 → tie.After-enum-told4
-enum-told-4-of-slice-4 c = enum-told-4-of-known-told (c .before)
+abbrev enum-told-4-of-known-told : tie.After-known-told → tie.After-enum-told4
+enum-told-4-of-known-told c = enum-told-4-of-find-function (arguments-of-known-told c .before)
 
 abbrev wide32-of-slice-2 : tie.After-shared-slice-known2 → tie.After-wide32
 wide32-of-slice-2 c = c .before
@@ -50,8 +49,11 @@ wide32-of-slice-2 c = c .before
 abbrev wide32-of-match-keys-3 : tie.At-match-keys3 → tie.After-wide32
 wide32-of-match-keys-3 c = wide32-of-slice-2 (c .before .before .before)
 
-abbrev wide32-of-own-2 : tie.After-own2 → tie.After-wide32
-wide32-of-own-2 c = wide32-of-match-keys-3 (c .before .before .before)
+abbrev told-3-of-own-2 : tie.After-own2 → tie.After-enum-told3
+told-3-of-own-2 c = c .before .before
+
+abbrev row-of-told-3 : tie.After-enum-told3 → tie.After-ports-of
+row-of-told-3 c = c .before .before .before
 
 abbrev start : tie.After-wide32 → tie.Start
 start w = w .before .before .before
@@ -74,9 +76,6 @@ here w =
 head : (w : tie.After-wide32) → w .wide32 .result + 4 ≤ length (start w .args .s .now)
 head w = head-fits (start w .args .s .now) (w .wide32 .result) (here w)
 
-ends : (w : tie.After-wide32) → nodeEnd (start w .args .s .now) (w .wide32 .result) ≤ length (start w .args .s .now)
-ends w = end-fits (start w .args .s .now) (w .wide32 .result) (here w)
-
 -- its call passed 10
 good : (w : tie.After-wide32) → let a = start w .args in
     callOk (earlier (version1 .header) (a .s .now) (a .k)) (w .wide32 .result) (nodeAt (a .s .now) (w .wide32 .result) .payload) ≡ ok tt
@@ -91,14 +90,14 @@ answer : (w : tie.After-wide32) (r : Seen) → let a = start w .args in
 answer w r e = let a = start w .args in e ∙ ap (λ (p : ℕ). seen (nodeChecked (a .s .now) (a .k) (a .f .place) (nodeAt (a .s .now) p))) (place w)
 
 -- its slots
-row : (w : tie.After-wide32) (m begin : ℕ) → let a = start w .args in
-    m ≤ operandLimit → reads (nodeAt (a .s .now) (w .wide32 .result)) ≡ references m (a .s .now) begin → RowIs (a .s .now) (a .f .place) begin m (a .i) (a .targets .now)
-row w m begin l e =
+row : (w : tie.After-wide32) (r : Reads) → let a = start w .args in
+    ReadsOf (a .s .now) (w .wide32 .result) r → RowIs (a .s .now) (a .f .place) (r .first) (r .count) (a .i) (a .targets .now)
+row w r o =
     let b = start w in
     let a = b .args in
     let s = a .s .now in
-    row-is s (a .f .place) begin m (a .i) (a .f .count) (a .targets .now) (b .pre .2) (b .pre .3) l
-    (ap (λ (p : ℕ). reads (nodeAt s p)) (ap (λ (x : ℕ). nodePlace s x (a .i)) (sym (b .pre .0 .first)) ∙ sym (place w)) ∙ e)
+    row-is s (a .f .place) (r .first) (r .count) (a .i) (a .f .count) (a .targets .now) (b .pre .2) (b .pre .3) (o .few)
+    (ap (λ (p : ℕ). reads (nodeAt s p)) (ap (λ (x : ℕ). nodePlace s x (a .i)) (sym (b .pre .0 .first)) ∙ sym (place w)) ∙ o .refs)
 
 form : (d : tie.After-ports-of) (h : Form) → d .ports-of .result .form ≡ h → let w = d .before .before in formOf (kindAt (start w .args .s .now) (w .wide32 .result)) ≡ h
 form d h e = let w = d .before .before in form-is (start w .args .s .now) (w .wide32 .result) (d .ports-of .result) (d .ports-of .ensures) h e
@@ -121,59 +120,33 @@ returns-2 c =
 
 -- ---- operands
 
-few : (d : tie.After-ports-of) → d .ports-of .result .operands ≤ operandLimit
-few d =
-    let w = d .before .before in
-    subst (λ (r : Ports). r .operands ≤ operandLimit) (sym (d .ports-of .ensures)) (operands-few (byte (start w .args .s .now) (w .wide32 .result + 2)))
-
-operands : (t : tie.After-enum-told3) → let d = t .before .before .before in let w = d .before .before in
-    w .wide32 .result + 4 + 3 * d .ports-of .result .operands ≤ length (start w .args .s .now)
-operands t =
-    let d = t .before .before .before in
-    let w = d .before .before in
-    let e = end-references (start w .args .s .now) (w .wide32 .result) (d .ports-of .result) (d .ports-of .ensures) (t .enum-told3 .given .1) in
-    omega (arith, e, ends w)
-
 fits : tie.Need-references-good-requires
 fits c κs =
-    let t = c .before .before .before in
-    let d = t .before .before .before in
-    let w = d .before .before in
+    let w = wide32-of-ports-of (row-of-told-3 (told-3-of-own-2 (c .before))) in
     let b = start w in
-    let a = b .args in
-    let s = a .s .now in
-    let e = c .wide .ensures .0 in
-    let n = references-node s (a .k) (a .f .place) (w .wide32 .result) (d .ports-of .result) (d .ports-of .ensures) (form d _ (t .enum-told3 .given .1)) in
-    let l : c .wide .result ≤ operandLimit = omega (arith, few d, e) in (
-      b .pre .0,
-      b .pre .1,
-      tt,
-      omega (arith, operands t, e),
-      l,
-      small b,
-      row w (c .wide .result) (w .wide32 .result + 4) l (n .1 ∙ ap (λ (m : ℕ). references m s (w .wide32 .result + 4)) (sym e)),
-    )
+    let o = c .references-at .ensures .1 in
+    (b .pre .0, b .pre .1, tt, o .fits, o .few, small b, row w (c .references-at .result) o)
 
 returns-3 : tie.Need-returns-3
 returns-3 c =
-    let z = c .before in
-    let o2 = z .before in
+    let r = c .before .references-at in
+    let o2 = c .before .before in
     let o1 = o2 .before in
-    let t = o1 .before in
-    let d = t .before .before .before in
-    let w = d .before .before in
+    let t = told-3-of-own-2 o2 in
+    let d = row-of-told-3 t in
+    let w = wide32-of-ports-of d in
     let a = start w .args in
     let s = a .s .now in
     let at = w .wide32 .result in
     let rowOf = d .ports-of .result in
     let n = references-node s (a .k) (a .f .place) at rowOf (d .ports-of .ensures) (form d _ (t .enum-told3 .given .1)) in
-    let check : ℕ → ℕ → ℕ → Seen = λ m x y. seen (referencesChecked s (a .k) (a .f .place) (types m x y) (references m s (at + 4))) in
+    let check : Reads → ℕ → ℕ → Seen = λ m x y. seen (referencesChecked s (a .k) (a .f .place) (types (m .count) x y) (references (m .count) s (m .first))) in
     answer w _
     (c .references-good .ensures
-    ∙ ap (λ (m : ℕ). check m (o1 .own .result) (o2 .own2 .result)) (z .wide .ensures .0)
-    ∙ ap (λ (x : ℕ). check (rowOf .operands) x (o2 .own2 .result)) (o1 .own .ensures)
-    ∙ ap (λ (y : ℕ). check (rowOf .operands) (own (byte s (at + 3)) (rowOf .first)) y) (o2 .own2 .ensures)
-    ∙ ap seen (sym (n .0)))
+    ∙ ap (λ (m : Reads). check m (o1 .own .result) (o2 .own2 .result)) (r .ensures .0)
+    ∙ ap (λ (x : ℕ). check (operandsAt at (rowOf .operands)) x (o2 .own2 .result)) (o1 .own .ensures)
+    ∙ ap (λ (y : ℕ). check (operandsAt at (rowOf .operands)) (own (byte s (at + 3)) (rowOf .first)) y) (o2 .own2 .ensures)
+    ∙ ap seen (sym n))
 
 -- ---- arguments
 
@@ -183,15 +156,11 @@ wide-of t = wide32-of-enum-told-4 t
 calls : (t : tie.After-enum-told4) → formOf (kindAt (start (wide-of t) .args .s .now) (wide-of t .wide32 .result)) ≡ Form.Call
 calls t = form (t .before .before .before) _ (t .enum-told4 .given .1)
 
-room : (t : tie.After-enum-told4) → let s = start (wide-of t) .args .s .now in let at = wide-of t .wide32 .result in
-    (at + 4 + 3 ≤ length s) × (byte s (at + 4 + 2) ≤ portLimit)
-room t = callee-fits (start (wide-of t) .args .s .now) (wide-of t .wide32 .result) (here (wide-of t)) (calls t)
-
 told : (f : tie.After-find-function) → let w = wide-of (f .before .before) in let a = start w .args in
     f .find-function .result ≡ functionFound (u16 (a .s .now) (w .wide32 .result + 4)) (earlier (version1 .header) (a .s .now) (a .k))
 told f =
     let a = start (wide-of (f .before .before)) .args in
-    f .find-function .ensures ∙ ap (λ (i : ℕ). functionFound i (earlier (version1 .header) (a .s .now) (a .k))) (f .before .u16-at .ensures .0)
+    f .find-function .ensures ∙ ap (λ (i : ℕ). functionFound i (earlier (version1 .header) (a .s .now) (a .k))) (f .before .callee-at .ensures)
 
 -- the function that was found
 callee : (d : tie.After-known-told) → let w = wide-of (enum-told-4-of-known-told d) in let a = start w .args in
@@ -199,7 +168,7 @@ callee : (d : tie.After-known-told) → let w = wide-of (enum-told-4-of-known-to
     (g .0 < a .k) × (g .1 .0 ≡ functionPlace (version1 .header) (a .s .now) (g .0))
     × (findFunction (u16 (a .s .now) (w .wide32 .result + 4)) (earlier (version1 .header) (a .s .now) (a .k)) ≡ some (functionAt (a .s .now) (g .1 .0)))
 callee d =
-    let f = d .before .before .before in
+    let f = arguments-of-known-told d .before in
     let w = wide-of (f .before .before) in
     let a = start w .args in
     found-function (version1 .header) (a .s .now) (u16 (a .s .now) (w .wide32 .result + 4)) (a .k) _ _ (sym (told f) ∙ d .before .found .given .1)
@@ -220,47 +189,31 @@ inputs d =
 
 fits-2 : tie.Need-references-good-requires-2
 fits-2 c κs =
-    let d = c .before .before in
-    let t = enum-told-4-of-known-told d in
-    let r = t .before .before .before in
-    let w = wide-of t in
+    let w = wide-of (enum-told-4-of-known-told c) in
     let b = start w in
-    let a = b .args in
-    let s = a .s .now in
-    let at = w .wide32 .result in
-    let e = c .wide2 .ensures .0 in
-    let q = end-call s at (r .ports-of .result) (r .ports-of .ensures) (t .enum-told4 .given .1) in
-    let n = call-node s (a .k) (a .f .place) at (calls t) (good w) (d .before .found .given .0 .1 .0) (callee d .2) in
-    let l : c .wide2 .result ≤ operandLimit = omega (arith, room t .1, e) in (
-      b .pre .0,
-      b .pre .1,
-      omega (arith, inputs d, e),
-      omega (arith, q, ends w, e),
-      l,
-      small b,
-      row w (c .wide2 .result) (at + 4 + 3) l (n .1 ∙ ap (λ (m : ℕ). references m s (at + 4 + 3)) (sym e)),
-    )
+    let n = arguments-of-known-told c .arguments-at in
+    let o = n .ensures .1 in
+    let e : n .result .count ≡ byte (b .args .s .now) (w .wide32 .result + 4 + 2) = ap (λ (r : Reads). r .count) (n .ensures .0) in
+    (b .pre .0, b .pre .1, omega (arith, inputs c, e), o .fits, o .few, small b, row w (n .result) o)
 
 returns-4 : tie.Need-returns-4
 returns-4 c =
-    let z = c .before in
-    let d = z .before .before in
+    let d = c .before in
     let t = enum-told-4-of-known-told d in
     let w = wide-of t in
     let a = start w .args in
     let s = a .s .now in
     let at = w .wide32 .result in
     let p = d .before .found .given .0 .1 .0 in
-    let n = call-node s (a .k) (a .f .place) at (calls t) (good w) p (callee d .2) in
     answer w _
     (c .references-good2 .ensures
-    ∙ ap (λ (m : ℕ). seen (referencesChecked s (a .k) (a .f .place) (inputsAt m s (p + 6)) (references m s (at + 4 + 3)))) (z .wide2 .ensures .0)
-    ∙ ap seen (sym (n .0)))
+    ∙ ap (λ (m : Reads). seen (referencesChecked s (a .k) (a .f .place) (inputsAt (m .count) s (p + 6)) (references (m .count) s (m .first)))) (arguments-of-known-told d .arguments-at .ensures .0)
+    ∙ ap seen (sym (call-node s (a .k) (a .f .place) at (calls t) (good w) p (callee d .2))))
 
 returns-5 : tie.Need-returns-5
 returns-5 c =
-    let f = c .before .before in
-    let t = f .before .before in
+    let f = c .before .before .before in
+    let t = enum-told-4-of-find-function f in
     let w = wide-of t in
     let a = start w .args in
     absurd
@@ -284,20 +237,13 @@ node-good-spec =
     (λ c. search needs)
     (λ c κs. search needs)
     (λ c κs. search needs)
-    (λ c. omega (arith, head (wide32-of-own-2 c)))
-    (λ c κs. search needs)
+    (λ c κs. let t = told-3-of-own-2 c in let d = row-of-told-3 t in (here (wide32-of-ports-of d), d .ports-of .ensures, t .enum-told3 .given .1))
     fits
     (λ c. search needs)
-    (λ c. omega (arith, room c .0))
-    (λ c κs. omega (arith, room c .0))
+    (λ c κs. (here (wide-of c), calls c))
     (λ c κs. let b = start (wide-of (c .before)) in (b .pre .0 .started, b .pre .0 .few))
+    (λ c κs. let t = enum-told-4-of-find-function c in (here (wide-of t), calls t))
     (λ c. search needs)
-    (λ c. omega (arith, room (enum-told-4-of-known-told c) .0))
-    (λ c. omega (arith, room (enum-told-4-of-known-told c) .0))
-    (λ c. omega (arith, room (enum-told-4-of-known-told c) .0))
-    (λ c. omega (arith, room (enum-told-4-of-known-told c) .0))
-    (λ c. omega (arith, room (enum-told-4-of-slice-4 c) .0))
-    (λ c κs. search needs)
     fits-2
     (λ c. search needs)
     returns

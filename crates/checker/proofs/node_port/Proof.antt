@@ -11,7 +11,7 @@ use Rattle.graph.specs.Look.{findFunction}
 use Rattle.graph.specs.Format.{version1}
 use Rattle.graph.specs.Types.{outputsOf}
 use Rattle.reader.specs.Layout.{kindAt, earlier}
-use Rattle.reader.proofs.Passed.{head-fits, callee-fits, form-is}
+use Rattle.reader.proofs.Passed.{head-fits, form-is}
 use Rattle.checker.specs.Answers.{portOf}
 use Rattle.checker.proofs.AtPorts.{absent-gives, constant-gives, references-give, call-gives}
 use Rattle.checker.proofs.node_port.Statement.{statement}
@@ -27,9 +27,6 @@ start-of-slice-3 c = start-of-slice (c .before .before .before)
 
 abbrev start-of-enum-told-4 : tie.After-enum-told4 → tie.Start
 start-of-enum-told-4 c = start-of-slice-3 (c .before .before)
-
-abbrev start-of-u16-at : tie.After-u16-at → tie.Start
-start-of-u16-at c = start-of-slice-3 (c .before .before .before)
 
 head : (b : tie.Start) → b .args .at + 4 ≤ length (b .args .s .now)
 head b = head-fits (b .args .s .now) (b .args .at) (b .pre .0)
@@ -67,16 +64,13 @@ returns-3 c =
 calls : (c : tie.After-enum-told4) → let a = start-of-enum-told-4 c .args in formOf (kindAt (a .s .now) (a .at)) ≡ Form.Call
 calls c = form (c .before .before .before) _ (c .enum-told4 .given .1)
 
-fits : (c : tie.After-enum-told4) → let a = start-of-enum-told-4 c .args in a .at + 4 + 3 ≤ length (a .s .now)
-fits c = let b = start-of-enum-told-4 c in callee-fits (b .args .s .now) (b .args .at) (b .pre .0) (calls c) .0
-
 returns-4 : tie.Need-returns-4
 returns-4 c =
     let t = c .before .before in
     let a = start-of-enum-told-4 t .args in
     let s = a .s .now in
     c .callee-port .ensures
-    ∙ ap (λ (i : ℕ). portOf (getElem? (outputsOf (findFunction i (earlier (version1 .header) s (a .k)))) (a .port))) (c .before .u16-at .ensures .0)
+    ∙ ap (λ (i : ℕ). portOf (getElem? (outputsOf (findFunction i (earlier (version1 .header) s (a .k)))) (a .port))) (c .before .callee-at .ensures)
     ∙ ap (λ (ts : List ℕ). portOf (getElem? ts (a .port))) (sym (call-gives s (a .at) (earlier (version1 .header) s (a .k)) (calls t)))
 
 pub node-port-spec : {M : Type 1} → statement M
@@ -95,9 +89,8 @@ node-port-spec =
     (λ c. search needs)
     (λ c κs. search needs)
     (λ c. search needs)
-    (λ c. omega (arith, fits c))
-    (λ c κs. omega (arith, fits c))
-    (λ c κs. (start-of-u16-at c .pre .1, start-of-u16-at c .pre .2))
+    (λ c κs. (start-of-enum-told-4 c .pre .0, calls c))
+    (λ c κs. let b = start-of-enum-told-4 (c .before) in (b .pre .1, b .pre .2))
     returns
     returns-2
     returns-3
