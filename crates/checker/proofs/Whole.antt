@@ -74,16 +74,16 @@ place-of s f i x e = ap (λ (n : Node). n .place) (sym (stands-at s f i x e))
 
 -- ---- answers
 
-pub seen-good : (g : Outcome (Unit {0})) → Seen.Good ≡ seen g → g ≡ ok tt
+pub seen-good : (g : Outcome (Unit {0})) → Seen.Passed ≡ seen g → g ≡ ok tt
 seen-good (ok a) e = refl
 seen-good (fault n p) e = let z : _≡_ {A = ℕ} 0 1 = cc in absurd (omega arith)
 
 module _ {A : Type 0} where
-  pub seen-fault : (g : Outcome A) (n p : ℕ) → Seen.Fault n p ≡ seen g → g ≡ fault n p
+  pub seen-fault : (g : Outcome A) (n p : ℕ) → Seen.Refused n p ≡ seen g → g ≡ fault n p
   seen-fault (ok a) n p e = let z : _≡_ {A = ℕ} 0 1 = cc in absurd (omega arith)
   seen-fault (fault m q) n p e = cc
 
-pub not-good : (n p : ℕ) → Seen.Fault n p ≡ Seen.Good → ⊥
+pub not-good : (n p : ℕ) → Seen.Refused n p ≡ Seen.Passed → ⊥
 not-good n p e = let z : _≡_ {A = ℕ} 0 1 = cc in omega arith
 
 -- ---- the checks of each node
@@ -256,11 +256,11 @@ module _ (s : List ℕ) where
 -- ---- the verdict
 
 module _ (s : List ℕ) where
-  pub unread : (n p : ℕ) → Seen.Fault n p ≡ seen (parse version1 s) → verdict s ≡ fault n p
+  pub unread : (n p : ℕ) → Seen.Refused n p ≡ seen (parse version1 s) → verdict s ≡ fault n p
   unfolding verdict table
   unread n p e = stops _ _ n p (stops _ _ n p (seen-fault (parse version1 s) n p e))
 
-  read-ok : (g : Outcome (List Function)) → Seen.Good ≡ seen g → (fs : List Function) × (g ≡ ok fs)
+  read-ok : (g : Outcome (List Function)) → Seen.Passed ≡ seen g → (fs : List Function) × (g ≡ ok fs)
   read-ok (ok a) e = (a, refl)
   read-ok (fault n p) e = let z : _≡_ {A = ℕ} 0 1 = cc in absurd (omega arith)
 
@@ -271,7 +271,7 @@ module _ (s : List ℕ) where
     pub short : length s < 65536
     pub reads : ReadsFunctions (byte s 5) s
 
-  pub whole : Bytes s → Seen.Good ≡ seen (parse version1 s) → Whole
+  pub whole : Bytes s → Seen.Passed ≡ seen (parse version1 s) → Whole
   whole small e =
       let (fs, q) = read-ok (parse version1 s) e in
       let (t1, e1) = passed _ _ _ _ _ q in
@@ -290,7 +290,7 @@ module _ (s : List ℕ) where
         reads = (p, ep);
       }
 
-  module _ (e : Seen.Good ≡ seen (parse version1 s)) where
+  module _ (e : Seen.Passed ≡ seen (parse version1 s)) where
     opened : table s ≡ (judgeAll [] (functionsAt (byte s 5) s 8) >> ok (earlier 8 s (byte s 5)))
     unfolding table
     opened =

@@ -108,14 +108,14 @@ module _ (s : List ℕ) (p : ℕ) where
           next-kept (nodes n s (q .next)) (λ ns. q .it ∷ ns) ∙ rw (k, sub-one)
       pickOne (fault m q) r = let z : _≡_ {A = ℕ} 0 1 = cc in absurd (omega arith)
 
-  pub nodes-fault : (n : ℕ) → 0 < n → (m q : ℕ) → NodeRead.Fault m q ≡ nodeRead (node s p) → next (nodes n s p) ≡ Next.Fault m q
+  pub nodes-fault : (n : ℕ) → 0 < n → (m q : ℕ) → NodeRead.Refused m q ≡ nodeRead (node s p) → next (nodes n s p) ≡ Next.Refused m q
   unfolding _>>=_
   nodes-fault zero h m q r = absurd (not-suc-le-zero h)
   nodes-fault (suc n) h m q r = pickOne (node s p) r
     where
       pickOne :
-          (g : Outcome (Part Graph.Node)) → NodeRead.Fault m q ≡ nodeRead g
-          → next (g >>= λ first. nodes n s (first .next) >>= λ rest. ok (record { it = first .it ∷ rest .it; next = rest .next })) ≡ Next.Fault m q
+          (g : Outcome (Part Graph.Node)) → NodeRead.Refused m q ≡ nodeRead g
+          → next (g >>= λ first. nodes n s (first .next) >>= λ rest. ok (record { it = first .it ∷ rest .it; next = rest .next })) ≡ Next.Refused m q
       pickOne (ok q) r = let z : _≡_ {A = ℕ} 0 1 = cc in absurd (omega arith)
       pickOne (fault m q) r = cc
 
@@ -136,14 +136,14 @@ module _ (limit : ℕ) (s : List ℕ) (p : ℕ) where
           next-kept (functions limit n s (q .next)) (λ fs. q .it ∷ fs) ∙ rw (k, sub-one)
       pickOne (fault m q) r = let z : _≡_ {A = ℕ} 0 1 = cc in absurd (omega arith)
 
-  pub functions-fault : (n : ℕ) → 0 < n → (m q : ℕ) → Next.Fault m q ≡ next (function limit s p) → next (functions limit n s p) ≡ Next.Fault m q
+  pub functions-fault : (n : ℕ) → 0 < n → (m q : ℕ) → Next.Refused m q ≡ next (function limit s p) → next (functions limit n s p) ≡ Next.Refused m q
   unfolding _>>=_
   functions-fault zero h m q r = absurd (not-suc-le-zero h)
   functions-fault (suc n) h m q r = pickOne (function limit s p) r
     where
       pickOne :
-          (g : Outcome (Part Function)) → Next.Fault m q ≡ next g
-          → next (g >>= λ first. functions limit n s (first .next) >>= λ rest. ok (record { it = first .it ∷ rest .it; next = rest .next })) ≡ Next.Fault m q
+          (g : Outcome (Part Function)) → Next.Refused m q ≡ next g
+          → next (g >>= λ first. functions limit n s (first .next) >>= λ rest. ok (record { it = first .it ∷ rest .it; next = rest .next })) ≡ Next.Refused m q
       pickOne (ok q) r = let z : _≡_ {A = ℕ} 0 1 = cc in absurd (omega arith)
       pickOne (fault m q) r = cc
 
@@ -154,7 +154,7 @@ module _ {A : Type 0} where
   behind-at x e (ok a) r = (a, refl, cc)
   behind-at x e (fault n p) r = let z : _≡_ {A = ℕ} 0 1 = cc in absurd (omega arith)
 
-  behind-fault : (n p e : ℕ) (g : Outcome A) → Next.Fault n p ≡ behind e g → g ≡ fault n p
+  behind-fault : (n p e : ℕ) (g : Outcome A) → Next.Refused n p ≡ behind e g → g ≡ fault n p
   behind-fault n p e (ok a) r = let z : _≡_ {A = ℕ} 0 1 = cc in absurd (omega arith)
   behind-fault n p e (fault m q) r = cc
 
@@ -166,12 +166,12 @@ module _ (limit : ℕ) (s : List ℕ) (at : ℕ) where
   function-bad h e = passes _ 5 at _ (le-leb _ _ h) ∙ fails _ 6 at _ e
 
   module _ (h : at + 6 ≤ length s) (r : inRange limit (u16 s at) (byte s (at + 2)) (byte s (at + 3)) (u16 s (at + 4)) ≡ true) where
-    pub inputs-fault : (n p e : ℕ) → Next.Fault n p ≡ behind e (inputs (byte s (at + 2)) s (at + 6)) → next (function limit s at) ≡ Next.Fault n p
+    pub inputs-fault : (n p e : ℕ) → Next.Refused n p ≡ behind e (inputs (byte s (at + 2)) s (at + 6)) → next (function limit s at) ≡ Next.Refused n p
     inputs-fault n p e i = ap next (passes _ 5 at _ (le-leb _ _ h) ∙ (passes _ 6 at _ r ∙ stops _ _ n p (behind-fault n p e _ i)))
 
     pub outputs-fault :
-        (x d n p e : ℕ) → Next.At x ≡ behind d (inputs (byte s (at + 2)) s (at + 6)) → Next.Fault n p ≡ behind e (outputs (byte s (at + 3)) s (outputsPlace s at))
-        → next (function limit s at) ≡ Next.Fault n p
+        (x d n p e : ℕ) → Next.At x ≡ behind d (inputs (byte s (at + 2)) s (at + 6)) → Next.Refused n p ≡ behind e (outputs (byte s (at + 3)) s (outputsPlace s at))
+        → next (function limit s at) ≡ Next.Refused n p
     outputs-fault x d n p e i o =
         let (ins, ei, q) = behind-at x d _ i in
         ap next (passes _ 5 at _ (le-leb _ _ h) ∙ (passes _ 6 at _ r ∙ (takes _ _ ins ei ∙ stops _ _ n p (behind-fault n p e _ o))))
@@ -196,7 +196,7 @@ module _ {A : Type 0} where
   next-at x (ok a) r = (a, refl, cc)
   next-at x (fault n p) r = let z : _≡_ {A = ℕ} 0 1 = cc in absurd (omega arith)
 
-  next-fault : (n p : ℕ) (g : Outcome (Part A)) → Next.Fault n p ≡ next g → g ≡ fault n p
+  next-fault : (n p : ℕ) (g : Outcome (Part A)) → Next.Refused n p ≡ next g → g ≡ fault n p
   next-fault n p (ok a) r = let z : _≡_ {A = ℕ} 0 1 = cc in absurd (omega arith)
   next-fault n p (fault m q) r = cc
 
@@ -248,10 +248,10 @@ module _ (s : List ℕ) where
               counted : parse version1 s ≡ (functions (version1 .nodeLimit) (byte s 5) s 8 >>= λ fs. need (eqb (fs .next) (length s)) 8 (fs .next) >> ok (fs .it))
               counted = opened ∙ passes (leb 1 (byte s 5) && leb (byte s 5) 16) 6 5 _ (rw (le-leb 1 (byte s 5) a, le-leb (byte s 5) 16 b))
 
-              pub parse-fault : (n p : ℕ) → Next.Fault n p ≡ next (functions (version1 .nodeLimit) (byte s 5) s 8) → parse version1 s ≡ fault n p
+              pub parse-fault : (n p : ℕ) → Next.Refused n p ≡ next (functions (version1 .nodeLimit) (byte s 5) s 8) → parse version1 s ≡ fault n p
               parse-fault n p r = counted ∙ stops _ _ n p (next-fault n p _ r)
 
-              pub parse-good : (e : ℕ) → Next.At e ≡ next (functions (version1 .nodeLimit) (byte s 5) s 8) → e ≡ length s → seen (parse version1 s) ≡ Seen.Good
+              pub parse-good : (e : ℕ) → Next.At e ≡ next (functions (version1 .nodeLimit) (byte s 5) s 8) → e ≡ length s → seen (parse version1 s) ≡ Seen.Passed
               parse-good e r q =
                   let (fs, ef, k) = next-at e _ r in
                   ap seen (counted ∙ (takes _ _ fs ef ∙ passes (eqb (fs .next) (length s)) 8 (fs .next) _ (eq-eqb (fs .next) (length s) (sym k ∙ q))))

@@ -134,17 +134,17 @@ module _ (s : List ℕ) (at : ℕ) where
 
   pub node-read-fault :
       at + 4 ≤ length s → 1 ≤ u16 s at → legal (kindAt s at) (byte s (at + 3)) ≡ true
-      → (n p : ℕ) → PayloadRead.Fault n p ≡ payloadRead (kindAt s at) (at + 4) (payload (formOf (kindAt s at)) (kindAt s at) s (at + 4))
-      → nodeRead (node s at) ≡ NodeRead.Fault n p
+      → (n p : ℕ) → PayloadRead.Refused n p ≡ payloadRead (kindAt s at) (at + 4) (payload (formOf (kindAt s at)) (kindAt s at) s (at + 4))
+      → nodeRead (node s at) ≡ NodeRead.Refused n p
   unfolding _>>=_
   node-read-fault h i l n p r = ap nodeRead (node-goes h i l) ∙ pickOne (payload (formOf (kindAt s at)) (kindAt s at) s (at + 4)) r
     where
       pickOne :
-          (g : Outcome (Part Graph.Payload)) → PayloadRead.Fault n p ≡ payloadRead (kindAt s at) (at + 4) g
+          (g : Outcome (Part Graph.Payload)) → PayloadRead.Refused n p ≡ payloadRead (kindAt s at) (at + 4) g
           → nodeRead (g >>= λ p. ok (record {
             it = record { id = u16 s at; place = at; kind = byte s (at + 2); type = byte s (at + 3); payload = p .it };
             next = p .next;
           }))
-          ≡ NodeRead.Fault n p
+          ≡ NodeRead.Refused n p
       pickOne (ok p) r = let z : _≡_ {A = ℕ} 0 1 = cc in absurd (omega arith)
       pickOne (fault m q) r = cc

@@ -31,18 +31,18 @@ use Rattle.reader.specs.declared.Reads.{Reads}
 module _ {A : Type 0} where
   -- all was read, or the first fault
   abbrev pub seen : Outcome A → Seen
-  seen (ok a) = Seen.Good
-  seen (fault n p) = Seen.Fault n p
+  seen (ok a) = Seen.Passed
+  seen (fault n p) = Seen.Refused n p
 
   -- the place behind what was read, or the first fault
   abbrev pub next : Outcome (Part A) → Next
   next (ok p) = Next.At (p .next)
-  next (fault n p) = Next.Fault n p
+  next (fault n p) = Next.Refused n p
 
   -- the same of a reading that does not say the place
   abbrev pub behind : ℕ → Outcome A → Next
   behind end (ok a) = Next.At end
-  behind end (fault n p) = Next.Fault n p
+  behind end (fault n p) = Next.Refused n p
 
 -- a record of n bytes
 abbrev pub recordAt : List ℕ → ℕ → ℕ → Record
@@ -80,11 +80,11 @@ operandsAt at n = record { first = at + 4; count = n }
 
 abbrev pub payloadRead : Kind → ℕ → Outcome (Part Graph.Payload) → PayloadRead
 payloadRead k at (ok p) = PayloadRead.Is (payloadOf k at (p .it)) (p .next)
-payloadRead k at (fault n p) = PayloadRead.Fault n p
+payloadRead k at (fault n p) = PayloadRead.Refused n p
 
 abbrev pub nodeOf : Graph.Node → Node
 nodeOf n = record { id = n .id; place = n .place; kind = n .kind; ty = n .type; payload = payloadOf (kindOf (n .kind)) (n .place + 4) (n .payload) }
 
 abbrev pub nodeRead : Outcome (Part Graph.Node) → NodeRead
 nodeRead (ok p) = NodeRead.Is (nodeOf (p .it)) (p .next)
-nodeRead (fault n p) = NodeRead.Fault n p
+nodeRead (fault n p) = NodeRead.Refused n p

@@ -41,7 +41,7 @@ returns c =
     (ap verdictOf (sym (unread s _ _ (sym (c .before .read .given .1) ∙ r .read-table .ensures))))
 
 -- the table was read
-read : (t : tie.After-enum-told) → Seen.Good ≡ seen (parse version1 (start-of-enum-told t .args .table .now))
+read : (t : tie.After-enum-told) → Seen.Passed ≡ seen (parse version1 (start-of-enum-told t .args .table .now))
 read t = sym (t .enum-told .given .1) ∙ t .before .before .read-table .ensures
 
 judged : (j : tie.After-judge-all) → let s = start-of-judge-all j .args .table .now in

@@ -75,7 +75,7 @@ returns-2 c =
     let s = a .s .now in
     let q = b .pre in
     let (x, stands, e) = loop-fault (a .targets .now) (functionAt s (a .f .place)) (q .resolves) (q .own) (q .named) _ (sym (told f) ∙ d .before .found .given .1) in
-    ap (λ (p : ℕ). Seen.Fault 13 p)
+    ap (λ (p : ℕ). Seen.Refused 13 p)
     (c .node-place .ensures ∙ ap (λ (n : ℕ). nodePlace s n (d .before .found .given .0 .0)) (q .first) ∙ place-of s (a .f .place) _ x stands)
     ∙ ap seen (sym e)
 

@@ -1,0 +1,50 @@
+use borrow.Author.Needs.{needs}
+use Prim.Native.Nat.{_≤_}
+use mathlib.Core.Path.{_≡_, refl, sym, _∙_}
+use native.Mathlib.Omega.{arith}
+use Rattle.graph.specs.Read.{nodes}
+use Rattle.reader.specs.Records.{next}
+use Rattle.reader.proofs.Functions.{nodes-on, nodes-fault}
+use Rattle.reader.proofs.records.read_nodes.Statement.{statement}
+use Rattle.reader.proofs.records.read_nodes.Tie as tie
+
+-- what is left ends where the whole ends
+abbrev Inv-loop : tie.InvT-loop
+Inv-loop s at n p₀ left₀ p left = next (nodes n s at) ≡ next (nodes left s p)
+
+abbrev μ-loop : tie.MeasureT-loop
+μ-loop s at n p₀ left₀ p left = left
+
+returns : tie.Need-returns Inv-loop μ-loop
+returns c =
+    let r = c .before .before .before in
+    let l = r .before .before .loop in
+    sym (l .inv ∙ nodes-fault _ (l .p) (l .left) (r .before .loop-test .taken) _ _ (sym (c .before .read2 .given .1) ∙ r .read-node .ensures))
+
+loop-again : tie.Need-loop-again Inv-loop μ-loop
+loop-again c =
+    let r = c .before .before .before in
+    let l = r .before .before .loop in
+    l .inv ∙ nodes-on _ (l .p) (l .left) (r .before .loop-test .taken) _ _ (sym (c .before .read .given .1) ∙ r .read-node .ensures)
+
+returns-2 : tie.Need-returns-2 Inv-loop μ-loop
+returns-2 c =
+    let l = c .before .loop in
+    let z : l .left ≡ 0 = omega arith in
+    sym (rw z at (l .inv))
+
+pub read-nodes-spec : {M : Type 1} → statement M
+read-nodes-spec =
+    tie.close
+    (tie.spec
+    Inv-loop
+    μ-loop
+    (λ c. refl)
+    (λ c κs. search needs)
+    (λ c. search needs)
+    (λ c. search needs)
+    returns
+    (λ c. search needs)
+    (λ c. search needs)
+    loop-again
+    returns-2)
