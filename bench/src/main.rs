@@ -1,6 +1,7 @@
 //! Times of the library against the independent program, and the deepest stack,
 //! as Markdown tables.
 
+mod count;
 #[cfg(feature = "run")]
 mod lists;
 #[cfg(feature = "run")]

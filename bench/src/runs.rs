@@ -32,6 +32,7 @@ pub fn run() {
         );
 
         let check = medians(
+            &format!("check of the code|{}", list.name),
             &mut || keep(quetlapin::run(black_box(code), &more, &mut work, &mut out)),
             &mut || keep(independent::check_code(black_box(code)).is_ok()),
         );
@@ -39,7 +40,7 @@ pub fn run() {
             let answer = quetlapin::run(black_box(code), black_box(arguments), &mut work, &mut out);
             keep(answer);
         };
-        let whole = medians(&mut library, &mut || {
+        let whole = medians(&format!("run|{}", list.name), &mut library, &mut || {
             let answer = independent::run(
                 black_box(code),
                 black_box(arguments),
@@ -101,7 +102,7 @@ pub fn evaluate() {
             let answer = independent::run(&code, &arguments, &mut own_work, &mut own_out);
             keep(answer);
         };
-        let times = medians(&mut library, &mut independent);
+        let times = medians(&format!("evaluate|{}", case.name), &mut library, &mut independent);
         println!(
             "| {} | {} | {} | {:.2} | {} |",
             case.name,

@@ -5,6 +5,9 @@ const SIZE: usize = 16 << 20;
 
 /// The bytes of stack that a call uses, or none where it cannot be measured.
 pub fn deepest(call: &mut dyn FnMut()) -> Option<usize> {
+    if crate::count::counting() {
+        return None;
+    }
     let empty = painted(&mut || {})?;
     let used = painted(call)?;
     Some(used.saturating_sub(empty))

@@ -90,7 +90,7 @@ pub fn check() {
         let table = &case.table[..];
         let mut library = || keep(quetlapin::check(black_box(table)));
         let mut independent = || keep(independent::check(black_box(table)));
-        let times = medians(&mut library, &mut independent);
+        let times = medians(&format!("check|{}", case.name), &mut library, &mut independent);
         let target = if case.typical { 1.0 } else { 2.0 };
         row(&case, times, target, deepest(&mut library));
     }
@@ -114,7 +114,7 @@ pub fn compile() {
         assert!(wanted == code[..got], "{}", case.name);
         let mut library = || keep(quetlapin::compile(black_box(table), id, &mut code));
         let mut independent = || keep(independent::compile(black_box(table), id, length));
-        let times = medians(&mut library, &mut independent);
+        let times = medians(&format!("compile|{}", case.name), &mut library, &mut independent);
         let target = if case.typical { 1.5 } else { 2.5 };
         row(&case, times, target, deepest(&mut library));
     }

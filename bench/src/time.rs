@@ -3,12 +3,14 @@
 use std::hint::black_box;
 use std::time::Instant;
 
+use crate::count::{count, counting};
+
 const ROUNDS: usize = 201;
 /// How long one batch should take, in seconds.
 const BATCH: f64 = 0.000_2;
 
 /// Nanoseconds for one call of the library and of the independent program.
-#[derive(Clone, Copy)]
+#[derive(Clone, Copy, Default)]
 pub struct Times {
     pub library: f64,
     pub independent: f64,
@@ -42,7 +44,12 @@ fn median(mut times: Vec<f64>) -> f64 {
 }
 
 /// The medians over batches that alternate.
-pub fn medians(library: &mut dyn FnMut(), independent: &mut dyn FnMut()) -> Times {
+pub fn medians(row: &str, library: &mut dyn FnMut(), independent: &mut dyn FnMut()) -> Times {
+    if counting() {
+        count(row, "library", library);
+        count(row, "independent", independent);
+        return Times::default();
+    }
     let sizes = (batch_size(library), batch_size(independent));
     let mut times = (vec![], vec![]);
     for _ in 0..ROUNDS {
