@@ -1,39 +1,40 @@
 -- What is said of the function of an id is said of the function at its position.
-use Prim.Native.Nat.{ℕ, zero, suc, _-_, _≤_, _<_}
+use Prim.Native.Nat.{ℕ, zero, suc, _≤_, _<_}
 use mathlib.Core.Path.{_≡_, refl, sym, ap, _∙_, subst}
 use mathlib.Core.Bool.{Bool, true, false, cond}
 use mathlib.Core.List.{List, []}
 use mathlib.Core.Logic.{_⊎_, inl, inr, ⊎-elim}
 use native.Mathlib.Omega.{arith}
 use lib.Dec.{eqb}
-use borrow.Author.Tests.{eq-eqb, ne-eqb}
+use lib.ListN.{length}
 use Rattle.base.specs.Limits.{functionLimit}
 use Rattle.base.specs.Bytes.{u16}
 use Rattle.graph.specs.Graph.{Function}
 use Rattle.graph.specs.Sums.{operationsOf, resultWordsOf}
+use Rattle.graph.specs.Format.{version1}
 use Rattle.reader.specs.Layout.{functionAt, earlier}
+use Rattle.reader.specs.Find.{functionFound}
+use Rattle.reader.specs.declared.Found.the-variants.{At, Nothing}
+use Rattle.reader.proofs.Passed.{length-earlier}
 use Rattle.sums.specs.CodeSums.{instructionsOf, bytesOfFunction}
-use Rattle.sums.specs.Position.{placeOf, before, positionOf}
+use Rattle.sums.specs.Position.{placeOf, before, foundAt, positionOf}
 use Rattle.sums.specs.Capped.{operationsAt, wordsAt, instructionsAt, bytesAt}
 
 -- ---- the search
 
-pub position-hit : (s : List ℕ) (m c : ℕ) → 0 < m → u16 s (placeOf s (m - 1)) ≡ c → positionOf s m c ≡ m - 1
-unfolding positionOf
-position-hit s zero c h e = absurd (omega arith)
-position-hit s (suc m) c h e = let z : suc m - 1 ≡ m = omega arith in rw (eq-eqb (u16 s (placeOf s m)) c (rw z at e), z)
+-- one function more
+position-more : (s : List ℕ) (m c : ℕ) → positionOf s (suc m) c ≡ cond (eqb (u16 s (placeOf s m)) c) m (positionOf s m c)
+unfolding positionOf earlier functionAt
+position-more s m c = pickOne (eqb (u16 s (placeOf s m)) c)
+  where
+    pickOne : (b : Bool) → foundAt (cond b (At (length (before s m)) (placeOf s m)) (functionFound c (before s m))) ≡ cond b m (foundAt (functionFound c (before s m)))
+    pickOne true = length-earlier (version1 .header) s m
+    pickOne false = refl
 
-pub position-miss : (s : List ℕ) (m c : ℕ) → 0 < m → (u16 s (placeOf s (m - 1)) ≡ c → ⊥) → positionOf s m c ≡ positionOf s (m - 1) c
-unfolding positionOf
-position-miss s zero c h e = absurd (omega arith)
-position-miss s (suc m) c h e =
-    let z : suc m - 1 ≡ m = omega arith in
-    rw (ne-eqb (u16 s (placeOf s m)) c (λ q. e (rw z q)), z)
-
-pub position-range : (s : List ℕ) (k c : ℕ) → (positionOf s k c < k) ⊎ (positionOf s k c ≡ functionLimit)
-unfolding positionOf
+position-range : (s : List ℕ) (k c : ℕ) → (positionOf s k c < k) ⊎ (positionOf s k c ≡ functionLimit)
+unfolding earlier positionOf
 position-range s zero c = inr refl
-position-range s (suc m) c = pickOne (eqb (u16 s (placeOf s m)) c) (position-range s m c)
+position-range s (suc m) c = rw (position-more s m c) (pickOne (eqb (u16 s (placeOf s m)) c) (position-range s m c))
   where
     pickOne : (b : Bool) → (positionOf s m c < m) ⊎ (positionOf s m c ≡ functionLimit) → (cond b m (positionOf s m c) < suc m) ⊎ (cond b m (positionOf s m c) ≡ functionLimit)
     pickOne true h = inl (omega arith)
@@ -44,9 +45,11 @@ position-range s (suc m) c = pickOne (eqb (u16 s (placeOf s m)) c) (position-ran
 module _ {A : Type 0} (s : List ℕ) (of : List Function → ℕ → A) (own : ℕ → A) (nil : A) (none : (c : ℕ) → of [] c ≡ nil)
     (one : (m c : ℕ) → of (before s (suc m)) c ≡ cond (eqb (u16 s (placeOf s m)) c) (own m) (of (before s m) c)) where
   pub at-position : (k c : ℕ) → k ≤ functionLimit → positionOf s k c < k → of (before s k) c ≡ own (positionOf s k c)
-  unfolding positionOf
   at-position zero c b h = absurd (omega arith)
-  at-position (suc m) c b h = one m c ∙ pickOne (eqb (u16 s (placeOf s m)) c) (λ l. at-position m c (omega arith) l) h
+  at-position (suc m) c b h =
+      one m c
+      ∙ pickOne (eqb (u16 s (placeOf s m)) c) (λ l. at-position m c (omega arith) l) (subst (λ (q : ℕ). q < suc m) (position-more s m c) h)
+      ∙ ap own (sym (position-more s m c))
     where
       pickOne : (b : Bool) → (positionOf s m c < m → of (before s m) c ≡ own (positionOf s m c)) → cond b m (positionOf s m c) < suc m
           → cond b (own m) (of (before s m) c) ≡ own (cond b m (positionOf s m c))
@@ -54,9 +57,9 @@ module _ {A : Type 0} (s : List ℕ) (of : List Function → ℕ → A) (own : �
       pickOne false ih h = ih (⊎-elim (λ l. l) (λ e. absurd (omega arith)) (position-range s m c))
 
   pub no-position : (k c : ℕ) → k ≤ positionOf s k c → of (before s k) c ≡ nil
-  unfolding positionOf earlier
+  unfolding earlier
   no-position zero c h = none c
-  no-position (suc m) c h = one m c ∙ pickOne (eqb (u16 s (placeOf s m)) c) (λ l. no-position m c l) h
+  no-position (suc m) c h = one m c ∙ pickOne (eqb (u16 s (placeOf s m)) c) (λ l. no-position m c l) (subst (λ (q : ℕ). suc m ≤ q) (position-more s m c) h)
     where
       pickOne : (b : Bool) → (m ≤ positionOf s m c → of (before s m) c ≡ nil) → suc m ≤ cond b m (positionOf s m c) → cond b (own m) (of (before s m) c) ≡ nil
       pickOne true ih h = absurd (omega arith)

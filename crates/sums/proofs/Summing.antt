@@ -1,6 +1,6 @@
 -- The sums over the nodes of a function, capped as they are taken.
-use Prim.Native.Nat.{ℕ, suc, _+_, _-_, _*_, _≤_, _<_, min, _^_}
-use mathlib.Core.Path.{_≡_, refl, sym, ap, _∙_}
+use Prim.Native.Nat.{ℕ, suc, _+_, _-_, _*_, _≤_, _<_, min}
+use mathlib.Core.Path.{_≡_, refl, sym, ap, _∙_, subst}
 use mathlib.Core.Bool.{true, false}
 use mathlib.Core.List.{List}
 use native.Mathlib.Omega.{arith}
@@ -13,14 +13,17 @@ use Rattle.ports.specs.Ports.{widths, gives, portsOf, arity, formOf, constantIn
 use Rattle.ports.specs.Ports as PortList
 use Rattle.ports.proofs.Laws.{words-given}
 use Rattle.base.specs.Bytes.{byte, u16}
-use Rattle.graph.specs.Graph.{Payload}
+use Rattle.base.specs.Limits.{functionLimit}
+use Rattle.graph.specs.Graph.{Payload, Node}
 use Rattle.graph.specs.Sums.{sum, nodeOperations, operationsOf, nodeWords, resultWordsOf}
 use Rattle.reader.specs.Layout.{kindAt, payloadAt, nodeAt, nodeEnd, nodesAt, nodesPlace, nodeCount, functionAt}
 use Rattle.sums.specs.declared.Sums.{Sums}
 use Rattle.sums.specs.CodeSums.{nodeInstructions, nodeBytes, instructionsOf, bytesOfFunction}
-use Rattle.sums.specs.Position.{placeOf, before, positionOf, NodesFit}
-use Rattle.sums.specs.Capped.{operationCap, wordCap, byteCap, operationsAt, wordsAt, instructionsAt, bytesAt, addsOperations, addsWords, addsInstructions, addsBytes, Caps, AllSummed}
-use Rattle.sums.proofs.Nodes.{row-is, row-narrow, form-is, call-payload, Passing, pass-start, pass-step}
+use Rattle.sums.specs.Position.{placeOf, before, positionOf}
+use Rattle.sums.specs.Capped.{operationCap, wordCap, byteCap, operationsAt, wordsAt, instructionsAt, bytesAt, addsOperations, addsWords, addsInstructions, addsBytes, cappedOperations, cappedWords, cappedInstructions, cappedBytes, Small, plus, sumsAt, callSums, plainSums, nodesSums, Caps, AllSummed}
+use Rattle.reader.specs.Find.{ReadsNode, ReadsNodes}
+use Rattle.reader.proofs.Passed.{first-reads, rest-reads}
+use Rattle.sums.proofs.Nodes.{row-is, call-payload, plain-form}
 use Rattle.sums.proofs.Positions.{operations-at, words-at, instructions-at, bytes-at, operations-none, words-none, instructions-none, bytes-none}
 
 -- ---- what a node adds
@@ -45,26 +48,25 @@ module _ (s : List ℕ) (k p kind : ℕ) (row : Ports) (ek : kind ≡ byte s (p 
     added-bytes =
         ap (nodeBytes (bytesOfFunction (before s k)) (nodeAt s p)) (call-payload s p kind row ek er c) ∙ ap (bytesOfFunction (before s k)) (sym ec)
 
-    pub called-sums : k ≤ 16 → (os ws cs bs : List ℕ) → AllSummed s os ws cs bs k → g < k → (o w m b : ℕ)
-        → o ≡ getD os g 0 → w ≡ getD ws g 0 → m ≡ getD cs g 0 → b ≡ getD bs g 0
-        → Caps s k (nodeAt s p) (record { operations = 1 + o; words = w; instructions = m; bytes = b })
-    called-sums le os ws cs bs all lt o w m b eo ew em eb =
+    pub called-sums : k ≤ functionLimit → (os ws cs bs : List ℕ) → AllSummed s os ws cs bs k → g < k → (y : Sums) → y ≡ sumsAt os ws cs bs g → Caps s k (nodeAt s p) (callSums y)
+    called-sums le os ws cs bs all lt y ey =
         let x = all g lt in
-        let fo : o ≡ min operationCap (operationsAt s g) = eo ∙ x .operations in
-        let fw : w ≡ min wordCap (wordsAt s g) = ew ∙ x .words in
-        let fm : m ≡ min operationCap (instructionsAt s g) = em ∙ x .instructions in
-        let fb : b ≡ min byteCap (bytesAt s g) = eb ∙ x .bytes in
+        let o = x .operations in
+        let w = x .words in
+        let m = x .instructions in
+        let b = x .bytes in
         let ao : addsOperations s k (nodeAt s p) ≡ 1 + operationsAt s g = added ∙ ap (λ (y : ℕ). 1 + y) (operations-at s k callee g eg le lt) in
         let aw : addsWords s k (nodeAt s p) ≡ wordsAt s g = added-words ∙ words-at s k callee g eg le lt in
         let am : addsInstructions s k (nodeAt s p) ≡ instructionsAt s g = added-instructions ∙ instructions-at s k callee g eg le lt in
         let ab : addsBytes s k (nodeAt s p) ≡ bytesAt s g = added-bytes ∙ bytes-at s k callee g eg le lt in
-        record {
+        rw ey
+        (record {
           operations = rw ao (omega arith);
           words = rw aw (omega arith);
           instructions = rw am (omega arith);
           bytes = rw ab (omega arith);
           small = (omega arith, omega arith, omega arith, omega arith);
-        }
+        })
 
     pub no-callee-sums : k ≤ g → Caps s k (nodeAt s p) (record { operations = 1; words = 0; instructions = 0; bytes = 0 })
     no-callee-sums le =
@@ -115,32 +117,24 @@ module _ (s : List ℕ) (k p kind : ℕ) (row : Ports) (ek : kind ≡ byte s (p 
     )
     by-form Call e q = let z : _≡_ {A = ℕ} 0 1 = cc in absurd (omega arith)
 
-    pub plain-sums : (ty w n v : ℕ) → ty ≡ byte s (p + 3) → w ≡ PortList.resultWords row ty → w < 256 → n ≡ row .operands → v ≡ constantIn (row .form) (row .words) → v < 256
-        → Caps s k (nodeAt s p) (record { operations = 1; words = w; instructions = 1; bytes = 2 + 2 * n + 8 * v })
-    plain-sums ty w n v et ew wl en ev vl =
-        let r : row ≡ portsOf (kindAt s p) = row-is s p kind row ek er in
-        let f : calling (formOf (kindAt s p)) ≡ false = ap calling (sym (form-is s p kind row ek er)) ∙ c in
-        let (ao, aw, am, ab) = by-form (formOf (kindAt s p)) refl f in
-        let fw : w ≡ widths (gives (kindAt s p) (byte s (p + 3))) =
-        ew ∙ ap (λ (y : Ports). PortList.resultWords y ty) r ∙ ap (λ (t : ℕ). PortList.resultWords (portsOf (kindAt s p)) t) et ∙ words-given (kindAt s p) (byte s (p + 3)) in
-        let fn : n ≡ arity (kindAt s p) = en ∙ ap (λ (y : Ports). y .operands) r in
-        let fv : v ≡ constantWords (kindAt s p) = ev ∙ ap (λ (y : Ports). constantIn (y .form) (y .words)) r in
-        let few = row-narrow s p kind row ek er .operands in
-        record {
-          operations = rw ao refl;
-          words = ap (min wordCap) (fw ∙ sym aw);
-          instructions = rw am refl;
-          bytes = ap (min byteCap) (ap (λ (y : ℕ). 2 + 2 * y + 8 * v) fn ∙ ap (λ (y : ℕ). 2 + 2 * arity (kindAt s p) + 8 * y) fv ∙ sym ab);
-          small = (omega arith, omega arith, omega arith, omega arith);
-        }
-
     pub plain-words : (ty w : ℕ) → ty ≡ byte s (p + 3) → w ≡ PortList.resultWords row ty → addsWords s k (nodeAt s p) ≡ w
     plain-words ty w et ew =
         let r : row ≡ portsOf (kindAt s p) = row-is s p kind row ek er in
-        let f : calling (formOf (kindAt s p)) ≡ false = ap calling (sym (form-is s p kind row ek er)) ∙ c in
-        by-form (formOf (kindAt s p)) refl f .1
+        by-form (formOf (kindAt s p)) refl (plain-form s p kind row ek er c) .1
         ∙ sym
         (ew ∙ ap (λ (y : Ports). PortList.resultWords y ty) r ∙ ap (λ (t : ℕ). PortList.resultWords (portsOf (kindAt s p)) t) et ∙ words-given (kindAt s p) (byte s (p + 3)))
+
+    pub plain-sums : (ty : ℕ) (y : Sums) → ty ≡ byte s (p + 3) → y ≡ plainSums row ty → Small y → Caps s k (nodeAt s p) y
+    plain-sums ty y et ey small =
+        let (ao, aw, am, ab) = by-form (formOf (kindAt s p)) refl (plain-form s p kind row ek er c) in
+        rw ey
+        (record {
+          operations = rw ao refl;
+          words = ap (min wordCap) (sym (plain-words ty (PortList.resultWords row ty) et refl));
+          instructions = rw am refl;
+          bytes = ap (min byteCap) (ap (λ (y : Ports). 2 + 2 * y .operands + 8 * constantIn (y .form) (y .words)) (row-is s p kind row ek er) ∙ sym ab);
+          small = subst Small ey small;
+        })
 
 -- ---- the loop over a function's nodes
 
@@ -148,66 +142,73 @@ module _ (s : List ℕ) (k p kind : ℕ) (row : Ports) (ek : kind ≡ byte s (p 
 cap-add : (cap a r x rest : ℕ) → min cap r ≡ min cap x → min cap (a + (x + rest)) ≡ min cap (min cap (a + r) + rest)
 cap-add cap a r x rest e = omega arith
 
-module _ (s : List ℕ) (k n at : ℕ) where
-  -- what is summed, and what is left
-  pub record Summing (o w m b i q : ℕ) : Type 0 where
-    pub pass : Passing s at n q i
-    pub small : (o ≤ operationCap) × (w ≤ wordCap) × (m ≤ operationCap) × (b ≤ byteCap)
-    pub operations : min operationCap (sum (addsOperations s k) (nodesAt n s at)) ≡ min operationCap (o + sum (addsOperations s k) (nodesAt (n - i) s q))
-    pub words : min wordCap (sum (addsWords s k) (nodesAt n s at)) ≡ min wordCap (w + sum (addsWords s k) (nodesAt (n - i) s q))
-    pub instructions : min operationCap (sum (addsInstructions s k) (nodesAt n s at)) ≡ min operationCap (m + sum (addsInstructions s k) (nodesAt (n - i) s q))
-    pub bytes : min byteCap (sum (addsBytes s k) (nodesAt n s at)) ≡ min byteCap (b + sum (addsBytes s k) (nodesAt (n - i) s q))
+module _ (s : List ℕ) (n first : ℕ) where
+  -- the sum of f over all nodes is o and that over the nodes from p on
+  abbrev Rest : ℕ → (Node → ℕ) → ℕ → ℕ → ℕ → Type 0
+  Rest cap f o i p = min cap (sum f (nodesAt n s first)) ≡ min cap (o + sum f (nodesAt (n - i) s p))
 
-  pub sum-start : at < 2 ^ 20 → NodesFit s n at → Summing 0 0 0 0 0 at
-  sum-start l h =
-      let z : n - 0 ≡ n = omega arith in
-      record {
-        pass = pass-start s at n l h;
-        small = (omega arith, omega arith, omega arith, omega arith);
-        operations = rw z (omega arith);
-        words = rw z (omega arith);
-        instructions = rw z (omega arith);
-        bytes = rw z (omega arith);
-      }
+  rest-start : (cap : ℕ) (f : Node → ℕ) → Rest cap f 0 0 first
+  rest-start cap f = let z : n - 0 ≡ n = omega arith in rw z (omega arith)
 
-  pub sum-step : (o w m b i q : ℕ) → Summing o w m b i q → i < n → (r : Sums) → Caps s k (nodeAt s q) r → (o' w' m' b' p : ℕ)
-      → o' ≡ min operationCap (o + r .operations) → w' ≡ min wordCap (w + r .words) → m' ≡ min operationCap (m + r .instructions) → b' ≡ min byteCap (b + r .bytes)
-      → p ≡ nodeEnd s q → p < 2 ^ 20 → Summing o' w' m' b' (i + 1) p
+  rest-step : (cap : ℕ) (f : Node → ℕ) (o i p r : ℕ) → Rest cap f o i p → i < n → min cap r ≡ min cap (f (nodeAt s p)) → Rest cap f (min cap (o + r)) (i + 1) (nodeEnd s p)
   unfolding nodesAt
-  sum-step o w m b i q st lt r c o' w' m' b' p eo ew em eb ep l =
-      let e : n - i ≡ suc (n - (i + 1)) = omega arith in
-      let rest = nodesAt (n - (i + 1)) s (nodeEnd s q) in
-      record {
-        pass = pass-step s at n q i p (st .pass) lt ep l;
-        small = (rw eo (omega arith), rw ew (omega arith), rw em (omega arith), rw eb (omega arith));
-        operations =
-            st .operations
-            ∙ rw (e, ep, eo) (cap-add operationCap o (r .operations) (addsOperations s k (nodeAt s q)) (sum (addsOperations s k) rest) (c .operations));
-        words = st .words ∙ rw (e, ep, ew) (cap-add wordCap w (r .words) (addsWords s k (nodeAt s q)) (sum (addsWords s k) rest) (c .words));
-        instructions =
-            st .instructions
-            ∙ rw (e, ep, em) (cap-add operationCap m (r .instructions) (addsInstructions s k (nodeAt s q)) (sum (addsInstructions s k) rest) (c .instructions));
-        bytes = st .bytes ∙ rw (e, ep, eb) (cap-add byteCap b (r .bytes) (addsBytes s k (nodeAt s q)) (sum (addsBytes s k) rest) (c .bytes));
-      }
+  rest-step cap f o i p r h l e =
+      let z : n - i ≡ suc (n - (i + 1)) = omega arith in
+      h ∙ rw z (cap-add cap o r (f (nodeAt s p)) (sum f (nodesAt (n - (i + 1)) s (nodeEnd s p))) e)
 
-  pub sum-done : (o w m b i q : ℕ) → Summing o w m b i q → n ≤ i
-      → (o ≡ min operationCap (sum (addsOperations s k) (nodesAt n s at)))
-      × (w ≡ min wordCap (sum (addsWords s k) (nodesAt n s at)))
-      × (m ≡ min operationCap (sum (addsInstructions s k) (nodesAt n s at)))
-      × (b ≡ min byteCap (sum (addsBytes s k) (nodesAt n s at)))
+  rest-done : (cap : ℕ) (f : Node → ℕ) (o i p : ℕ) → Rest cap f o i p → n ≤ i → o ≤ cap → o ≡ min cap (sum f (nodesAt n s first))
   unfolding nodesAt
-  sum-done o w m b i q st le =
-      let e : n - i ≡ 0 = omega arith in
-      let (x1, x2, x3, x4) = st .small in
-      let a1 = st .operations in
-      let a2 = st .words in
-      let a3 = st .instructions in
-      let a4 = st .bytes in
-      let b1 = rw e at a1 in
-      let b2 = rw e at a2 in
-      let b3 = rw e at a3 in
-      let b4 = rw e at a4 in
-      (omega arith, omega arith, omega arith, omega arith)
+  rest-done cap f o i p h l m = let z : n - i ≡ 0 = omega arith in let a = rw z at h in omega arith
+
+  module _ (k : ℕ) where
+    -- x is summed, and the nodes from p on are left
+    pub record Summing (x : Sums) (i p : ℕ) : Type 0 where
+      pub reads : ReadsNodes (n - i) s p
+      pub capped : (x .operations ≤ operationCap) × (x .words ≤ wordCap) × (x .instructions ≤ operationCap) × (x .bytes ≤ byteCap)
+      pub operations : Rest operationCap (addsOperations s k) (x .operations) i p
+      pub words : Rest wordCap (addsWords s k) (x .words) i p
+      pub instructions : Rest operationCap (addsInstructions s k) (x .instructions) i p
+      pub bytes : Rest byteCap (addsBytes s k) (x .bytes) i p
+
+    pub sum-start : ReadsNodes n s first → Summing (record { operations = 0; words = 0; instructions = 0; bytes = 0 }) 0 first
+    sum-start h =
+        let z : n - 0 ≡ n = omega arith in
+        record {
+          reads = rw z h;
+          capped = (omega arith, omega arith, omega arith, omega arith);
+          operations = rest-start operationCap (addsOperations s k);
+          words = rest-start wordCap (addsWords s k);
+          instructions = rest-start operationCap (addsInstructions s k);
+          bytes = rest-start byteCap (addsBytes s k);
+        }
+
+    pub sum-here : (x : Sums) (i p : ℕ) → Summing x i p → i < n → ReadsNode s p
+    sum-here x i p h l = first-reads s (n - i) p (omega arith) (h .reads)
+
+    pub sum-small : (x : Sums) (i p : ℕ) → Summing x i p → Small x
+    sum-small x i p h = let (a, b, c, d) = h .capped in (omega arith, omega arith, omega arith, omega arith)
+
+    pub sum-step : (x : Sums) (i p : ℕ) → Summing x i p → i < n → (r : Sums) → Caps s k (nodeAt s p) r → (y : Sums) (q : ℕ) → y ≡ plus x r → q ≡ nodeEnd s p → Summing y (i + 1) q
+    sum-step x i p h l r c y q ey eq =
+        let z : n - i - 1 ≡ n - (i + 1) = omega arith in
+        rw (ey, eq)
+        (record {
+          reads = subst (λ (m : ℕ). ReadsNodes m s (nodeEnd s p)) z (rest-reads s (n - i) p (omega arith) (h .reads));
+          capped = (omega arith, omega arith, omega arith, omega arith);
+          operations = rest-step operationCap (addsOperations s k) (x .operations) i p (r .operations) (h .operations) l (c .operations);
+          words = rest-step wordCap (addsWords s k) (x .words) i p (r .words) (h .words) l (c .words);
+          instructions = rest-step operationCap (addsInstructions s k) (x .instructions) i p (r .instructions) (h .instructions) l (c .instructions);
+          bytes = rest-step byteCap (addsBytes s k) (x .bytes) i p (r .bytes) (h .bytes) l (c .bytes);
+        })
+
+    pub sum-done : (x : Sums) (i p : ℕ) → Summing x i p → n ≤ i → x ≡ nodesSums s k (nodesAt n s first)
+    sum-done x i p h l =
+        let (a, b, c, d) = h .capped in
+        let eo = rest-done operationCap (addsOperations s k) (x .operations) i p (h .operations) l a in
+        let ew = rest-done wordCap (addsWords s k) (x .words) i p (h .words) l b in
+        let em = rest-done operationCap (addsInstructions s k) (x .instructions) i p (h .instructions) l c in
+        let eb = rest-done byteCap (addsBytes s k) (x .bytes) i p (h .bytes) l d in
+        rw (sym eo, sym ew, sym em, sym eb) refl
 
 -- the sums of the function at position k are those over its nodes
 pub sums-are : (s : List ℕ) (k : ℕ) →
@@ -218,3 +219,15 @@ pub sums-are : (s : List ℕ) (k : ℕ) →
     × (bytesAt s k ≡ sum (addsBytes s k) ns)
 unfolding operationsAt wordsAt instructionsAt bytesAt functionAt
 sums-are s k = (refl, refl, refl, refl)
+
+-- so they are had from them
+pub function-sums : (s : List ℕ) (k n first : ℕ) (x : Sums) → x ≡ nodesSums s k (nodesAt n s first) → n ≡ nodeCount s (placeOf s k) → first ≡ nodesPlace s (placeOf s k)
+    → (x .operations ≡ cappedOperations s k) × (x .words ≡ cappedWords s k) × (x .instructions ≡ cappedInstructions s k) × (x .bytes ≡ cappedBytes s k)
+function-sums s k n first x ex en ef =
+    let (eo, ew, em, eb) = sums-are s k in
+    let e : x ≡ nodesSums s k (nodesAt (nodeCount s (placeOf s k)) s (nodesPlace s (placeOf s k))) = ex ∙ rw (en, ef) in (
+      ap (λ (y : Sums). y .operations) e ∙ ap (min operationCap) (sym eo),
+      ap (λ (y : Sums). y .words) e ∙ ap (min wordCap) (sym ew),
+      ap (λ (y : Sums). y .instructions) e ∙ ap (min operationCap) (sym em),
+      ap (λ (y : Sums). y .bytes) e ∙ ap (min byteCap) (sym eb),
+    )
