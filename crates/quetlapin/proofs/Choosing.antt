@@ -27,7 +27,7 @@ use Rattle.sums.specs.Capped.{operationCap, wordCap}
 use Rattle.sums.specs.Answers.{cappedSizes, sizesOf}
 use Rattle.sums.proofs.Positions.{at-position, no-position}
 use Rattle.sums.proofs.Accepted.{functions-are, refused-table}
-use Rattle.sums.proofs.CodeSizes.{function-operations}
+use Rattle.sums.proofs.CodeLimits.{function-operations}
 use Rattle.sums.proofs.Measuring.{leb-cap}
 use Rattle.quetlapin.specs.declared.Count.{Count}
 use Rattle.quetlapin.specs.Measures.{named, chosenAt, exactSizes, upTo, countOf, operationCount, wordCount, codeCount}

@@ -22,7 +22,7 @@ use Rattle.sums.specs.declared.Sizes.{Sizes}
 use Rattle.sums.specs.declared.PortWords.{PortWords}
 use Rattle.sums.specs.Position.{placeOf, functionIn, before}
 use Rattle.sums.specs.CodeSums.{functionInstructions, functionBytes, instructionsOf, bytesOfFunction}
-use Rattle.sums.specs.Capped.{operationCap, wordCap, byteCap, operationsAt, wordsAt, instructionsAt, bytesAt, sumsAt, Summed}
+use Rattle.sums.specs.Capped.{operationCap, wordCap, byteCap, operationsAt, wordsAt, instructionsAt, bytesAt, ownSums, capSums, sumsAt, Summed}
 use Rattle.sums.specs.Answers.{codeLength, PortWordsAt, cappedSizes, sizesOf, Measures}
 use Rattle.sums.proofs.CodeSizes.{encode-length}
 use Rattle.sums.proofs.CodeLimits.{bytes-below}
@@ -64,21 +64,15 @@ module _ (early : List Function) (f : Function) (sound : AllSound (f ∷ early))
 -- ---- of the function at position k
 
 module _ (s : List ℕ) (k : ℕ) where
-  operations-are : operationsAt s k ≡ functionOperations (operationsOf (before s k)) (functionIn s k)
-  unfolding operationsAt
-  operations-are = refl
-
-  words-are : wordsAt s k ≡ resultWords (resultWordsOf (before s k)) (functionIn s k)
-  unfolding wordsAt
-  words-are = refl
-
-  instructions-are : instructionsAt s k ≡ functionInstructions (instructionsOf (before s k)) (functionIn s k)
-  unfolding instructionsAt
-  instructions-are = refl
-
-  bytes-are : bytesAt s k ≡ functionBytes (bytesOfFunction (before s k)) (functionIn s k)
-  unfolding bytesAt
-  bytes-are = refl
+  own-are : ownSums s k
+      ≡ record {
+        operations = functionOperations (operationsOf (before s k)) (functionIn s k);
+        words = resultWords (resultWordsOf (before s k)) (functionIn s k);
+        instructions = functionInstructions (instructionsOf (before s k)) (functionIn s k);
+        bytes = functionBytes (bytesOfFunction (before s k)) (functionIn s k);
+      }
+  unfolding operationsAt wordsAt instructionsAt bytesAt
+  own-are = refl
 
   place-is : placeOf s k ≡ functionIn s k .place
   unfolding functionAt
@@ -88,13 +82,11 @@ module _ (s : List ℕ) (k : ℕ) where
       → p ≡ placeOf s k → x ≡ sumsAt os ws cs bs k → PortWordsAt s p t → w ≡ min wordCap (t .inputs + x .words) → c ≡ codeLength (x .operations) w (x .bytes) (t .outputs)
       → Measures s k (record { place = p; operations = x .operations; words = w; instructions = x .instructions; code = c; arguments = t .inputs; outputs = t .outputs })
   measured-at sound reads os ws cs bs h p w c x t ep ex pw ew ec =
+      let e = ex ∙ h ∙ ap capSums own-are in
       record {
         sizes =
             sizes-are (before s k) (functionIn s k) sound p (x .operations) (x .words) w (x .instructions) (x .bytes) c (t .inputs) (t .outputs) (ep ∙ place-is)
-            (ap (λ (y : Sums). y .operations) ex ∙ h .operations ∙ ap (min operationCap) operations-are)
-            (ap (λ (y : Sums). y .words) ex ∙ h .words ∙ ap (min wordCap) words-are)
-            (ap (λ (y : Sums). y .instructions) ex ∙ h .instructions ∙ ap (min operationCap) instructions-are)
-            (ap (λ (y : Sums). y .bytes) ex ∙ h .bytes ∙ ap (min byteCap) bytes-are)
+            (ap (λ (y : Sums). y .operations) e) (ap (λ (y : Sums). y .words) e) (ap (λ (y : Sums). y .instructions) e) (ap (λ (y : Sums). y .bytes) e)
             (pw .inputs ∙ ap (λ (q : ℕ). widths (functionAt s q .inputs)) ep)
             (pw .outputs ∙ ap (λ (q : ℕ). widths (outputTypes (functionAt s q .outputs))) ep) ew ec;
         reads = subst (ReadsFunction s) (sym ep) reads;

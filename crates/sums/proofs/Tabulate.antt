@@ -91,9 +91,8 @@ module _ (s os₀ ws₀ cs₀ bs₀ : List ℕ) where
   pub summed-in : (os ws cs bs : List ℕ) (k : ℕ) → SumsIn s os₀ ws₀ cs₀ bs₀ os ws cs bs k → (length os₀ ≡ functionLimit) × (length ws₀ ≡ functionLimit) × (length cs₀ ≡ functionLimit) × (length bs₀ ≡ functionLimit)
       → k ≤ functionLimit → AllSummed s os ws cs bs k
   summed-in os ws cs bs k (eo, ew, ec, eb) (lo, lw, lc, lb) few j l =
-      record {
-        operations = tabulated-in (cappedOperations s) os₀ os k eo (omega arith) j l;
-        words = tabulated-in (cappedWords s) ws₀ ws k ew (omega arith) j l;
-        instructions = tabulated-in (cappedInstructions s) cs₀ cs k ec (omega arith) j l;
-        bytes = tabulated-in (cappedBytes s) bs₀ bs k eb (omega arith) j l;
-      }
+      let fo = tabulated-in (cappedOperations s) os₀ os k eo (omega arith) j l in
+      let fw = tabulated-in (cappedWords s) ws₀ ws k ew (omega arith) j l in
+      let fc = tabulated-in (cappedInstructions s) cs₀ cs k ec (omega arith) j l in
+      let fb = tabulated-in (cappedBytes s) bs₀ bs k eb (omega arith) j l in
+      rw (fo, fw, fc, fb) refl

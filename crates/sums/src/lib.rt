@@ -8,7 +8,7 @@ ghost use Rattle.ports.specs.Ports.{widths};
 ghost use Rattle.reader.specs.Layout.{nodeAt, nodesAt, nodesPlace};
 ghost use Rattle.reader.specs.Find.{ReadsNode, ReadsNodes, ReadsFunction, Started};
 ghost use Rattle.sums.specs.Position.{tabulate, placeOf, positionOf, AllRead, Accepted};
-ghost use Rattle.sums.specs.Capped.{Small, plus, sumsAt, plainSums, nodesSums, Caps, Summed, AllSummed, WordsHeld, cappedOperations, cappedWords, cappedInstructions, cappedBytes};
+ghost use Rattle.sums.specs.Capped.{Small, both, capSums, sumsAt, plainSums, nodesSums, Caps, Summed, AllSummed, WordsHeld, cappedOperations, cappedWords, cappedInstructions, cappedBytes};
 ghost use Rattle.sums.specs.Answers.{typesBy, codeLength, PortWordsAt, Measures};
 use base::CODE_LIMIT;
 use base::FUNCTION_LIMIT;
@@ -86,7 +86,7 @@ pub struct Sums {
 
 fn add(a: Sums, b: Sums) -> Sums
     requires { ⌜ Small a × Small b ⌝ }
-    ensures { λ r. ⌜ r ≡ plus a b ⌝ }
+    ensures { λ r. ⌜ r ≡ capSums (both a b) ⌝ }
 {
     Sums {
         operations: capped(a.operations + b.operations, OPERATION_CAP),
@@ -183,7 +183,7 @@ fn nodes_sums(
 ) -> Sums
     requires { ⌜ (k ≤ functionLimit) × ReadsNodes n (now t) first × Started (now t) (now starts) k ⌝ }
     requires { ⌜ AllSummed (now t) (now ops) (now words) (now counts) (now sizes) k ⌝ }
-    ensures { λ r. ⌜ r ≡ nodesSums (now (t .entry)) k (nodesAt n (now (t .entry)) first) ⌝ }
+    ensures { λ r. ⌜ r ≡ capSums (nodesSums (now (t .entry)) k (nodesAt n (now (t .entry)) first)) ⌝ }
 {
     let mut total = Sums {
         operations: 0,

@@ -4,12 +4,13 @@ use mathlib.Core.Path.{_≡_, sym, ap, _∙_, subst}
 use native.Mathlib.Omega.{arith}
 use lib.ListN.{length, getD, set}
 use Rattle.base.specs.Bytes.{u16}
-use Rattle.reader.specs.Layout.{nodesPlace, nodeCount}
+use Rattle.reader.specs.Layout.{nodesAt, nodesPlace, nodeCount}
 use Rattle.reader.specs.Find.{ReadsNodes, ReadsFunction}
 use Rattle.reader.proofs.Passed.{function-fits, function-holds}
 use Rattle.sums.specs.Position.{placeOf}
-use Rattle.sums.specs.Capped.{cappedOperations, cappedWords, cappedInstructions, cappedBytes}
-use Rattle.sums.proofs.Summing.{function-sums}
+use Rattle.sums.specs.declared.Sums.{Sums}
+use Rattle.sums.specs.Capped.{ownSums, capSums, nodesSums}
+use Rattle.sums.proofs.Summing.{sums-are}
 use Rattle.sums.proofs.Tabulate.{fewer-starts}
 use Rattle.sums.proofs.function_sums.Statement.{statement}
 use Rattle.sums.proofs.function_sums.Tie as tie
@@ -61,25 +62,25 @@ nodes-sums-requires c κs =
     )
 
 -- the sums of the function
-sums : (c : tie.After-nodes-sums) → let a = begin (lent (c .before)) .args in
-    let s = a .t .now in
-    let x = c .nodes-sums .result in
-    (x .operations ≡ cappedOperations s (a .k)) × (x .words ≡ cappedWords s (a .k)) × (x .instructions ≡ cappedInstructions s (a .k)) × (x .bytes ≡ cappedBytes s (a .k))
+sums : (c : tie.After-nodes-sums) → let a = begin (lent (c .before)) .args in c .nodes-sums .result ≡ capSums (ownSums (a .t .now) (a .k))
 sums c =
     let f = lent (c .before) in
     let a = begin f .args in
-    function-sums (a .t .now) (a .k) (counted f .u16-at .result) (f .nodes-place .result) (c .nodes-sums .result) (c .nodes-sums .ensures) (count (counted f)) (first f)
+    let s = a .t .now in
+    c .nodes-sums .ensures
+    ∙ ap (λ (n : ℕ). capSums (nodesSums s (a .k) (nodesAt n s (f .nodes-place .result)))) (count (counted f))
+    ∙ ap (λ (q : ℕ). capSums (nodesSums s (a .k) (nodesAt (nodeCount s (placeOf s (a .k))) s q))) (first f)
+    ∙ ap capSums (sym (sums-are s (a .k)))
 
 returns : tie.Need-returns
 returns c =
     let m = c .before .before .before in
     let x = m .before in
-    let a = begin (lent (x .before)) .args in
-    let (eo, ew, em, eb) = sums x in (
-      ap (λ (v : ℕ). set (a .ops .now) (a .k) v) eo,
-      ap (λ (v : ℕ). set (a .words .now) (a .k) v) ew,
-      ap (λ (v : ℕ). set (a .counts .now) (a .k) v) em,
-      ap (λ (v : ℕ). set (a .sizes .now) (a .k) v) eb,
+    let a = begin (lent (x .before)) .args in (
+      ap (λ (y : Sums). set (a .ops .now) (a .k) (y .operations)) (sums x),
+      ap (λ (y : Sums). set (a .words .now) (a .k) (y .words)) (sums x),
+      ap (λ (y : Sums). set (a .counts .now) (a .k) (y .instructions)) (sums x),
+      ap (λ (y : Sums). set (a .sizes .now) (a .k) (y .bytes)) (sums x),
     )
 
 pub function-sums-spec : {M : Type 1} → statement M
@@ -92,16 +93,16 @@ function-sums-spec =
     (λ c κs. let b = start c in omega (arith, place b, fits b))
     (λ c κs. let b = start (c .before) in subst (ReadsFunction (b .args .t .now)) (sym (place b)) (was-read b))
     nodes-sums-requires
-    (λ c. omega (arith, sums (c .before) .0))
+    (λ c. omega (arith, ap (λ (y : Sums). y .operations) (sums (c .before))))
     (λ c. search needs)
     (λ c. search needs)
-    (λ c. omega (arith, sums (c .before .before) .1))
+    (λ c. omega (arith, ap (λ (y : Sums). y .words) (sums (c .before .before))))
     (λ c. search needs)
     (λ c. search needs)
-    (λ c. omega (arith, sums (c .before .before .before) .2))
+    (λ c. omega (arith, ap (λ (y : Sums). y .instructions) (sums (c .before .before .before))))
     (λ c. search needs)
     (λ c. search needs)
-    (λ c. let x = c .before .before .before in omega (arith, sums (x .before) .3))
+    (λ c. let x = c .before .before .before in omega (arith, ap (λ (y : Sums). y .bytes) (sums (x .before))))
     (λ c. search needs)
     (λ c. search needs)
     returns)

@@ -1,9 +1,10 @@
 use borrow.Author.Needs.{needs}
 use Prim.Native.Nat.{ℕ, suc, _+_, _<_}
-use mathlib.Core.Path.{refl}
+use mathlib.Core.Path.{ap}
 use native.Mathlib.Omega.{arith}
 use lib.ListN.{length-replicate}
 use Rattle.base.specs.Limits.{functionLimit}
+use Rattle.sums.specs.declared.Sums.{Sums}
 use Rattle.sums.specs.Capped.{AllSummed}
 use Rattle.sums.proofs.Accepted.{few}
 use Rattle.sums.proofs.Tabulate.{summed-in, fewer-starts}
@@ -54,7 +55,7 @@ sizes-at-requires c κs =
 returns : tie.Need-returns
 returns c =
     let x = summed (c .before) in
-    (c .sizes-at .ensures, (λ g h. sums x g (omega arith) .words))
+    (c .sizes-at .ensures, (λ g h. ap (λ (y : Sums). y .words) (sums x g (omega arith))))
 
 pub measure-spec : {M : Type 1} → statement M
 measure-spec = tie.close (tie.spec add-all-sums all-sums-requires sizes-at-requires returns)

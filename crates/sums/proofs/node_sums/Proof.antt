@@ -68,7 +68,7 @@ returns-3 c =
     let r = i .before in
     let a = start r .args in
     let s = a .t .now in
-    plain-sums s (a .k) (a .p) (byte s (a .p + 2)) (r .ports-of .result) refl (r .ports-of .ensures) (sym (i .is-call .ensures) ∙ e .if1 .left) (byte s (a .p + 3)) (c .plain-sums .result) refl
+    plain-sums s (a .k) (a .p) (byte s (a .p + 2)) (r .ports-of .result) refl (r .ports-of .ensures) (sym (i .is-call .ensures) ∙ e .if1 .left) (c .plain-sums .result)
     (c .plain-sums .ensures .0) (c .plain-sums .ensures .1)
 
 pub node-sums-spec : {M : Type 1} → statement M
