@@ -1,12 +1,12 @@
 -- The text of a table, function by function.
-use Prim.Native.Nat.{ℕ, zero, suc, _+_, _≤_, _<_, min}
-use mathlib.Core.Path.{_≡_, refl, sym, ap, _∙_, subst}
-use mathlib.Core.Bool.{Bool, true, false, _&&_, cond}
-use mathlib.Core.List.{List, [], _∷_, _++_, append-assoc}
+use Prim.Native.Nat.{ℕ, zero, suc, _+_, _≤_, min}
+use mathlib.Core.Path.{_≡_, refl, sym, ap, _∙_}
+use mathlib.Core.Bool.{Bool, true, false, cond}
+use mathlib.Core.List.{List, _++_, append-assoc}
 use native.Mathlib.Omega.{arith}
 use lib.Dec.{leb}
 use lib.ListN.{length}
-use borrow.Author.Tests.{leb-true, leb-false, le-leb, lt-leb}
+use borrow.Author.Tests.{leb-true}
 use Rattle.reader.proofs.Passed.{length-earlier}
 use Rattle.resolver.proofs.Rows.{length-nodes}
 use Rattle.checker.proofs.Calls.{inputs-length}
@@ -15,16 +15,13 @@ use Rattle.sums.specs.Position.{placeOf, functionIn, before}
 use Rattle.sums.specs.Answers.{cappedSizes, sizesOf}
 use Rattle.sums.proofs.Accepted.{functions-are, refused-table}
 use Rattle.sums.proofs.Measuring.{leb-cap}
-use Rattle.base.specs.Outcome.{Outcome, ok, fault, _>>=_}
+use Rattle.base.specs.Outcome.{ok, fault}
 use Rattle.base.specs.Bytes.{byte, u16}
-use Rattle.graph.specs.Graph.{Node, Output, Function}
+use Rattle.graph.specs.Graph.{Function}
 use Rattle.graph.specs.Format.{version1}
-use Rattle.graph.specs.Read.{parse}
-use Rattle.graph.specs.Judge.{table, judgeAll, verdict}
+use Rattle.graph.specs.Judge.{table, verdict}
 use Rattle.graph.specs.Sums.{functionOperations, operationsOf, functionWords}
-use Rattle.base.proofs.Outcomes.{took, after, passed, ok-is}
-use Rattle.reader.specs.Layout.{nodeAt, nodeEnd, nodesAt, inputsAt, outputsAt, functionAt, inputCount, outputCount, nodeCount, outputsPlace, nodesPlace}
-use Rattle.reader.proofs.Standing.{table-read}
+use Rattle.reader.specs.Layout.{outputsAt, functionAt, inputCount, outputCount, nodeCount, outputsPlace, nodesPlace}
 use Rattle.lowering.specs.Compile.{boardListOf}
 use Rattle.base.specs.Limits.{operationLimit, withinLimits, wordLimit}
 use Rattle.bytecode.specs.Code.{encode}

@@ -1,13 +1,13 @@
 // The lister's text.
 ghost use mathlib.Core.Path.{_≡_};
 ghost use mathlib.Core.Bool.{cond};
-ghost use mathlib.Core.List.{List, _++_};
+ghost use mathlib.Core.List.{_++_};
 ghost use Prim.Native.Nat.{_+_, _<_, _≤_};
 ghost use lib.ListN.{length, drop};
 ghost use lib.Seq.{sets};
 ghost use Rattle.lowering.specs.Listing.{decimal, newline, refusedText, atText, functionLines, listing};
-ghost use Rattle.base.specs.Bytes.{byte, u16};
-ghost use Rattle.base.specs.Outcome.{ok, fault};
+ghost use Rattle.base.specs.Bytes.{byte};
+ghost use Rattle.base.specs.Outcome.{ok};
 ghost use Rattle.graph.specs.Judge.{verdict};
 ghost use Rattle.reader.specs.Find.{ReadsFunction, Started};
 ghost use Rattle.sums.specs.Position.{before, Accepted};

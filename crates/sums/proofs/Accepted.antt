@@ -1,5 +1,5 @@
 -- What an accepted table gives: its functions by position, their places, and that each is sound over those before it.
-use Prim.Native.Nat.{ℕ, zero, suc, _+_, _≤_, _<_}
+use Prim.Native.Nat.{ℕ, zero, suc, _+_, _-_, _≤_, _<_}
 use mathlib.Core.Path.{_≡_, refl, sym, ap, _∙_, subst}
 use mathlib.Core.Bool.{Bool, true, false, _&&_}
 use mathlib.Core.List.{List, _∷_}
@@ -8,7 +8,7 @@ use lib.Dec.{leb, eqb}
 use lib.ListN.{length}
 use borrow.Author.Tests.{leb-true, eqb-true, eqb-false}
 use Rattle.base.specs.Limits.{functionLimit, portLimit}
-use Rattle.base.specs.Outcome.{Outcome, ok, fault, _>>=_, Part}
+use Rattle.base.specs.Outcome.{Outcome, ok, fault, _>>=_}
 use Rattle.base.specs.Bytes.{byte, u16, Bytes}
 use Rattle.graph.specs.Graph.{Function}
 use Rattle.graph.specs.Format.{version1}
@@ -18,12 +18,12 @@ use Rattle.graph.specs.Sound.{AllSound}
 use Rattle.base.proofs.Bools.{and-inv}
 use Rattle.base.proofs.Outcomes.{took, passed, ok-is}
 use Rattle.graph.proofs.Formed.{accepted}
-use Rattle.reader.specs.Layout.{inputCount, outputCount, functionEnd, functionPlace, earlier}
+use Rattle.reader.specs.Layout.{inputCount, outputCount, functionPlace, earlier}
 use Rattle.reader.specs.Find.{ReadsFunction}
 use Rattle.reader.specs.Records.{seen}
-use Rattle.reader.proofs.Standing.{function-read, table-read}
+use Rattle.reader.proofs.Standing.{table-read}
 use Rattle.reader.proofs.Passed.{length-earlier}
-use Rattle.checker.proofs.Whole.{Whole, whole}
+use Rattle.checker.proofs.Whole.{Whole, whole, ReadsFrom, first-function, rest-functions}
 use Rattle.sums.specs.Position.{placeOf, functionIn, before, AllRead, Accepted}
 
 -- ---- a refused table
@@ -62,19 +62,17 @@ module _ (s : List ℕ) (n : ℕ) (e : verdict s ≡ ok n) where
   read small = let (gs, p, e0) = took (parse version1 s) _ (before s n) functions-are in whole s small (sym (ap seen p))
 
 -- each function was read where it stands
-at-places : (s : List ℕ) (n k : ℕ) (p : Part (List Function)) → functions (version1 .nodeLimit) n s (placeOf s k) ≡ ok p → (j : ℕ) → j < n → ReadsFunction s (placeOf s (k + j))
+at-places : (s : List ℕ) (n k : ℕ) → ReadsFrom n s (placeOf s k) → (j : ℕ) → j < n → ReadsFunction s (placeOf s (k + j))
 unfolding functionPlace
-at-places s zero k p e j l = absurd (omega arith)
-at-places s (suc n) k p e zero l =
-    let (x, ex, e1) = took _ _ _ e in
+at-places s zero k r j l = absurd (omega arith)
+at-places s (suc n) k r zero l =
     let z : k ≡ k + 0 = omega arith in
-    subst (λ (i : ℕ). ReadsFunction s (placeOf s i)) z (x, ex)
-at-places s (suc n) k p e (suc j) l =
-    let (x, ex, e1) = took _ _ _ e in
-    let (r, er, e2) = took _ _ _ e1 in
-    let w : x .next ≡ functionEnd s (placeOf s k) = ap (λ (y : Part Function). y .next) (function-read (version1 .nodeLimit) s (placeOf s k) x ex) in
+    subst (λ (i : ℕ). ReadsFunction s (placeOf s i)) z (first-function s (suc n) (placeOf s k) (omega arith) r)
+at-places s (suc n) k r (suc j) l =
+    let m : suc n - 1 ≡ n = omega arith in
     let z : suc k + j ≡ k + suc j = omega arith in
-    subst (λ (i : ℕ). ReadsFunction s (placeOf s i)) z (at-places s n (suc k) r (ap (functions (version1 .nodeLimit) n s) (sym w) ∙ er) j (omega arith))
+    let rest = subst (λ (i : ℕ). ReadsFrom i s (placeOf s (suc k))) m (rest-functions s (suc n) (placeOf s k) (omega arith) r) in
+    subst (λ (i : ℕ). ReadsFunction s (placeOf s i)) z (at-places s n (suc k) rest j (omega arith))
 
 sound-at : (s : List ℕ) (n k : ℕ) → k < n → AllSound (before s n) → AllSound (before s (suc k))
 unfolding earlier
@@ -93,10 +91,9 @@ module _ (s : List ℕ) (n : ℕ) (e : verdict s ≡ ok n) (small : Bytes s) whe
   pub all-read : AllRead s n
   unfolding functionPlace
   all-read j l =
-      let (p, ep) = read s n e small .reads in
       let q = count-is s n e in
       let z : 0 + j ≡ j = omega arith in
-      subst (λ (i : ℕ). ReadsFunction s (placeOf s i)) z (at-places s (byte s 5) 0 p ep j (omega arith))
+      subst (λ (i : ℕ). ReadsFunction s (placeOf s i)) z (at-places s (byte s 5) 0 (read s n e small .reads) j (omega arith))
 
 -- ---- of the first k functions
 

@@ -18,12 +18,11 @@ use Rattle.bytecode.specs.Code.{encode}
 use Rattle.reader.specs.Layout.{functionAt}
 use Rattle.reader.specs.Find.{ReadsFunction}
 use Rattle.sums.specs.declared.Sums.{Sums}
-use Rattle.sums.specs.declared.Sizes.{Sizes}
 use Rattle.sums.specs.declared.PortWords.{PortWords}
 use Rattle.sums.specs.Position.{placeOf, functionIn, before}
 use Rattle.sums.specs.CodeSums.{functionInstructions, functionBytes, instructionsOf, bytesOfFunction}
 use Rattle.sums.specs.Capped.{operationCap, wordCap, byteCap, operationsAt, wordsAt, instructionsAt, bytesAt, ownSums, capSums, sumsAt, Summed}
-use Rattle.sums.specs.Answers.{codeLength, PortWordsAt, cappedSizes, sizesOf, Measures}
+use Rattle.sums.specs.Answers.{codeLength, PortWordsAt, cappedSizes, Measures}
 use Rattle.sums.proofs.CodeSizes.{encode-length}
 use Rattle.sums.proofs.CodeLimits.{bytes-below}
 

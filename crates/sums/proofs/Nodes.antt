@@ -63,10 +63,6 @@ module _ (s : List ℕ) (p kind : ℕ) (row : Ports) (ek : kind ≡ byte s (p + 
     unfolding nodeAt
     call-payload = ap (λ (f : Form). payloadAt f (kindAt s p) s (p + 4)) called
 
-    pub call-end : (n : ℕ) → n ≡ byte s (p + 4 + 2) → p + 4 + 3 + 3 * n ≡ nodeEnd s p
-    unfolding nodeEnd
-    call-end n e = sym (ap (λ (f : Form). payloadEnd f (kindAt s p) s (p + 4)) called ∙ ap (λ (m : ℕ). p + 4 + 3 + 3 * m) (sym e))
-
   module _ (c : calling (row .form) ≡ false) where
     pub plain-form : calling (formOf (kindAt s p)) ≡ false
     plain-form = ap calling (sym form-is) ∙ c

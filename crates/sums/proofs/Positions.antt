@@ -14,7 +14,7 @@ use Rattle.graph.specs.Sums.{operationsOf, resultWordsOf}
 use Rattle.graph.specs.Format.{version1}
 use Rattle.reader.specs.Layout.{functionAt, earlier}
 use Rattle.reader.specs.Find.{functionFound}
-use Rattle.reader.specs.declared.Found.the-variants.{At, Nothing}
+use Rattle.reader.specs.declared.Found.the-variants.{At}
 use Rattle.reader.proofs.Passed.{length-earlier}
 use Rattle.sums.specs.declared.Sums.{Sums}
 use Rattle.sums.specs.CodeSums.{instructionsOf, bytesOfFunction}

@@ -1,26 +1,22 @@
 -- The sizes of a function, and what is answered of them.
-use Prim.Native.Nat.{ℕ, zero, suc, _+_, _*_, _<_, min, _≤_}
+use Prim.Native.Nat.{ℕ, zero, suc, _+_, _*_, min, _≤_}
 use mathlib.Core.Path.{_≡_}
-use mathlib.Core.Bool.{true, cond}
+use mathlib.Core.Bool.{cond}
 use mathlib.Core.List.{List, [], _∷_}
-use lib.Dec.{leb}
 use lib.ListN.{length}
 use Rattle.ports.specs.Ports.{widths}
 use Rattle.base.specs.Bytes.{byte}
 use Rattle.graph.specs.Graph.{Function}
-use Rattle.base.specs.Outcome.{Outcome, ok, fault, _>>=_, orElse}
 use Rattle.graph.specs.Types.{outputTypes}
-use Rattle.graph.specs.Judge.{table, verdict}
+use Rattle.graph.specs.Judge.{table}
 use Rattle.graph.specs.Sums.{functionOperations, operationsOf, functionWords}
-use Rattle.graph.specs.Table.{Chosen, chosen}
-use Rattle.lowering.specs.Answers.{codeOf}
 use Rattle.lowering.specs.Compile.{boardListOf}
 use Rattle.base.specs.Limits.{portWordLimit, withinLimits}
 use Rattle.bytecode.specs.Code.{encode}
 use Rattle.reader.specs.Layout.{functionAt}
 use Rattle.reader.specs.Find.{ReadsFunction}
 use Rattle.sums.specs.CodeSums.{functionInstructions, instructionsOf}
-use Rattle.sums.specs.Position.{placeOf, functionIn, before}
+use Rattle.sums.specs.Position.{functionIn, before}
 use Rattle.sums.specs.Capped.{operationCap, wordCap}
 use Rattle.sums.specs.declared.PortWords.{PortWords}
 use Rattle.sums.specs.declared.Sizes.{Sizes}

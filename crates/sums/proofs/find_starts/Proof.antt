@@ -1,9 +1,9 @@
 use borrow.Author.Needs.{needs}
-use mathlib.Core.Path.{_≡_, refl, sym, ap, _∙_, subst}
+use mathlib.Core.Path.{sym, ap, _∙_, subst}
 use Prim.Native.Nat.{ℕ, _+_, _-_, _≤_}
 use native.Mathlib.Omega.{arith}
 use lib.ListN.{length}
-use Rattle.reader.specs.Layout.{nodePlace, nodesPlace, nodeCount, functionEnd}
+use Rattle.reader.specs.Layout.{nodePlace, nodesPlace, functionEnd}
 use Rattle.reader.specs.Find.{ReadsNodes, ReadsFunction}
 use Rattle.reader.proofs.Passed.{function-fits, function-holds}
 use Rattle.sums.proofs.Nodes.{Starting, start-none, start-step, start-done}

@@ -1,8 +1,8 @@
 use borrow.Author.Needs.{needs}
 use Prim.Native.Nat.{ℕ, _+_, _*_}
-use mathlib.Core.Path.{_≡_, ap, _∙_}
+use mathlib.Core.Path.{ap, _∙_}
 use native.Mathlib.Omega.{arith}
-use Rattle.reader.specs.Layout.{inputCount, nodesPlace}
+use Rattle.reader.specs.Layout.{inputCount}
 use Rattle.reader.proofs.Passed.{Holds, function-holds}
 use Rattle.sums.proofs.nodes_place.Statement.{statement}
 use Rattle.sums.proofs.nodes_place.Tie as tie

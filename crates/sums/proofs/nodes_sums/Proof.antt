@@ -1,6 +1,5 @@
 use borrow.Author.Needs.{needs}
 use Prim.Native.Nat.{_-_}
-use native.Mathlib.Omega.{arith}
 use Rattle.sums.proofs.Summing.{Summing, sum-start, sum-here, sum-small, sum-step, sum-done}
 use Rattle.sums.proofs.nodes_sums.Statement.{statement}
 use Rattle.sums.proofs.nodes_sums.Tie as tie
