@@ -1,27 +1,26 @@
 -- The lines of an accepted table's functions, one after the other.
-use Prim.Native.Nat.{ℕ, zero, suc, _+_, _*_, _≤_, _<_}
-use mathlib.Core.Path.{_≡_, refl, sym, ap, _∙_, subst}
-use mathlib.Core.List.{List, [], _∷_, _++_}
+use Prim.Native.Nat.{ℕ, _+_, _*_, _≤_, _<_}
+use mathlib.Core.Path.{_≡_, refl, sym, subst}
+use mathlib.Core.List.{List}
 use native.Mathlib.Nat.{add-zero}
 use native.Mathlib.Numerals.{add-one}
 use native.Mathlib.Omega.{arith}
-use lib.ListN.{length}
 use Rattle.base.specs.Limits.{functionLimit}
-use Rattle.sums.specs.Position.{Accepted}
-use Rattle.reader.specs.Layout.{functionOf, earlier}
+use Rattle.sums.specs.Position.{functionIn, before, Accepted}
+use Rattle.reader.specs.Layout.{earlier}
 use Rattle.lowering.specs.Listing.{functionLine, functionLines}
-use Rattle.listing.specs.Lines.{Put, textLimit}
+use Rattle.listing.specs.Lines.{Put, textLimit, firstLimit, lineLimit}
 use Rattle.listing.proofs.Text.{then, same}
 use Rattle.sums.proofs.Accepted.{few}
 
--- the lines of the functions before k are written, each of at most 103 bytes
+-- the lines of the functions before k are written
 pub record Listed (s : List ℕ) (n : ℕ) (text₀ : List ℕ) (at : ℕ) (text : List ℕ) (here k : ℕ) : Type 0 where
   pub index : k ≤ n
   pub most : n ≤ functionLimit
-  pub room : here ≤ 30 + 103 * k
-  pub put : Put text₀ at (functionLines (earlier 8 s k)) text here
+  pub room : here ≤ firstLimit + lineLimit * k
+  pub put : Put text₀ at (functionLines (before s k)) text here
 
-pub start : (s : List ℕ) (n : ℕ) (text : List ℕ) (at : ℕ) → Accepted s n → at ≤ 30 → Listed s n text at text at 0
+pub start : (s : List ℕ) (n : ℕ) (text : List ℕ) (at : ℕ) → Accepted s n → at ≤ firstLimit → Listed s n text at text at 0
 unfolding earlier
 start s n text at e h =
     record {
@@ -32,7 +31,7 @@ start s n text at e h =
     }
 
 pub step : (s : List ℕ) (n : ℕ) (text₀ : List ℕ) (at : ℕ) (text next line : List ℕ) (here k r : ℕ) → Listed s n text₀ at text here k → k < n
-    → line ≡ functionLine (earlier 8 s k) (functionOf 8 s k) → Put text here line next r → r ≤ here + 103
+    → line ≡ functionLine (before s k) (functionIn s k) → Put text here line next r → r ≤ here + lineLimit
     → Listed s n text₀ at next r (k + 1)
 unfolding earlier
 step s n text₀ at text next line here k r l h e p m =
@@ -42,14 +41,14 @@ step s n text₀ at text next line here k r l h e p m =
       most = l .most;
       room = omega arith;
       put =
-          subst (λ (j : ℕ). Put text₀ at (functionLines (earlier 8 s j)) next r) (sym (add-one k)) (then (l .put) (same e p));
+          subst (λ (j : ℕ). Put text₀ at (functionLines (before s j)) next r) (sym (add-one k)) (then (l .put) (same e p));
     }
 
 pub done : (s : List ℕ) (n : ℕ) (text₀ : List ℕ) (at : ℕ) (text : List ℕ) (here k : ℕ) → Listed s n text₀ at text here k → n ≤ k
-    → Put text₀ at (functionLines (earlier 8 s n)) text here × (here ≤ textLimit)
+    → Put text₀ at (functionLines (before s n)) text here × (here ≤ textLimit)
 done s n text₀ at text here k l h =
     let i = l .index in
     let most = l .most in
     let room = l .room in
     let z : k ≡ n = omega arith in
-    (subst (λ (j : ℕ). Put text₀ at (functionLines (earlier 8 s j)) text here) z (l .put), omega arith)
+    (subst (λ (j : ℕ). Put text₀ at (functionLines (before s j)) text here) z (l .put), omega arith)

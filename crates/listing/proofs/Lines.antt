@@ -1,8 +1,8 @@
 -- The lines: how their parts join, and how long they are.
-use Prim.Native.Nat.{ℕ, zero, suc, _+_, _^_, _≤_, _<_}
-use mathlib.Core.Path.{_≡_, refl, sym, ap, _∙_, subst}
+use Prim.Native.Nat.{ℕ, _+_, _^_, _≤_, _<_}
+use mathlib.Core.Path.{_≡_, refl, sym, ap}
 use mathlib.Core.Bool.{Bool, true, false, cond}
-use mathlib.Core.List.{List, [], _∷_, _++_, append-assoc}
+use mathlib.Core.List.{List, _++_, append-assoc}
 use native.Mathlib.Omega.{arith}
 use lib.ListN.{length, length-append}
 use lib.Dec.{leb}
@@ -10,7 +10,7 @@ use borrow.Author.Tests.{leb-true}
 use Rattle.base.specs.Bytes.{byte, u16}
 use Rattle.base.specs.Limits.{operationLimit, withinLimits, wordLimit}
 use Rattle.lowering.specs.Listing.{decimal, newline, acceptedText, refusedText, atText, functionText, inputsText, outputsText, nodesText, operationsText, wordsText, codeText, noneText, limited}
-use Rattle.listing.specs.Lines.{headText, countsText, lineAt, textLimit}
+use Rattle.listing.specs.Lines.{headText, countsText, lineAt, textLimit, firstLimit, headLimit, countsLimit}
 use Rattle.listing.proofs.Text.{rooms}
 use Rattle.listing.proofs.Digits.{decimal-length, decimal-most}
 
@@ -18,7 +18,7 @@ use Rattle.listing.proofs.Digits.{decimal-length, decimal-most}
 
 -- a count of 64 bits has room
 pub accepted-rooms : (count : ℕ) → count < 18446744073709551616
-    → (0 + length (acceptedText ++ decimal count) ≤ textLimit) × (0 + length (acceptedText ++ decimal count ++ newline) ≤ 30)
+    → (0 + length (acceptedText ++ decimal count) ≤ textLimit) × (0 + length (acceptedText ++ decimal count ++ newline) ≤ firstLimit)
 accepted-rooms count h =
     let a = decimal-most count h in
     let p : length (acceptedText ++ decimal count) ≤ 29 = simp length-append (omega arith) in
@@ -51,7 +51,7 @@ counts-rooms operations words code at h =
 -- how long the halves are
 
 pub head-length : (id inputs outputs nodes : ℕ) → id < 65536 → inputs < 256 → outputs < 256 → nodes < 65536
-    → length (headText id inputs outputs nodes) ≤ 49
+    → length (headText id inputs outputs nodes) ≤ headLimit
 unfolding headText
 head-length id inputs outputs nodes hi hn ho hc =
     let five : 10 ^ 5 ≡ 100000 = refl in
@@ -76,7 +76,7 @@ shown-length : (b : Bool) (n : ℕ) → n < 18446744073709551616 → length (con
 shown-length true n h = decimal-most n h
 shown-length false n h = omega arith
 
-pub counts-length : (operations words code : ℕ) → code < 18446744073709551616 → length (countsText operations words code) ≤ 54
+pub counts-length : (operations words code : ℕ) → code < 18446744073709551616 → length (countsText operations words code) ≤ countsLimit
 unfolding countsText
 counts-length operations words code h =
     let a = limited-length operationLimit operations (omega arith) in

@@ -1,27 +1,27 @@
 -- The text of a table, function by function.
-use Prim.Native.Nat.{ℕ, zero, suc, _+_, _≤_, _<_, min}
-use mathlib.Core.Path.{_≡_, refl, sym, ap, _∙_, subst}
-use mathlib.Core.Bool.{Bool, true, false, _&&_, cond}
-use mathlib.Core.List.{List, [], _∷_, _++_, append-assoc}
+use Prim.Native.Nat.{ℕ, zero, suc, _+_, _≤_, min}
+use mathlib.Core.Path.{_≡_, refl, sym, ap, _∙_}
+use mathlib.Core.Bool.{Bool, true, false, cond}
+use mathlib.Core.List.{List, _++_, append-assoc}
 use native.Mathlib.Omega.{arith}
 use lib.Dec.{leb}
 use lib.ListN.{length}
-use borrow.Author.Tests.{leb-true, leb-false, le-leb, lt-leb}
+use borrow.Author.Tests.{leb-true}
 use Rattle.reader.proofs.Passed.{length-earlier}
 use Rattle.resolver.proofs.Rows.{length-nodes}
 use Rattle.checker.proofs.Calls.{inputs-length}
+use Rattle.sums.specs.declared.Sizes.{Sizes}
+use Rattle.sums.specs.Position.{placeOf, functionIn, before}
+use Rattle.sums.specs.Answers.{cappedSizes, sizesOf}
 use Rattle.sums.proofs.Accepted.{functions-are, refused-table}
 use Rattle.sums.proofs.Measuring.{leb-cap}
-use Rattle.base.specs.Outcome.{Outcome, ok, fault, _>>=_}
+use Rattle.base.specs.Outcome.{ok, fault}
 use Rattle.base.specs.Bytes.{byte, u16}
-use Rattle.graph.specs.Graph.{Node, Output, Function}
+use Rattle.graph.specs.Graph.{Function}
 use Rattle.graph.specs.Format.{version1}
-use Rattle.graph.specs.Read.{parse}
-use Rattle.graph.specs.Judge.{table, judgeAll, verdict}
+use Rattle.graph.specs.Judge.{table, verdict}
 use Rattle.graph.specs.Sums.{functionOperations, operationsOf, functionWords}
-use Rattle.base.proofs.Outcomes.{took, after, passed, ok-is}
-use Rattle.reader.specs.Layout.{nodeAt, nodeEnd, nodesAt, inputsAt, outputsAt, functionAt, functionPlace, functionOf, earlier, inputCount, outputCount, nodeCount, outputsPlace, nodesPlace}
-use Rattle.reader.proofs.Standing.{table-read}
+use Rattle.reader.specs.Layout.{outputsAt, functionAt, inputCount, outputCount, nodeCount, outputsPlace, nodesPlace}
 use Rattle.lowering.specs.Compile.{boardListOf}
 use Rattle.base.specs.Limits.{operationLimit, withinLimits, wordLimit}
 use Rattle.bytecode.specs.Code.{encode}
@@ -83,30 +83,27 @@ head-at : (s : List ℕ) (p : ℕ) (f : Function) → f ≡ functionAt s p
 unfolding functionAt
 head-at s p f e = rw e (rw (inputs-length (inputCount s p) s (p + 6), outputs-length (outputCount s p) s (outputsPlace s p), length-nodes (nodeCount s p) s (nodesPlace s p)))
 
--- the line of the function at position k, by its place and by its capped sums
-pub line-at : (s : List ℕ) (k p operations words code : ℕ) → p ≡ functionPlace 8 s k
-    → operations ≡ min (operationLimit + 1) (functionOperations (operationsOf (earlier 8 s k)) (functionOf 8 s k))
-    → words ≡ min (wordLimit + 1) (functionWords (earlier 8 s k) (functionOf 8 s k))
-    → (withinLimits (functionOperations (operationsOf (earlier 8 s k)) (functionOf 8 s k)) (functionWords (earlier 8 s k) (functionOf 8 s k)) ≡ true
-    → code ≡ length (encode (boardListOf (earlier 8 s k) (functionOf 8 s k))))
-    → lineAt s p operations words code ≡ functionLine (earlier 8 s k) (functionOf 8 s k)
-unfolding lineAt
-line-at s k p operations words code ep eo ew ec =
-    let early = earlier 8 s k in
-    let f = functionOf 8 s k in
-    ap (λ (q : ℕ). headText (u16 s q) (byte s (q + 2)) (byte s (q + 3)) (u16 s (q + 4)) ++ countsText operations words code) ep
-    ∙ ap (λ (xs : List ℕ). xs ++ countsText operations words code) (sym (head-at s (functionPlace 8 s k) f refl))
-    ∙ ap (λ (n : ℕ). headText (f .id) (length (f .inputs)) (length (f .outputs)) (length (f .nodes)) ++ countsText n words code) eo
-    ∙ ap (λ (n : ℕ). headText (f .id) (length (f .inputs)) (length (f .outputs)) (length (f .nodes)) ++ countsText (min (operationLimit + 1) (functionOperations (operationsOf early) f)) n code) ew
-    ∙ ap (λ (xs : List ℕ). headText (f .id) (length (f .inputs)) (length (f .outputs)) (length (f .nodes)) ++ xs) (counts-cap (functionOperations (operationsOf early) f) (functionWords early f) code (length (encode (boardListOf early f))) ec)
+-- the line of the function at position k, by its sizes
+pub line-at : (s : List ℕ) (k : ℕ) (r : Sizes) → r ≡ sizesOf s k → lineAt s (r .place) (r .operations) (r .words) (r .code) ≡ functionLine (before s k) (functionIn s k)
+unfolding lineAt cappedSizes functionAt
+line-at s k r e =
+    let early = before s k in
+    let f = functionIn s k in
+    let operations = functionOperations (operationsOf early) f in
+    let words = functionWords early f in
+    let code = length (encode (boardListOf early f)) in
+    let capped = cond (withinLimits operations words) code 0 in
+    ap (λ (x : Sizes). lineAt s (x .place) (x .operations) (x .words) (x .code)) e
+    ∙ ap (λ (xs : List ℕ). xs ++ countsText (min (operationLimit + 1) operations) (min (wordLimit + 1) words) capped) (sym (head-at s (placeOf s k) f refl))
+    ∙ ap (λ (xs : List ℕ). headText (f .id) (length (f .inputs)) (length (f .outputs)) (length (f .nodes)) ++ xs) (counts-cap operations words capped code (ap (λ (b : Bool). cond b code 0)))
     ∙ sym (by-numbers early f)
 
 -- ---- the table
 
-pub listing-accepted : (s : List ℕ) (n : ℕ) → verdict s ≡ ok n → acceptedText ++ decimal n ++ newline ++ functionLines (earlier 8 s n) ≡ listing s
+pub listing-accepted : (s : List ℕ) (n : ℕ) → verdict s ≡ ok n → acceptedText ++ decimal n ++ newline ++ functionLines (before s n) ≡ listing s
 unfolding listing
 listing-accepted s n e =
-    ap (λ (m : ℕ). acceptedText ++ decimal m ++ newline ++ functionLines (earlier 8 s n)) (sym (length-earlier 8 s n)) ∙ sym (ap report (functions-are s n e))
+    ap (λ (m : ℕ). acceptedText ++ decimal m ++ newline ++ functionLines (before s n)) (sym (length-earlier (version1 .header) s n)) ∙ sym (ap report (functions-are s n e))
 
 pub listing-refused : (s : List ℕ) (a b : ℕ) → verdict s ≡ fault a b → refusedText ++ decimal a ++ atText ++ decimal b ++ newline ≡ listing s
 unfolding listing

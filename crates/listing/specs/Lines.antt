@@ -13,6 +13,20 @@ use Rattle.lowering.specs.Listing.{decimal, newline, functionText, inputsText, 
 abbrev pub textLimit : ℕ
 textLimit = 2048
 
+-- the most bytes of the first line
+abbrev pub firstLimit : ℕ
+firstLimit = 30
+
+-- and of a function's line, by its halves
+abbrev pub headLimit : ℕ
+headLimit = 49
+
+abbrev pub countsLimit : ℕ
+countsLimit = 54
+
+abbrev pub lineLimit : ℕ
+lineLimit = headLimit + countsLimit
+
 -- bytes written from a place on, and nothing else; r is the place behind them
 pub record Put (entry : List ℕ) (at : ℕ) (bytes exit : List ℕ) (r : ℕ) : Type 0 where
   pub written : exit ≡ sets entry at bytes

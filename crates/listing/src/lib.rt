@@ -1,23 +1,22 @@
 // The lister's text.
 ghost use mathlib.Core.Path.{_≡_};
 ghost use mathlib.Core.Bool.{cond};
-ghost use mathlib.Core.List.{List, _++_};
+ghost use mathlib.Core.List.{_++_};
 ghost use Prim.Native.Nat.{_+_, _<_, _≤_};
 ghost use lib.ListN.{length, drop};
 ghost use lib.Seq.{sets};
 ghost use Rattle.lowering.specs.Listing.{decimal, newline, refusedText, atText, functionLines, listing};
-ghost use Rattle.base.specs.Bytes.{byte, u16};
-ghost use Rattle.base.specs.Outcome.{ok, fault};
+ghost use Rattle.base.specs.Bytes.{byte};
+ghost use Rattle.base.specs.Outcome.{ok};
 ghost use Rattle.graph.specs.Judge.{verdict};
-ghost use Rattle.reader.specs.Layout.{earlier};
-ghost use Rattle.sums.specs.Position.{Starts, Accepted};
+ghost use Rattle.reader.specs.Find.{ReadsFunction, Started};
+ghost use Rattle.sums.specs.Position.{before, Accepted};
 ghost use Rattle.sums.specs.Capped.{AllSummed};
-ghost use Rattle.listing.specs.Lines.{textLimit, Put, headText, countsText, lineAt};
+ghost use Rattle.listing.specs.Lines.{textLimit, firstLimit, lineLimit, Put, headText, countsText, lineAt};
 use base::FUNCTION_LIMIT;
 use base::OPERATION_LIMIT;
 use base::WORD_LIMIT;
-use base::padded_byte;
-use base::padded_u16;
+use base::u16_at;
 use base::wide;
 use base::within_limits;
 use checker::Verdict;
@@ -168,13 +167,13 @@ fn put_function(
     words: usize,
     code: usize,
 ) -> usize
-    requires { ⌜ (at + 103 ≤ textLimit) × (p < 65536) ⌝ }
-    ensures { λ r. ⌜ Put (now (text .entry)) at (lineAt (now (table .entry)) p operations words code) (now (text .exit)) r × (r ≤ at + 103) ⌝ }
+    requires { ⌜ (at + lineLimit ≤ textLimit) × ReadsFunction (now table) p ⌝ }
+    ensures { λ r. ⌜ Put (now (text .entry)) at (lineAt (now (table .entry)) p operations words code) (now (text .exit)) r × (r ≤ at + lineLimit) ⌝ }
 {
-    let id = padded_u16(table, p);
-    let inputs = wide(padded_byte(table, p + 2));
-    let outputs = wide(padded_byte(table, p + 3));
-    let nodes = padded_u16(table, p + 4);
+    let id = u16_at(table, p);
+    let inputs = wide(table[p + 2]);
+    let outputs = wide(table[p + 3]);
+    let nodes = u16_at(table, p + 4);
     let middle = put_head(text, at, id, inputs, outputs, nodes);
     put_counts(text, middle, operations, words, code)
 }
@@ -185,15 +184,15 @@ fn put_functions(
     at: usize,
     table: &[u8],
     count: usize,
-    starts: &[u16; FUNCTION_LIMIT],
+    starts: &[usize; FUNCTION_LIMIT],
     ops: &[u32; FUNCTION_LIMIT],
     words: &[u32; FUNCTION_LIMIT],
     counts: &[u32; FUNCTION_LIMIT],
     sizes: &[u32; FUNCTION_LIMIT],
 ) -> usize
-    requires { ⌜ (at ≤ 30) × Accepted (now table) count × Starts (now table) (now starts) count ⌝ }
+    requires { ⌜ (at ≤ firstLimit) × Accepted (now table) count × Started (now table) (now starts) count ⌝ }
     requires { ⌜ AllSummed (now table) (now ops) (now words) (now counts) (now sizes) count ⌝ }
-    ensures { λ r. ⌜ Put (now (text .entry)) at (functionLines (earlier 8 (now (table .entry)) count)) (now (text .exit)) r × (r ≤ textLimit) ⌝ }
+    ensures { λ r. ⌜ Put (now (text .entry)) at (functionLines (before (now (table .entry)) count)) (now (text .exit)) r × (r ≤ textLimit) ⌝ }
 {
     let mut here = at;
     let mut k = 0;
@@ -207,10 +206,10 @@ fn put_functions(
 
 // The same, with the sums taken first.
 fn put_table(text: &mut [u8; TEXT_LIMIT], at: usize, table: &[u8], count: usize) -> usize
-    requires { ⌜ (verdict (now table) ≡ ok count) × (at ≤ 30) ⌝ }
-    ensures { λ r. ⌜ Put (now (text .entry)) at (functionLines (earlier 8 (now (table .entry)) count)) (now (text .exit)) r × (r ≤ textLimit) ⌝ }
+    requires { ⌜ (verdict (now table) ≡ ok count) × (at ≤ firstLimit) ⌝ }
+    ensures { λ r. ⌜ Put (now (text .entry)) at (functionLines (before (now (table .entry)) count)) (now (text .exit)) r × (r ≤ textLimit) ⌝ }
 {
-    let mut starts = [0u16; FUNCTION_LIMIT];
+    let mut starts = [0usize; FUNCTION_LIMIT];
     let mut ops = [0u32; FUNCTION_LIMIT];
     let mut words = [0u32; FUNCTION_LIMIT];
     let mut counts = [0u32; FUNCTION_LIMIT];

@@ -8,7 +8,7 @@ use native.Mathlib.Omega.{arith}
 use lib.Dec.{leb, eqb}
 use lib.ListN.{length}
 use borrow.Author.Tests.{leb-true, le-leb, lt-leb}
-use Rattle.base.specs.Limits.{operationLimit, wordLimit, withinLimits}
+use Rattle.base.specs.Limits.{functionLimit, operationLimit, wordLimit, withinLimits}
 use Rattle.base.specs.Outcome.{Outcome, ok, fault, _>>=_, _>>_, need, orElse}
 use Rattle.base.specs.Bytes.{u16}
 use Rattle.base.proofs.Outcomes.{takes, stops, passes, fails}
@@ -17,17 +17,17 @@ use Rattle.graph.specs.Judge.{table, verdict}
 use Rattle.graph.specs.Sums.{functionOperations, operationsOf, functionWords}
 use Rattle.graph.specs.Table.{Chosen, chosen}
 use Rattle.lowering.specs.Answers.{within, compilable, codeOf}
-use Rattle.reader.specs.Layout.{functionAt, functionOf, earlier}
+use Rattle.reader.specs.Layout.{functionAt, earlier}
 use Rattle.checker.specs.declared.Verdict.{Verdict}
 use Rattle.checker.specs.Answers.{verdictOf}
 use Rattle.sums.specs.declared.Sizes.{Sizes}
 use Rattle.sums.specs.CodeSums.{functionInstructions, instructionsOf}
-use Rattle.sums.specs.Position.{placeOf, before, positionOf}
+use Rattle.sums.specs.Position.{placeOf, functionIn, before, positionOf}
 use Rattle.sums.specs.Capped.{operationCap, wordCap}
 use Rattle.sums.specs.Answers.{cappedSizes, sizesOf}
 use Rattle.sums.proofs.Positions.{at-position, no-position}
-use Rattle.sums.proofs.Accepted.{functions-are, few-functions, refused-table}
-use Rattle.sums.proofs.CodeSizes.{function-operations}
+use Rattle.sums.proofs.Accepted.{functions-are, refused-table}
+use Rattle.sums.proofs.CodeLimits.{function-operations}
 use Rattle.sums.proofs.Measuring.{leb-cap}
 use Rattle.quetlapin.specs.declared.Count.{Count}
 use Rattle.quetlapin.specs.Measures.{named, chosenAt, exactSizes, upTo, countOf, operationCount, wordCount, codeCount}
@@ -50,18 +50,18 @@ chosen-one s m c = refl
 
 module _ (s : List ℕ) (c : ℕ) where
   module _ (n g : ℕ) (e : verdict s ≡ ok n) (eg : g ≡ positionOf s n c) where
-    here : named s c ≡ orElse (chosen c (earlier 8 s n)) 14 0
-    here = takes (table s) (λ fs. orElse (chosen c fs) 14 0) (earlier 8 s n) (functions-are s n e)
+    here : named s c ≡ orElse (chosen c (before s n)) 14 0
+    here = takes (table s) (λ fs. orElse (chosen c fs) 14 0) (before s n) (functions-are s n e)
 
-    pub named-at : g < n → named s c ≡ ok (chosenAt s g)
-    named-at l =
-        let p : chosen c (earlier 8 s n) ≡ some (chosenAt s (positionOf s n c)) =
-        at-position s (λ fs d. chosen d fs) (λ m. some (chosenAt s m)) none (λ d. refl) (chosen-one s) n c (few-functions s n e) (subst (λ (q : ℕ). q < n) eg l) in
+    pub named-at : n ≤ functionLimit → g < n → named s c ≡ ok (chosenAt s g)
+    named-at few l =
+        let p : chosen c (before s n) ≡ some (chosenAt s (positionOf s n c)) =
+        at-position s (λ fs d. chosen d fs) (λ m. some (chosenAt s m)) none (λ d. refl) (chosen-one s) n c few (subst (λ (q : ℕ). q < n) eg l) in
         here ∙ ap (λ (o : Option Chosen). orElse o 14 0) p ∙ ap (λ (m : ℕ). ok (chosenAt s m)) (sym eg)
 
     pub named-none : n ≤ g → named s c ≡ fault 14 0
     named-none l =
-        let p : chosen c (earlier 8 s n) ≡ none =
+        let p : chosen c (before s n) ≡ none =
         no-position s (λ fs d. chosen d fs) (λ m. some (chosenAt s m)) none (λ d. refl) (chosen-one s) n c (subst (λ (q : ℕ). n ≤ q) eg l) in
         here ∙ ap (λ (o : Option Chosen). orElse o 14 0) p
 
@@ -110,26 +110,26 @@ pub up-to-over : (limit n : ℕ) → limit < n → Count.Over ≡ upTo limit n
 up-to-over limit n l = rw (lt-leb n limit l)
 
 module _ (s : List ℕ) (c k : ℕ) (e : named s c ≡ ok (chosenAt s k)) (m : Sizes) (em : m ≡ sizesOf s k) where
-  capped-operations : m .operations ≡ min operationCap (functionOperations (operationsOf (earlier 8 s k)) (functionOf 8 s k))
+  capped-operations : m .operations ≡ min operationCap (functionOperations (operationsOf (before s k)) (functionIn s k))
   unfolding cappedSizes
   capped-operations = ap (λ (x : Sizes). x .operations) em
 
-  capped-words : m .words ≡ min wordCap (functionWords (earlier 8 s k) (functionOf 8 s k))
+  capped-words : m .words ≡ min wordCap (functionWords (before s k) (functionIn s k))
   unfolding cappedSizes
   capped-words = ap (λ (x : Sizes). x .words) em
 
   -- the tests of the capped counts are those of the counts
-  operations-test : leb (m .operations) operationLimit ≡ leb (functionOperations (operationsOf (earlier 8 s k)) (functionOf 8 s k)) operationLimit
-  operations-test = ap (λ (n : ℕ). leb n operationLimit) capped-operations ∙ leb-cap operationLimit (functionOperations (operationsOf (earlier 8 s k)) (functionOf 8 s k))
+  operations-test : leb (m .operations) operationLimit ≡ leb (functionOperations (operationsOf (before s k)) (functionIn s k)) operationLimit
+  operations-test = ap (λ (n : ℕ). leb n operationLimit) capped-operations ∙ leb-cap operationLimit (functionOperations (operationsOf (before s k)) (functionIn s k))
 
-  words-test : leb (m .words) wordLimit ≡ leb (functionWords (earlier 8 s k) (functionOf 8 s k)) wordLimit
-  words-test = ap (λ (n : ℕ). leb n wordLimit) capped-words ∙ leb-cap wordLimit (functionWords (earlier 8 s k) (functionOf 8 s k))
+  words-test : leb (m .words) wordLimit ≡ leb (functionWords (before s k) (functionIn s k)) wordLimit
+  words-test = ap (λ (n : ℕ). leb n wordLimit) capped-words ∙ leb-cap wordLimit (functionWords (before s k) (functionIn s k))
 
   abbrev operations : ℕ
-  operations = functionOperations (operationsOf (earlier 8 s k)) (functionOf 8 s k)
+  operations = functionOperations (operationsOf (before s k)) (functionIn s k)
 
   abbrev words : ℕ
-  words = functionWords (earlier 8 s k) (functionOf 8 s k)
+  words = functionWords (before s k) (functionIn s k)
 
   pub over-operations : operationLimit < m .operations → compilable s c ≡ fault 15 0
   over-operations l = within-found (table s) c (chosenAt s k) e ∙ fails _ 15 0 _ (sym operations-test ∙ lt-leb (m .operations) operationLimit l)
@@ -155,10 +155,10 @@ module _ (s : List ℕ) (c k : ℕ) (e : named s c ≡ ok (chosenAt s k)) (m : S
       exact =
           let eo = capped-operations in
           let ew = capped-words in
-          let i = function-operations (earlier 8 s k) (functionOf 8 s k) in
+          let i = function-operations (before s k) (functionIn s k) in
           let zo : min operationCap operations ≡ operations = omega arith in
           let zw : min wordCap words ≡ words = omega arith in
-          let zi : min operationCap (functionInstructions (instructionsOf (earlier 8 s k)) (functionOf 8 s k)) ≡ functionInstructions (instructionsOf (earlier 8 s k)) (functionOf 8 s k) = omega arith in
+          let zi : min operationCap (functionInstructions (instructionsOf (before s k)) (functionIn s k)) ≡ functionInstructions (instructionsOf (before s k)) (functionIn s k) = omega arith in
           em ∙ rw (few, short, zo, zw, zi)
 
   -- ---- the code's length
@@ -182,8 +182,8 @@ module _ (s : List ℕ) (c k : ℕ) (e : named s c ≡ ok (chosenAt s k)) (m : S
   pub its-operations : upTo operationLimit (m .operations) ≡ countOf operationCount (named s c)
   unfolding operationCount
   its-operations =
-      ap (upTo operationLimit) capped-operations ∙ up-to-cap operationLimit (functionOperations (operationsOf (earlier 8 s k)) (functionOf 8 s k)) ∙ sym (ap (countOf operationCount) e)
+      ap (upTo operationLimit) capped-operations ∙ up-to-cap operationLimit (functionOperations (operationsOf (before s k)) (functionIn s k)) ∙ sym (ap (countOf operationCount) e)
 
   pub its-words : upTo wordLimit (m .words) ≡ countOf wordCount (named s c)
   unfolding wordCount
-  its-words = ap (upTo wordLimit) capped-words ∙ up-to-cap wordLimit (functionWords (earlier 8 s k) (functionOf 8 s k)) ∙ sym (ap (countOf wordCount) e)
+  its-words = ap (upTo wordLimit) capped-words ∙ up-to-cap wordLimit (functionWords (before s k) (functionIn s k)) ∙ sym (ap (countOf wordCount) e)

@@ -18,7 +18,8 @@ use Rattle.sums.specs.declared.Sizes.{Sizes}
 use Rattle.sums.specs.Position.{functionIn, before}
 use Rattle.sums.specs.Capped.{wordsAt}
 use Rattle.sums.proofs.Accepted.{sound-below}
-use Rattle.sums.proofs.CodeSizes.{function-instructions, function-operations}
+use Rattle.sums.proofs.CodeSizes.{function-instructions}
+use Rattle.sums.proofs.CodeLimits.{function-operations}
 use Rattle.compiler.specs.Whole as compiler
 use Rattle.quetlapin.specs.Measures.{chosenAt, exactSizes, ReadyAt}
 

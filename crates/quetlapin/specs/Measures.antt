@@ -13,10 +13,10 @@ use Rattle.graph.specs.Judge.{table}
 use Rattle.graph.specs.Sums.{functionOperations, operationsOf, functionWords}
 use Rattle.graph.specs.Table.{Chosen, chosen}
 use Rattle.lowering.specs.Answers.{codeOf, compilable}
-use Rattle.reader.specs.Layout.{functionOf, earlier}
+use Rattle.reader.specs.Find.{Started}
 use Rattle.sums.specs.declared.Sizes.{Sizes}
 use Rattle.sums.specs.CodeSums.{functionInstructions, instructionsOf}
-use Rattle.sums.specs.Position.{Starts, Accepted}
+use Rattle.sums.specs.Position.{functionIn, before, Accepted}
 use Rattle.sums.specs.Capped.{WordsHeld}
 use Rattle.sums.specs.Answers as sums
 use Rattle.quetlapin.specs.declared.Found.{Found}
@@ -33,7 +33,7 @@ named s c = do
 
 -- the function at position k, and those before it
 abbrev pub chosenAt : List ℕ → ℕ → Chosen
-chosenAt s k = record { function = functionOf 8 s k; early = earlier 8 s k }
+chosenAt s k = record { function = functionIn s k; early = before s k }
 
 -- its sizes, where it is within the limits
 unfoldable pub exactSizes : Chosen → Sizes
@@ -55,7 +55,7 @@ pub record FoundAt (s : List ℕ) (c : ℕ) (starts words : List ℕ) (k : ℕ) 
   pub accepted : Accepted s (suc k)
   pub named : named s c ≡ ok (chosenAt s k)
   pub sizes : sums.Measures s k m
-  pub places : Starts s starts (suc k)
+  pub places : Started s starts (suc k)
   pub held : WordsHeld s words (suc k)
 
 abbrev pub Finds : List ℕ → ℕ → List ℕ → List ℕ → Found → Type 0

@@ -37,7 +37,7 @@ fn find_accepted(
     table: &[u8],
     count: usize,
     id: u16,
-    starts: &mut [u16; FUNCTION_LIMIT],
+    starts: &mut [usize; FUNCTION_LIMIT],
     words: &mut [u32; FUNCTION_LIMIT],
 ) -> Found
     requires { ⌜ (verdict (now table) ≡ ok count) × (length (now starts) ≡ functionLimit) × (length (now words) ≡ functionLimit) ⌝ }
@@ -55,7 +55,7 @@ fn find_accepted(
 fn find(
     table: &[u8],
     id: u16,
-    starts: &mut [u16; FUNCTION_LIMIT],
+    starts: &mut [usize; FUNCTION_LIMIT],
     words: &mut [u32; FUNCTION_LIMIT],
 ) -> Found
     requires { ⌜ (length (now starts) ≡ functionLimit) × (length (now words) ≡ functionLimit) ⌝ }
@@ -72,7 +72,7 @@ fn find(
 fn find_compilable(
     table: &[u8],
     id: u16,
-    starts: &mut [u16; FUNCTION_LIMIT],
+    starts: &mut [usize; FUNCTION_LIMIT],
     words: &mut [u32; FUNCTION_LIMIT],
 ) -> Found
     requires { ⌜ (length (now starts) ≡ functionLimit) × (length (now words) ≡ functionLimit) ⌝ }
@@ -105,7 +105,7 @@ pub enum Measured {
 pub fn measure(table: &[u8], id: u16) -> Measured
     ensures { λ r. ⌜ r ≡ measuredOf (compilable (now (table .entry)) id) ⌝ }
 {
-    let mut starts = [0u16; FUNCTION_LIMIT];
+    let mut starts = [0usize; FUNCTION_LIMIT];
     let mut words = [0u32; FUNCTION_LIMIT];
     let found = find_compilable(table, id, &mut starts, &mut words);
     match found {
@@ -135,7 +135,7 @@ fn up_to(limit: usize, n: usize) -> Count
 pub fn operations(table: &[u8], id: u16) -> Count
     ensures { λ r. ⌜ r ≡ countOf operationCount (named (now (table .entry)) id) ⌝ }
 {
-    let mut starts = [0u16; FUNCTION_LIMIT];
+    let mut starts = [0usize; FUNCTION_LIMIT];
     let mut words = [0u32; FUNCTION_LIMIT];
     let found = find(table, id, &mut starts, &mut words);
     match found {
@@ -148,7 +148,7 @@ pub fn operations(table: &[u8], id: u16) -> Count
 pub fn words(table: &[u8], id: u16) -> Count
     ensures { λ r. ⌜ r ≡ countOf wordCount (named (now (table .entry)) id) ⌝ }
 {
-    let mut starts = [0u16; FUNCTION_LIMIT];
+    let mut starts = [0usize; FUNCTION_LIMIT];
     let mut words = [0u32; FUNCTION_LIMIT];
     let found = find(table, id, &mut starts, &mut words);
     match found {
@@ -161,7 +161,7 @@ pub fn words(table: &[u8], id: u16) -> Count
 pub fn code_length(table: &[u8], id: u16) -> Count
     ensures { λ r. ⌜ r ≡ countOf codeCount (named (now (table .entry)) id) ⌝ }
 {
-    let mut starts = [0u16; FUNCTION_LIMIT];
+    let mut starts = [0usize; FUNCTION_LIMIT];
     let mut words = [0u32; FUNCTION_LIMIT];
     let found = find(table, id, &mut starts, &mut words);
     match found {
@@ -189,7 +189,7 @@ pub fn compile(table: &[u8], id: u16, code: &mut [u8]) -> Compiled
     ensures { λ r. ⌜ r ≡ compiling.answerOf (compiled (now (table .entry)) id (now (code .entry))) ⌝ }
     ensures { λ r. ⌜ now (code .exit) ≡ compiling.codeAfter (now (code .entry)) (compiled (now (table .entry)) id (now (code .entry))) ⌝ }
 {
-    let mut starts = [0u16; FUNCTION_LIMIT];
+    let mut starts = [0usize; FUNCTION_LIMIT];
     let mut words = [0u32; FUNCTION_LIMIT];
     let found = find_compilable(table, id, &mut starts, &mut words);
     match found {
@@ -237,7 +237,7 @@ pub fn evaluate(
     ensures { λ r. ⌜ Demand3 (λ n. r ≡ Done n) (now (table .entry)) id (now (arguments .entry)) (now (code .entry)) (now (work .entry)) (now (out .entry))
         (now (code .exit)) (now (work .exit)) (now (out .exit)) ⌝ }
 {
-    let mut starts = [0u16; FUNCTION_LIMIT];
+    let mut starts = [0usize; FUNCTION_LIMIT];
     let mut words = [0u32; FUNCTION_LIMIT];
     let found = find_compilable(table, id, &mut starts, &mut words);
     match found {

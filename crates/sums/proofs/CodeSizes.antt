@@ -1,5 +1,5 @@
 -- The sums over a function's nodes are the sizes of its code.
-use Prim.Native.Nat.{ℕ, zero, suc, _+_, _*_, _≤_}
+use Prim.Native.Nat.{ℕ, _+_, _*_}
 use mathlib.Core.Path.{_≡_, refl, ap, sym, _∙_}
 use mathlib.Core.Bool.{Bool, true, false, cond}
 use mathlib.Core.List.{List, [], _∷_, _++_, map, append-assoc}
@@ -15,7 +15,7 @@ use Rattle.ports.proofs.Laws.{length-takes}
 use Rattle.graph.specs.Graph.{Ref, Payload, consts, refs, calls, Node, Function}
 use Rattle.graph.specs.Types.{outputTypes}
 use Rattle.graph.specs.Schedule.{schedule}
-use Rattle.graph.specs.Sums.{sum, nodeOperations, functionOperations, operationsOf}
+use Rattle.graph.specs.Sums.{sum}
 use Rattle.base.specs.Lists.{Is}
 use Rattle.graph.specs.Formed.{FormedPayload, FormedNode}
 use Rattle.graph.specs.Sound.{Shaped, Sound, AllSound}
@@ -28,20 +28,38 @@ use Rattle.bytecode.specs.Code.{instructionCode, instructionsCode, headerCode, 
 use Rattle.lowering.proofs.Limits.{output-words}
 use Rattle.sums.specs.CodeSums.{nodeInstructions, nodeBytes, functionInstructions, functionBytes, instructionsOf, bytesOfFunction}
 
+-- ---- sums in which a call adds its callee's
+
+pub record Counted (add : (ℕ → ℕ) → Node → ℕ) (of : List Function → ℕ → ℕ) : Type 0 where
+  pub none : (c : ℕ) → of [] c ≡ 0
+  pub one : (f : Function) (early : List Function) (c : ℕ) → of (f ∷ early) c ≡ cond (eqb (f .id) c) (sum (add (of early)) (f .nodes)) (of early c)
+
+pub instructions-counted : Counted (λ callee n. nodeInstructions callee (n .payload)) instructionsOf
+unfolding instructionsOf
+instructions-counted = record { none = λ c. refl; one = λ f early c. refl }
+
+pub bytes-counted : Counted (λ callee n. nodeBytes callee n (n .payload)) bytesOfFunction
+unfolding bytesOfFunction
+bytes-counted = record { none = λ c. refl; one = λ f early c. refl }
+
 -- ---- a measure of code
 
 -- a number of the code that adds up
-pub record Measure (size : List Instruction → ℕ) : Type 0 where
+record Measure (size : List Instruction → ℕ) : Type 0 where
   pub empty : size [] ≡ 0
   pub append : (is js : List Instruction) → size (is ++ js) ≡ size is + size js
 
 -- the size of a node's code, wherever it is inlined
-abbrev pub NodeSize : (List Instruction → ℕ) → Inline → (Node → ℕ) → Node → Type 0
+abbrev NodeSize : (List Instruction → ℕ) → Inline → (Node → ℕ) → Node → Type 0
 NodeSize size go weight n = (from : Ref → ℕ) (next : ℕ) → size (inlineNode go from next n (n .payload) .code) ≡ weight n
+
+-- the size of the function of an id
+abbrev Sizes : (List Instruction → ℕ) → Inline → (ℕ → ℕ) → Type 0
+Sizes size go of = (c : ℕ) (ins : List ℕ) (next : ℕ) → size (go c ins next .code) ≡ of c
 
 module _ (size : List Instruction → ℕ) (measure : Measure size) (go : Inline) (weight : Node → ℕ) (ins : List ℕ) where
   -- the nodes' sizes add up
-  pub nodes-measure : (ns : List Node) → ((n : Node) → Is n ns → NodeSize size go weight n) → (written : List Written) (next : ℕ)
+  nodes-measure : (ns : List Node) → ((n : Node) → Is n ns → NodeSize size go weight n) → (written : List Written) (next : ℕ)
       → size (inlineNodes go ins ns written next .code) ≡ sum weight ns
   nodes-measure [] h written next = measure .empty
   nodes-measure (n ∷ ns) h written next =
@@ -51,83 +69,43 @@ module _ (size : List Instruction → ℕ) (measure : Measure size) (go : Inline
       let y : size (b .code) ≡ sum weight ns = nodes-measure ns (λ m i. h m (inr i)) (also n o written) (o .next) in
       measure .append (o .code) (b .code) ∙ omega arith
 
+module _ (size : List Instruction → ℕ) (measure : Measure size) (add : (ℕ → ℕ) → Node → ℕ) (of : List Function → ℕ → ℕ) (counted : Counted add of)
+    (node : (early : List Function) (f : Function) → Sound early f → Sizes size (inlined early) (of early) → (n : Node) → Is n (f .nodes) → NodeSize size (inlined early) (add (of early)) n) where
   -- a sound function's size is the sum over its nodes
-  pub function-measure : (early : List Function) (f : Function) → Sound early f → ((n : Node) → Is n (f .nodes) → NodeSize size go weight n) → (next : ℕ)
-      → size (inlineFunction go f ins next .code) ≡ sum weight (f .nodes)
-  function-measure early f sound h next =
-      nodes-measure (schedule (f .nodes)) (λ n i. h n (schedule-within (f .nodes) n i)) [] next ∙ scheduled early f sound .total weight
+  function-by : (early : List Function) (f : Function) → Sound early f → Sizes size (inlined early) (of early) → (ins : List ℕ) (next : ℕ)
+      → size (inlineFunction (inlined early) f ins next .code) ≡ sum (add (of early)) (f .nodes)
+  function-by early f sound h ins next =
+      nodes-measure size measure (inlined early) (add (of early)) ins (schedule (f .nodes)) (λ n i. node early f sound h n (schedule-within (f .nodes) n i)) [] next
+      ∙ scheduled early f sound .total (add (of early))
+
+  inlined-size : (early : List Function) → AllSound early → Sizes size (inlined early) (of early)
+  unfolding inlined
+  inlined-size [] sound c ins next = measure .empty ∙ sym (counted .none c)
+  inlined-size (f ∷ early) (s, sound) c ins next = pickOne (eqb (f .id) c) (inlined-size early sound) ∙ sym (counted .one f early c)
+    where
+      pickOne : (b : Bool) → Sizes size (inlined early) (of early)
+          → size (cond b (inlineFunction (inlined early) f ins next) (inlined early c ins next) .code) ≡ cond b (sum (add (of early)) (f .nodes)) (of early c)
+      pickOne true h = function-by early f s h ins next
+      pickOne false h = h c ins next
+
+  function-size : (early : List Function) (f : Function) → AllSound (f ∷ early) → (ins : List ℕ) (next : ℕ)
+      → size (inlineFunction (inlined early) f ins next .code) ≡ sum (add (of early)) (f .nodes)
+  function-size early f (s, sound) ins next = function-by early f s (inlined-size early sound) ins next
 
 -- ---- instructions
 
--- the number of instructions adds up
-pub counts : Measure length
-counts = record { empty = refl; append = length-append }
-
--- a node's instructions
-pub node-instructions : (go : Inline) (callee : ℕ → ℕ) → ((c : ℕ) (ins : List ℕ) (next : ℕ) → length (go c ins next .code) ≡ callee c)
+node-instructions : (go : Inline) (callee : ℕ → ℕ) → Sizes length go callee
     → (from : Ref → ℕ) (next : ℕ) (n : Node) (p : Payload) → length (inlineNode go from next n p .code) ≡ nodeInstructions callee p
 node-instructions go callee h from next n (consts ws) = refl
 node-instructions go callee h from next n (refs rs) = refl
 node-instructions go callee h from next n (calls c rs) = h c (map from rs) next
 
-function-instructions-by : (early : List Function) (f : Function) → Sound early f
-    → ((c : ℕ) (ins : List ℕ) (next : ℕ) → length (inlined early c ins next .code) ≡ instructionsOf early c) → (ins : List ℕ) (next : ℕ)
-    → length (inlineFunction (inlined early) f ins next .code) ≡ functionInstructions (instructionsOf early) f
-function-instructions-by early f sound h ins next =
-    function-measure length counts (inlined early) (λ n. nodeInstructions (instructionsOf early) (n .payload)) ins early f sound
-    (λ n i from next. node-instructions (inlined early) (instructionsOf early) h from next n (n .payload)) next
-
--- the instructions of the function of an id
-pub inlined-instructions : (early : List Function) → AllSound early → (c : ℕ) (ins : List ℕ) (next : ℕ) → length (inlined early c ins next .code) ≡ instructionsOf early c
-unfolding inlined instructionsOf
-inlined-instructions [] sound c ins next = refl
-inlined-instructions (f ∷ early) (s, sound) c ins next = pickOne (eqb (f .id) c) (inlined-instructions early sound)
-  where
-    pickOne : (b : Bool) → ((c : ℕ) (ins : List ℕ) (next : ℕ) → length (inlined early c ins next .code) ≡ instructionsOf early c)
-        → length (cond b (inlineFunction (inlined early) f ins next) (inlined early c ins next) .code)
-        ≡ cond b (functionInstructions (instructionsOf early) f) (instructionsOf early c)
-    pickOne true h = function-instructions-by early f s h ins next
-    pickOne false h = h c ins next
-
 -- the instructions of a function over those before it
 pub function-instructions : (early : List Function) (f : Function) → AllSound (f ∷ early) → (ins : List ℕ) (next : ℕ)
     → length (inlineFunction (inlined early) f ins next .code) ≡ functionInstructions (instructionsOf early) f
-function-instructions early f (s, sound) ins next = function-instructions-by early f s (inlined-instructions early sound) ins next
-
--- ---- they are at most the operations
-
-node-operations : (a b : ℕ → ℕ) → ((c : ℕ) → a c ≤ b c) → (p : Payload) → nodeInstructions a p ≤ nodeOperations b p
-node-operations a b h (consts ws) = omega arith
-node-operations a b h (refs rs) = omega arith
-node-operations a b h (calls c rs) = let l = h c in omega arith
-
-nodes-operations : (a b : ℕ → ℕ) → ((c : ℕ) → a c ≤ b c) → (ns : List Node)
-    → sum (λ n. nodeInstructions a (n .payload)) ns ≤ sum (λ n. nodeOperations b (n .payload)) ns
-nodes-operations a b h [] = omega arith
-nodes-operations a b h (n ∷ ns) =
-    let x : nodeInstructions a (n .payload) ≤ nodeOperations b (n .payload) = node-operations a b h (n .payload) in
-    let y : sum (λ n. nodeInstructions a (n .payload)) ns ≤ sum (λ n. nodeOperations b (n .payload)) ns = nodes-operations a b h ns in
-    omega arith
-
--- the instructions of the function of an id are at most its operations
-pub instructions-operations : (early : List Function) (c : ℕ) → instructionsOf early c ≤ operationsOf early c
-unfolding instructionsOf operationsOf
-instructions-operations [] c = omega arith
-instructions-operations (f ∷ early) c = pickOne (eqb (f .id) c) (instructions-operations early)
-  where
-    pickOne : (b : Bool) → ((c : ℕ) → instructionsOf early c ≤ operationsOf early c)
-        → cond b (functionInstructions (instructionsOf early) f) (instructionsOf early c) ≤ cond b (functionOperations (operationsOf early) f) (operationsOf early c)
-    pickOne true h = nodes-operations (instructionsOf early) (operationsOf early) h (f .nodes)
-    pickOne false h = h c
-
--- the same of a function over those before it
-pub function-operations : (early : List Function) (f : Function) → functionInstructions (instructionsOf early) f ≤ functionOperations (operationsOf early) f
-function-operations early f = nodes-operations (instructionsOf early) (operationsOf early) (instructions-operations early) (f .nodes)
-
--- within the limit of operations
-pub instructions-limit : (early : List Function) (f : Function) (limit : ℕ) → functionOperations (operationsOf early) f ≤ limit
-    → functionInstructions (instructionsOf early) f ≤ limit
-instructions-limit early f limit l = let h = function-operations early f in omega arith
+function-instructions =
+    function-size length (record { empty = refl; append = length-append }) (λ callee n. nodeInstructions callee (n .payload)) instructionsOf instructions-counted
+    (λ early f sound h n i from next. node-instructions (inlined early) (instructionsOf early) h from next n (n .payload))
 
 -- ---- bytes
 
@@ -137,18 +115,18 @@ code-append [] js = refl
 code-append (i ∷ is) js =
     ap (λ (xs : List ℕ). instructionCode i ++ xs) (code-append is js) ∙ sym (append-assoc (instructionCode i) (instructionsCode is) (instructionsCode js))
 
-abbrev pub instructionBytes : List Instruction → ℕ
+abbrev instructionBytes : List Instruction → ℕ
 instructionBytes is = length (instructionsCode is)
 
 -- the number of bytes adds up
-pub code-lengths : Measure instructionBytes
+code-lengths : Measure instructionBytes
 code-lengths = record {
   empty = refl;
   append = λ is js. ap length (code-append is js) ∙ length-append (instructionsCode is) (instructionsCode js);
 }
 
 -- the bytes of a node's own instruction, by its operands and constants
-pub single-length : (n : Node) (operands constants : List ℕ) (next : ℕ) → instructionBytes (single n operands constants next .code) ≡ 2 + 2 * length operands + 8 * length constants
+single-length : (n : Node) (operands constants : List ℕ) (next : ℕ) → instructionBytes (single n operands constants next .code) ≡ 2 + 2 * length operands + 8 * length constants
 single-length n operands constants next =
     let i : Instruction = record { kind = n .kind; type = n .type; operands = operands; constants = constants; result = next } in
     let a : length (instructionCode i ++ []) ≡ length (instructionCode i) + 0 = length-append (instructionCode i) [] in
@@ -156,7 +134,7 @@ single-length n operands constants next =
     omega arith
 
 -- a node's bytes: its own instruction has 2, and 2 for each operand and 8 for each word of a constant
-pub node-bytes : (early : List Function) (go : Inline) (callee : ℕ → ℕ) → ((c : ℕ) (ins : List ℕ) (next : ℕ) → instructionBytes (go c ins next .code) ≡ callee c)
+node-bytes : (early : List Function) (go : Inline) (callee : ℕ → ℕ) → Sizes instructionBytes go callee
     → (from : Ref → ℕ) (next : ℕ) (n : Node) (p : Payload) → FormedPayload (kindOf (n .kind)) p → Shaped early n p
     → instructionBytes (inlineNode go from next n p .code) ≡ nodeBytes callee n p
 node-bytes early go callee h from next n (consts ws) (form, l, t, u) shape =
@@ -173,32 +151,14 @@ node-bytes early go callee h from next n (refs rs) (form, l) shape =
     single-length n (map from rs) [] next ∙ omega arith
 node-bytes early go callee h from next n (calls c rs) formed shape = h c (map from rs) next
 
-function-bytes-by : (early : List Function) (f : Function) → Sound early f
-    → ((c : ℕ) (ins : List ℕ) (next : ℕ) → instructionBytes (inlined early c ins next .code) ≡ bytesOfFunction early c) → (ins : List ℕ) (next : ℕ)
+-- the bytes of a function over those before it
+function-bytes : (early : List Function) (f : Function) → AllSound (f ∷ early) → (ins : List ℕ) (next : ℕ)
     → instructionBytes (inlineFunction (inlined early) f ins next .code) ≡ functionBytes (bytesOfFunction early) f
-function-bytes-by early f sound h ins next =
-    function-measure instructionBytes code-lengths (inlined early) (λ n. nodeBytes (bytesOfFunction early) n (n .payload)) ins early f sound
-    (λ n i from next.
+function-bytes =
+    function-size instructionBytes code-lengths (λ callee n. nodeBytes callee n (n .payload)) bytesOfFunction bytes-counted
+    (λ early f sound h n i from next.
     node-bytes early (inlined early) (bytesOfFunction early) h from next n (n .payload)
     (is-each FormedNode (f .nodes) (sound .resolved .formed .nodes) n i .payload) (sound .resolved .shaped n i))
-    next
-
--- the bytes of the function of an id
-pub inlined-bytes : (early : List Function) → AllSound early → (c : ℕ) (ins : List ℕ) (next : ℕ) → length (instructionsCode (inlined early c ins next .code)) ≡ bytesOfFunction early c
-unfolding inlined bytesOfFunction
-inlined-bytes [] sound c ins next = refl
-inlined-bytes (f ∷ early) (s, sound) c ins next = pickOne (eqb (f .id) c) (inlined-bytes early sound)
-  where
-    pickOne : (b : Bool) → ((c : ℕ) (ins : List ℕ) (next : ℕ) → instructionBytes (inlined early c ins next .code) ≡ bytesOfFunction early c)
-        → instructionBytes (cond b (inlineFunction (inlined early) f ins next) (inlined early c ins next) .code)
-        ≡ cond b (functionBytes (bytesOfFunction early) f) (bytesOfFunction early c)
-    pickOne true h = function-bytes-by early f s h ins next
-    pickOne false h = h c ins next
-
--- the bytes of a function over those before it
-pub function-bytes : (early : List Function) (f : Function) → AllSound (f ∷ early) → (ins : List ℕ) (next : ℕ)
-    → length (instructionsCode (inlineFunction (inlined early) f ins next .code)) ≡ functionBytes (bytesOfFunction early) f
-function-bytes early f (s, sound) ins next = function-bytes-by early f s (inlined-bytes early sound) ins next
 
 -- ---- the whole list
 

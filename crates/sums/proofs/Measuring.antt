@@ -1,11 +1,11 @@
 -- The sizes of a function by its sums.
 use Prim.Native.Nat.{ℕ, suc, _+_, _*_, _≤_, _<_, min}
-use mathlib.Core.Path.{_≡_, refl, sym, ap, _∙_}
+use mathlib.Core.Path.{_≡_, refl, sym, ap, _∙_, subst}
 use mathlib.Core.Bool.{Bool, true, false, _&&_, cond}
 use mathlib.Core.List.{List, _∷_}
 use native.Mathlib.Omega.{arith}
 use lib.Dec.{leb}
-use lib.ListN.{length, getD}
+use lib.ListN.{length}
 use borrow.Author.Tests.{leb-true, leb-false, le-leb, lt-leb}
 use Rattle.base.specs.Limits.{operationLimit, withinLimits, wordLimit}
 use Rattle.ports.specs.Ports.{widths}
@@ -15,12 +15,14 @@ use Rattle.graph.specs.Sums.{functionOperations, operationsOf, functionWords, r
 use Rattle.graph.specs.Sound.{AllSound}
 use Rattle.lowering.specs.Compile.{boardListOf}
 use Rattle.bytecode.specs.Code.{encode}
-use Rattle.reader.specs.Layout.{functionAt, functionPlace, functionOf, earlier}
-use Rattle.sums.specs.declared.Sizes.{Sizes}
+use Rattle.reader.specs.Layout.{functionAt}
+use Rattle.reader.specs.Find.{ReadsFunction}
+use Rattle.sums.specs.declared.Sums.{Sums}
 use Rattle.sums.specs.declared.PortWords.{PortWords}
+use Rattle.sums.specs.Position.{placeOf, functionIn, before}
 use Rattle.sums.specs.CodeSums.{functionInstructions, functionBytes, instructionsOf, bytesOfFunction}
-use Rattle.sums.specs.Capped.{operationCap, wordCap, byteCap, operationsAt, wordsAt, instructionsAt, bytesAt, Summed}
-use Rattle.sums.specs.Answers.{codeLength, PortWordsAt, cappedSizes, sizesOf, Measures, Sized}
+use Rattle.sums.specs.Capped.{operationCap, wordCap, byteCap, operationsAt, wordsAt, instructionsAt, bytesAt, ownSums, capSums, sumsAt, Summed}
+use Rattle.sums.specs.Answers.{codeLength, PortWordsAt, cappedSizes, Measures}
 use Rattle.sums.proofs.CodeSizes.{encode-length}
 use Rattle.sums.proofs.CodeLimits.{bytes-below}
 
@@ -61,56 +63,32 @@ module _ (early : List Function) (f : Function) (sound : AllSound (f ∷ early))
 -- ---- of the function at position k
 
 module _ (s : List ℕ) (k : ℕ) where
-  operations-are : operationsAt s k ≡ functionOperations (operationsOf (earlier 8 s k)) (functionOf 8 s k)
-  unfolding operationsAt
-  operations-are = refl
+  own-are : ownSums s k
+      ≡ record {
+        operations = functionOperations (operationsOf (before s k)) (functionIn s k);
+        words = resultWords (resultWordsOf (before s k)) (functionIn s k);
+        instructions = functionInstructions (instructionsOf (before s k)) (functionIn s k);
+        bytes = functionBytes (bytesOfFunction (before s k)) (functionIn s k);
+      }
+  unfolding operationsAt wordsAt instructionsAt bytesAt
+  own-are = refl
 
-  words-are : wordsAt s k ≡ resultWords (resultWordsOf (earlier 8 s k)) (functionOf 8 s k)
-  unfolding wordsAt
-  words-are = refl
-
-  instructions-are : instructionsAt s k ≡ functionInstructions (instructionsOf (earlier 8 s k)) (functionOf 8 s k)
-  unfolding instructionsAt
-  instructions-are = refl
-
-  bytes-are : bytesAt s k ≡ functionBytes (bytesOfFunction (earlier 8 s k)) (functionOf 8 s k)
-  unfolding bytesAt
-  bytes-are = refl
-
-  place-is : functionPlace 8 s k ≡ functionOf 8 s k .place
+  place-is : placeOf s k ≡ functionIn s k .place
   unfolding functionAt
   place-is = refl
 
-  pub measured-at : AllSound (functionOf 8 s k ∷ earlier 8 s k) → (os ws cs bs : List ℕ) → Summed s os ws cs bs k → (p o r w m b c : ℕ) (t : PortWords) → PortWordsAt s p t
-      → p ≡ functionPlace 8 s k → p < 65536 → o ≡ getD os k 0 → r ≡ getD ws k 0 → m ≡ getD cs k 0 → b ≡ getD bs k 0 → w ≡ min wordCap (t .inputs + r)
-      → c ≡ codeLength o w b (t .outputs)
-      → Measures s k (record { place = p; operations = o; words = w; instructions = m; code = c; arguments = t .inputs; outputs = t .outputs })
-  measured-at sound os ws cs bs x p o r w m b c t pw ep near eo er em eb ew ec =
+  pub measured-at : AllSound (functionIn s k ∷ before s k) → ReadsFunction s (placeOf s k) → (os ws cs bs : List ℕ) → Summed s os ws cs bs k → (p w c : ℕ) (x : Sums) (t : PortWords)
+      → p ≡ placeOf s k → x ≡ sumsAt os ws cs bs k → PortWordsAt s p t → w ≡ min wordCap (t .inputs + x .words) → c ≡ codeLength (x .operations) w (x .bytes) (t .outputs)
+      → Measures s k (record { place = p; operations = x .operations; words = w; instructions = x .instructions; code = c; arguments = t .inputs; outputs = t .outputs })
+  measured-at sound reads os ws cs bs h p w c x t ep ex pw ew ec =
+      let e = ex ∙ h ∙ ap capSums own-are in
       record {
         sizes =
-            sizes-are (earlier 8 s k) (functionOf 8 s k) sound p o r w m b c (t .inputs) (t .outputs) (ep ∙ place-is)
-            (eo ∙ x .operations ∙ ap (min operationCap) operations-are) (er ∙ x .words ∙ ap (min wordCap) words-are) (em ∙ x .instructions ∙ ap (min operationCap) instructions-are)
-            (eb ∙ x .bytes ∙ ap (min byteCap) bytes-are) (pw .inputs ∙ ap (λ (q : ℕ). widths (functionAt s q .inputs)) ep)
+            sizes-are (before s k) (functionIn s k) sound p (x .operations) (x .words) w (x .instructions) (x .bytes) c (t .inputs) (t .outputs) (ep ∙ place-is)
+            (ap (λ (y : Sums). y .operations) e) (ap (λ (y : Sums). y .words) e) (ap (λ (y : Sums). y .instructions) e) (ap (λ (y : Sums). y .bytes) e)
+            (pw .inputs ∙ ap (λ (q : ℕ). widths (functionAt s q .inputs)) ep)
             (pw .outputs ∙ ap (λ (q : ℕ). widths (outputTypes (functionAt s q .outputs))) ep) ew ec;
-        near = near;
+        reads = subst (ReadsFunction s) (sym ep) reads;
         arguments = pw .few .0;
         outputs = pw .few .1;
-      }
-
-  -- fact by fact
-  pub sized : (r : Sizes) → Measures s k r → Sized s k r
-  unfolding cappedSizes functionAt
-  sized r h =
-      let e = h .sizes in
-      let operations = functionOperations (operationsOf (earlier 8 s k)) (functionOf 8 s k) in
-      let words = functionWords (earlier 8 s k) (functionOf 8 s k) in
-      record {
-        place = ap (λ (x : Sizes). x .place) e;
-        near = h .near;
-        operations = ap (λ (x : Sizes). x .operations) e;
-        words = ap (λ (x : Sizes). x .words) e;
-        instructions = ap (λ (x : Sizes). x .instructions) e;
-        code = λ q. ap (λ (x : Sizes). x .code) e ∙ ap (λ (b : Bool). cond b (length (encode (boardListOf (earlier 8 s k) (functionOf 8 s k)))) 0) q;
-        arguments = ap (λ (x : Sizes). x .arguments) e;
-        outputs = ap (λ (x : Sizes). x .outputs) e;
       }

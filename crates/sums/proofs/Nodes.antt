@@ -1,5 +1,5 @@
--- A node as the code meets it: its references, the place behind it, the nodes in turn.
-use Prim.Native.Nat.{ℕ, suc, _+_, _-_, _*_, _≤_, _<_, _^_}
+-- A node as the code meets it: its references and the place behind it; the functions in turn.
+use Prim.Native.Nat.{ℕ, suc, _+_, _*_, _≤_, _<_}
 use mathlib.Core.Path.{_≡_, refl, sym, ap, _∙_, subst}
 use mathlib.Core.Bool.{true, false}
 use mathlib.Core.List.{List}
@@ -13,10 +13,11 @@ use Rattle.ports.specs.declared.Ports.{Ports}
 use Rattle.ports.specs.Kinds.{Kind, kindOf}
 use Rattle.ports.specs.Ports.{portsOf, arity, formOf, constantIn, constantWords, calling}
 use Rattle.base.specs.Bytes.{byte, u16}
+use Rattle.graph.specs.Format.{version1}
 use Rattle.graph.specs.Graph.{calls}
 use Rattle.graph.specs.Read.{references}
-use Rattle.reader.specs.Layout.{kindAt, payloadAt, payloadEnd, nodeAt, nodeEnd, nodePlace, nodesPlace, nodeCount, functionEnd, functionPlace}
-use Rattle.sums.specs.Position.{tabulate, placeOf, NodeFit, NodesFit}
+use Rattle.reader.specs.Layout.{kindAt, payloadAt, payloadEnd, nodeAt, nodeEnd, functionEnd, functionPlace}
+use Rattle.sums.specs.Position.{tabulate, placeOf}
 use Rattle.sums.proofs.Rows.{operandsBy, Narrow, narrow}
 use Rattle.sums.proofs.Tabulate.{tabulate-none, tabulate-more}
 
@@ -62,10 +63,6 @@ module _ (s : List ℕ) (p kind : ℕ) (row : Ports) (ek : kind ≡ byte s (p + 
     unfolding nodeAt
     call-payload = ap (λ (f : Form). payloadAt f (kindAt s p) s (p + 4)) called
 
-    pub call-end : (n : ℕ) → n ≡ byte s (p + 4 + 2) → p + 4 + 3 + 3 * n ≡ nodeEnd s p
-    unfolding nodeEnd
-    call-end n e = sym (ap (λ (f : Form). payloadEnd f (kindAt s p) s (p + 4)) called ∙ ap (λ (m : ℕ). p + 4 + 3 + 3 * m) (sym e))
-
   module _ (c : calling (row .form) ≡ false) where
     pub plain-form : calling (formOf (kindAt s p)) ≡ false
     plain-form = ap calling (sym form-is) ∙ c
@@ -80,33 +77,6 @@ module _ (s : List ℕ) (p kind : ℕ) (row : Ports) (ek : kind ≡ byte s (p + 
         let b : w ≡ constantIn (formOf (kindAt s p)) (portsOf (kindAt s p) .words) = ew ∙ ap (λ (r : Ports). constantIn (r .form) (r .words)) row-is in
         rw (a, b) (sym (payload-end s (p + 4) (kindAt s p) (formOf (kindAt s p)) refl plain-form by-form))
 
--- ---- nodes in turn
-
-module _ (s : List ℕ) (at n : ℕ) where
-  -- i of n nodes are passed
-  pub record Passing (q i : ℕ) : Type 0 where
-    pub index : i ≤ n
-    pub near : q < 2 ^ 20
-    pub fit : NodesFit s (n - i) q
-    pub rest : nodePlace s at n ≡ nodePlace s q (n - i)
-
-  pub pass-start : at < 2 ^ 20 → NodesFit s n at → Passing at 0
-  pass-start l h = let z : n - 0 ≡ n = omega arith in record { index = omega arith; near = l; fit = rw z h; rest = rw z }
-
-  pub pass-here : (q i : ℕ) → Passing q i → i < n → NodeFit s q
-  pass-here q i h lt = let e : n - i ≡ suc (n - (i + 1)) = omega arith in let f = h .fit in (rw e at f) .0
-
-  pub pass-step : (q i r : ℕ) → Passing q i → i < n → r ≡ nodeEnd s q → r < 2 ^ 20 → Passing r (i + 1)
-  unfolding nodePlace
-  pass-step q i r h lt er l =
-      let e : n - i ≡ suc (n - (i + 1)) = omega arith in
-      let f = h .fit in
-      record { index = omega arith; near = l; fit = rw er ((rw e at f) .1); rest = h .rest ∙ rw (e, er) }
-
-  pub pass-done : (q i : ℕ) → Passing q i → n ≤ i → q ≡ nodePlace s at n
-  unfolding nodePlace
-  pass-done q i h le = let z : n - i ≡ 0 = omega arith in sym (h .rest ∙ rw z)
-
 -- ---- functions in turn
 
 module _ (s : List ℕ) (n : ℕ) (starts₀ : List ℕ) where
@@ -115,13 +85,12 @@ module _ (s : List ℕ) (n : ℕ) (starts₀ : List ℕ) where
     pub place : p ≡ placeOf s k
     pub starts-are : starts ≡ sets starts₀ 0 (tabulate (placeOf s) k)
 
-  pub start-none : Starting starts₀ 8 0
+  pub start-none : Starting starts₀ (version1 .header) 0
   unfolding functionPlace
   start-none = record { index = omega arith; place = refl; starts-are = sym (tabulate-none (placeOf s) starts₀) }
 
-  pub start-step : (starts : List ℕ) (p k r : ℕ) → Starting starts p k → k < n → r ≡ nodePlace s (nodesPlace s p) (nodeCount s p)
-      → Starting (set starts k p) r (k + 1)
-  unfolding functionPlace functionEnd
+  pub start-step : (starts : List ℕ) (p k r : ℕ) → Starting starts p k → k < n → r ≡ functionEnd s p → Starting (set starts k p) r (k + 1)
+  unfolding functionPlace
   start-step starts p k r h lt er =
       let z : k + 1 ≡ suc k = omega arith in
       record {

@@ -9,7 +9,8 @@ use lib.ListN.{length, getD, set, length-append}
 use lib.Seq.{sets, length-sets, getD-set-same, getD-set-other}
 use borrow.Author.Tests.{eqb-true, eqb-false}
 use Rattle.base.specs.Limits.{functionLimit}
-use Rattle.sums.specs.Position.{tabulate, placeOf, Starts}
+use Rattle.reader.specs.Find.{Started}
+use Rattle.sums.specs.Position.{tabulate, placeOf, AllRead}
 use Rattle.sums.specs.Capped.{AllSummed, cappedOperations, cappedWords, cappedInstructions, cappedBytes}
 use Rattle.base.proofs.Stores.{sets-append}
 
@@ -51,8 +52,12 @@ module _ (f : ℕ → ℕ) where
   tabulated-in xs ys n e l j jl = ap (λ (zs : List ℕ). getD zs j 0) e ∙ tabulated xs n l j jl
 
 -- the places of the functions
-pub starts-in : (s xs ys : List ℕ) (n : ℕ) → ys ≡ sets xs 0 (tabulate (placeOf s) n) → n ≤ length xs → Starts s ys n
-starts-in s = tabulated-in (placeOf s)
+pub starts-in : (s xs ys : List ℕ) (n : ℕ) → ys ≡ sets xs 0 (tabulate (placeOf s) n) → n ≤ length xs → AllRead s n → Started s ys n
+starts-in s xs ys n e l reads = record { places = tabulated-in (placeOf s) xs ys n e l; reads = reads }
+
+-- the first of them
+pub fewer-starts : (s starts : List ℕ) (k j : ℕ) → Started s starts k → j ≤ k → Started s starts j
+fewer-starts s starts k j h l = record { places = λ i b. h .places i (omega arith); reads = λ i b. h .reads i (omega arith) }
 
 -- ---- the sums of the functions
 
@@ -86,9 +91,8 @@ module _ (s os₀ ws₀ cs₀ bs₀ : List ℕ) where
   pub summed-in : (os ws cs bs : List ℕ) (k : ℕ) → SumsIn s os₀ ws₀ cs₀ bs₀ os ws cs bs k → (length os₀ ≡ functionLimit) × (length ws₀ ≡ functionLimit) × (length cs₀ ≡ functionLimit) × (length bs₀ ≡ functionLimit)
       → k ≤ functionLimit → AllSummed s os ws cs bs k
   summed-in os ws cs bs k (eo, ew, ec, eb) (lo, lw, lc, lb) few j l =
-      record {
-        operations = tabulated-in (cappedOperations s) os₀ os k eo (omega arith) j l;
-        words = tabulated-in (cappedWords s) ws₀ ws k ew (omega arith) j l;
-        instructions = tabulated-in (cappedInstructions s) cs₀ cs k ec (omega arith) j l;
-        bytes = tabulated-in (cappedBytes s) bs₀ bs k eb (omega arith) j l;
-      }
+      let fo = tabulated-in (cappedOperations s) os₀ os k eo (omega arith) j l in
+      let fw = tabulated-in (cappedWords s) ws₀ ws k ew (omega arith) j l in
+      let fc = tabulated-in (cappedInstructions s) cs₀ cs k ec (omega arith) j l in
+      let fb = tabulated-in (cappedBytes s) bs₀ bs k eb (omega arith) j l in
+      rw (fo, fw, fc, fb) refl

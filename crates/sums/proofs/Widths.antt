@@ -1,11 +1,11 @@
 -- The words of a function's inputs and outputs, type by type.
 use Prim.Native.Nat.{ℕ, zero, suc, _+_, _-_, _*_, _≤_, _<_}
 use mathlib.Core.Path.{_≡_, refl, ap, _∙_}
-use mathlib.Core.Bool.{Bool, true, false, cond}
 use mathlib.Core.List.{List, _∷_}
 use native.Mathlib.Omega.{arith}
-use lib.Dec.{eqb}
-use Rattle.base.specs.Limits.{portLimit, portWordLimit}
+use lib.ListN.{length}
+use native.Mathlib.Nat.{suc-mul}
+use Rattle.base.specs.Limits.{portWordLimit, valueLimit}
 use Rattle.ports.specs.Ports.{width, widths}
 use Rattle.base.specs.Bytes.{byte}
 use Rattle.graph.specs.Types.{outputTypes}
@@ -46,35 +46,34 @@ port-words s p i n wi wo ei en ew eo li lo =
 
 -- ---- one after another
 
-width-few : (t : ℕ) → width t ≤ 16
-width-few t = by-scalar (eqb t 1) (eqb t 2)
-  where
-    by-scalar : (a b : Bool) → cond a 1 (cond b 3 16) ≤ 16
-    by-scalar true b = omega arith
-    by-scalar false true = omega arith
-    by-scalar false false = omega arith
-
 module _ (s : List ℕ) (p step n : ℕ) where
   pub record Adding (w q i : ℕ) : Type 0 where
     pub index : i ≤ n
-    pub near : q ≤ p + 4 * i
-    pub few : w ≤ 16 * i
+    pub inside : q + (n - i) * step ≤ length s
+    pub few : w ≤ valueLimit * i
     pub total : w + widths (typesBy step (n - i) s q) ≡ widths (typesBy step n s p)
 
-  pub add-start : Adding 0 p 0
-  add-start =
+  pub add-start : p + n * step ≤ length s → Adding 0 p 0
+  add-start l =
       let z : n - 0 ≡ n = omega arith in
-      record { index = omega arith; near = omega arith; few = omega arith; total = rw z (omega arith) }
+      record { index = omega arith; inside = rw z l; few = omega arith; total = rw z (omega arith) }
 
-  pub add-step : (w q i x : ℕ) → Adding w q i → i < n → step ≤ 4 → x ≡ width (byte s q) → Adding (w + x) (q + step) (i + 1)
-  add-step w q i x h lt le e =
+  -- the byte at hand is there
+  pub add-here : (w q i : ℕ) → Adding w q i → i < n → q + step + (n - (i + 1)) * step ≤ length s
+  add-here w q i h l =
+      let z : n - i ≡ suc (n - (i + 1)) = omega arith in
+      let a = h .inside in
+      let b : q + suc (n - (i + 1)) * step ≤ length s = rw z at a in
+      let c : suc (n - (i + 1)) * step ≡ (n - (i + 1)) * step + step = suc-mul (n - (i + 1)) step in
+      omega arith
+
+  pub add-step : (w q i x : ℕ) → Adding w q i → i < n → x ≡ width (byte s q) → x ≤ valueLimit → Adding (w + x) (q + step) (i + 1)
+  add-step w q i x h l e m =
       let z : n - i ≡ suc (n - (i + 1)) = omega arith in
       let t = h .total in
       let u : w + (width (byte s q) + widths (typesBy step (n - (i + 1)) s (q + step))) ≡ widths (typesBy step n s p) = rw z at t in
-      let m : width (byte s q) ≤ 16 = width-few (byte s q) in
-      let near = h .near in
       let few = h .few in
-      record { index = omega arith; near = omega arith; few = omega arith; total = omega arith }
+      record { index = omega arith; inside = add-here w q i h l; few = omega arith; total = omega arith }
 
   pub add-done : (w q i : ℕ) → Adding w q i → n ≤ i → w ≡ widths (typesBy step n s p)
   add-done w q i h le =
@@ -82,6 +81,3 @@ module _ (s : List ℕ) (p step n : ℕ) where
       let t = h .total in
       let u : w + 0 ≡ widths (typesBy step n s p) = rw z at t in
       omega arith
-
-  pub width-room : (w q i x : ℕ) → Adding w q i → i < n → n ≤ portLimit → x ≡ width (byte s q) → w + x < 65536
-  width-room w q i x h lt l e = let m : width (byte s q) ≤ 16 = width-few (byte s q) in let few = h .few in omega arith

@@ -1,24 +1,22 @@
 -- The sizes of a function, and what is answered of them.
-use Prim.Native.Nat.{ℕ, zero, suc, _+_, _*_, _<_, min, _≤_}
+use Prim.Native.Nat.{ℕ, zero, suc, _+_, _*_, min, _≤_}
 use mathlib.Core.Path.{_≡_}
-use mathlib.Core.Bool.{true, cond}
+use mathlib.Core.Bool.{cond}
 use mathlib.Core.List.{List, [], _∷_}
-use lib.Dec.{leb}
 use lib.ListN.{length}
 use Rattle.ports.specs.Ports.{widths}
 use Rattle.base.specs.Bytes.{byte}
 use Rattle.graph.specs.Graph.{Function}
-use Rattle.base.specs.Outcome.{Outcome, ok, fault, _>>=_, orElse}
 use Rattle.graph.specs.Types.{outputTypes}
-use Rattle.graph.specs.Judge.{table, verdict}
+use Rattle.graph.specs.Judge.{table}
 use Rattle.graph.specs.Sums.{functionOperations, operationsOf, functionWords}
-use Rattle.graph.specs.Table.{Chosen, chosen}
-use Rattle.lowering.specs.Answers.{codeOf}
 use Rattle.lowering.specs.Compile.{boardListOf}
 use Rattle.base.specs.Limits.{portWordLimit, withinLimits}
 use Rattle.bytecode.specs.Code.{encode}
-use Rattle.reader.specs.Layout.{functionAt, functionPlace, functionOf, earlier}
+use Rattle.reader.specs.Layout.{functionAt}
+use Rattle.reader.specs.Find.{ReadsFunction}
 use Rattle.sums.specs.CodeSums.{functionInstructions, instructionsOf}
+use Rattle.sums.specs.Position.{functionIn, before}
 use Rattle.sums.specs.Capped.{operationCap, wordCap}
 use Rattle.sums.specs.declared.PortWords.{PortWords}
 use Rattle.sums.specs.declared.Sizes.{Sizes}
@@ -57,23 +55,11 @@ cappedSizes early f =
 
 -- of the function at position k of a table
 abbrev pub sizesOf : List ℕ → ℕ → Sizes
-sizesOf s k = cappedSizes (earlier 8 s k) (functionOf 8 s k)
+sizesOf s k = cappedSizes (before s k) (functionIn s k)
 
 -- and what bounds them
 pub record Measures (s : List ℕ) (k : ℕ) (r : Sizes) : Type 0 where
   pub sizes : r ≡ sizesOf s k
-  pub near : r .place < 65536
+  pub reads : ReadsFunction s (r .place)
   pub arguments : r .arguments ≤ portWordLimit
   pub outputs : r .outputs ≤ portWordLimit
-
--- the same fact by fact
-pub record Sized (s : List ℕ) (k : ℕ) (r : Sizes) : Type 0 where
-  pub place : r .place ≡ functionPlace 8 s k
-  pub near : r .place < 65536
-  pub operations : r .operations ≡ min operationCap (functionOperations (operationsOf (earlier 8 s k)) (functionOf 8 s k))
-  pub words : r .words ≡ min wordCap (functionWords (earlier 8 s k) (functionOf 8 s k))
-  pub instructions : r .instructions ≡ min operationCap (functionInstructions (instructionsOf (earlier 8 s k)) (functionOf 8 s k))
-  pub code : withinLimits (functionOperations (operationsOf (earlier 8 s k)) (functionOf 8 s k)) (functionWords (earlier 8 s k) (functionOf 8 s k)) ≡ true
-      → r .code ≡ length (encode (boardListOf (earlier 8 s k) (functionOf 8 s k)))
-  pub arguments : r .arguments ≡ widths (functionOf 8 s k .inputs)
-  pub outputs : r .outputs ≡ widths (outputTypes (functionOf 8 s k .outputs))

@@ -1,11 +1,14 @@
 -- The sums of a function by its position, capped.
-use Prim.Native.Nat.{ℕ, _+_, _≤_, _<_, min}
+use Prim.Native.Nat.{ℕ, _+_, _*_, _≤_, _<_, min}
 use mathlib.Core.Path.{_≡_}
 use mathlib.Core.List.{List}
 use lib.ListN.{getD}
 use Rattle.base.specs.Limits.{codeLimit, operationLimit, wordLimit}
+use Rattle.ports.specs.declared.Ports.{Ports}
+use Rattle.ports.specs.Ports as PortList
+use Rattle.ports.specs.Ports.{constantIn}
 use Rattle.graph.specs.Graph.{Node}
-use Rattle.graph.specs.Sums.{nodeOperations, functionOperations, operationsOf, nodeWords, resultWords, resultWordsOf}
+use Rattle.graph.specs.Sums.{sum, nodeOperations, functionOperations, operationsOf, nodeWords, resultWords, resultWordsOf}
 use Rattle.sums.specs.CodeSums.{nodeInstructions, nodeBytes, functionInstructions, functionBytes, instructionsOf, bytesOfFunction}
 use Rattle.sums.specs.Position.{functionIn, before}
 use Rattle.sums.specs.declared.Sums.{Sums}
@@ -33,7 +36,74 @@ instructionsAt s k = functionInstructions (instructionsOf (before s k)) (functio
 unfoldable pub bytesAt : List ℕ → ℕ → ℕ
 bytesAt s k = functionBytes (bytesOfFunction (before s k)) (functionIn s k)
 
--- the same, capped
+abbrev pub ownSums : List ℕ → ℕ → Sums
+ownSums s k = record { operations = operationsAt s k; words = wordsAt s k; instructions = instructionsAt s k; bytes = bytesAt s k }
+
+-- what a node adds to the sums of the function at position k
+abbrev pub addsWords : List ℕ → ℕ → Node → ℕ
+addsWords s k n = nodeWords (resultWordsOf (before s k)) n (n .payload)
+
+abbrev pub addsSums : List ℕ → ℕ → Node → Sums
+addsSums s k n =
+    record {
+      operations = nodeOperations (operationsOf (before s k)) (n .payload);
+      words = addsWords s k n;
+      instructions = nodeInstructions (instructionsOf (before s k)) (n .payload);
+      bytes = nodeBytes (bytesOfFunction (before s k)) n (n .payload);
+    }
+
+-- ---- as they are taken
+
+abbrev pub noSums : Sums
+noSums = record { operations = 0; words = 0; instructions = 0; bytes = 0 }
+
+abbrev pub both : Sums → Sums → Sums
+both a b =
+    record {
+      operations = a .operations + b .operations;
+      words = a .words + b .words;
+      instructions = a .instructions + b .instructions;
+      bytes = a .bytes + b .bytes;
+    }
+
+abbrev pub capSums : Sums → Sums
+capSums x =
+    record {
+      operations = min operationCap (x .operations);
+      words = min wordCap (x .words);
+      instructions = min operationCap (x .instructions);
+      bytes = min byteCap (x .bytes);
+    }
+
+abbrev pub Small : Sums → Type 0
+Small r = (r .operations ≤ byteCap) × (r .words ≤ byteCap) × (r .instructions ≤ byteCap) × (r .bytes ≤ byteCap)
+
+-- what some nodes add
+abbrev pub nodesSums : List ℕ → ℕ → List Node → Sums
+nodesSums s k ns =
+    record {
+      operations = sum (λ n. addsSums s k n .operations) ns;
+      words = sum (addsWords s k) ns;
+      instructions = sum (λ n. addsSums s k n .instructions) ns;
+      bytes = sum (λ n. addsSums s k n .bytes) ns;
+    }
+
+-- what a call adds, whose callee has these
+abbrev pub callSums : Sums → Sums
+callSums x = record { operations = 1 + x .operations; words = x .words; instructions = x .instructions; bytes = x .bytes }
+
+-- what any other node adds, by its kind's row and its type byte
+abbrev pub plainSums : Ports → ℕ → Sums
+plainSums row ty =
+    record { operations = 1; words = PortList.resultWords row ty; instructions = 1; bytes = 2 + 2 * row .operands + 8 * constantIn (row .form) (row .words) }
+
+-- the numbers are what a node adds, or both are at the cap or above it
+pub record Caps (s : List ℕ) (k : ℕ) (n : Node) (r : Sums) : Type 0 where
+  pub same : capSums r ≡ capSums (addsSums s k n)
+  pub small : Small r
+
+-- ---- in the arrays
+
 abbrev pub cappedOperations : List ℕ → ℕ → ℕ
 cappedOperations s k = min operationCap (operationsAt s k)
 
@@ -46,37 +116,17 @@ cappedInstructions s k = min operationCap (instructionsAt s k)
 abbrev pub cappedBytes : List ℕ → ℕ → ℕ
 cappedBytes s k = min byteCap (bytesAt s k)
 
--- what a node adds to the sums of the function at position k
-abbrev pub addsOperations : List ℕ → ℕ → Node → ℕ
-addsOperations s k n = nodeOperations (operationsOf (before s k)) (n .payload)
+-- those that stand at j
+abbrev pub sumsAt : List ℕ → List ℕ → List ℕ → List ℕ → ℕ → Sums
+sumsAt os ws cs bs j = record { operations = getD os j 0; words = getD ws j 0; instructions = getD cs j 0; bytes = getD bs j 0 }
 
-abbrev pub addsWords : List ℕ → ℕ → Node → ℕ
-addsWords s k n = nodeWords (resultWordsOf (before s k)) n (n .payload)
+-- they are those of the function at position j
+abbrev pub Summed : List ℕ → List ℕ → List ℕ → List ℕ → List ℕ → ℕ → Type 0
+Summed s os ws cs bs j = sumsAt os ws cs bs j ≡ capSums (ownSums s j)
 
-abbrev pub addsInstructions : List ℕ → ℕ → Node → ℕ
-addsInstructions s k n = nodeInstructions (instructionsOf (before s k)) (n .payload)
-
-abbrev pub addsBytes : List ℕ → ℕ → Node → ℕ
-addsBytes s k n = nodeBytes (bytesOfFunction (before s k)) n (n .payload)
-
--- the numbers have their sums' values, or both are at the cap or above it
-pub record Caps (s : List ℕ) (k : ℕ) (n : Node) (r : Sums) : Type 0 where
-  pub operations : min operationCap (r .operations) ≡ min operationCap (addsOperations s k n)
-  pub words : min wordCap (r .words) ≡ min wordCap (addsWords s k n)
-  pub instructions : min operationCap (r .instructions) ≡ min operationCap (addsInstructions s k n)
-  pub bytes : min byteCap (r .bytes) ≡ min byteCap (addsBytes s k n)
-  pub small : (r .operations ≤ byteCap) × (r .words ≤ byteCap) × (r .instructions ≤ byteCap) × (r .bytes ≤ byteCap)
-
--- the arrays hold the sums of the function at position j
-pub record Summed (s os ws cs bs : List ℕ) (j : ℕ) : Type 0 where
-  pub operations : getD os j 0 ≡ cappedOperations s j
-  pub words : getD ws j 0 ≡ cappedWords s j
-  pub instructions : getD cs j 0 ≡ cappedInstructions s j
-  pub bytes : getD bs j 0 ≡ cappedBytes s j
-
--- and of all before k
+-- and so of all before k
 abbrev pub AllSummed : List ℕ → List ℕ → List ℕ → List ℕ → List ℕ → ℕ → Type 0
-AllSummed s ops words counts sizes k = (j : ℕ) → j < k → Summed s ops words counts sizes j
+AllSummed s os ws cs bs k = (j : ℕ) → j < k → Summed s os ws cs bs j
 
 -- the words of the functions before k
 abbrev pub WordsHeld : List ℕ → List ℕ → ℕ → Type 0

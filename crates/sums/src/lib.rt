@@ -4,23 +4,22 @@ ghost use Prim.Native.Nat.{suc, _+_, _*_, _<_, _≤_, _^_, min};
 ghost use lib.ListN.{length, getD, set};
 ghost use lib.Seq.{sets};
 ghost use Rattle.base.specs.Limits.{functionLimit, portLimit, portWordLimit};
-ghost use Rattle.ports.specs.Ports.{constantIn, widths, calling};
-ghost use Rattle.base.specs.Bytes.{byte, u16};
-ghost use Rattle.reader.specs.Layout.{inputCount, outputCount, nodeAt, nodeEnd, nodePlace, nodesPlace};
-ghost use Rattle.sums.specs.Position.{tabulate, placeOf, positionOf, Starts, NodesFit, Fit, AllFit, Accepted};
-ghost use Rattle.sums.specs.Capped.{Caps, Summed, AllSummed, WordsHeld, cappedOperations, cappedWords, cappedInstructions, cappedBytes};
+ghost use Rattle.ports.specs.Ports.{widths};
+ghost use Rattle.reader.specs.Layout.{nodeAt, nodesAt, nodesPlace};
+ghost use Rattle.reader.specs.Find.{ReadsNode, ReadsNodes, ReadsFunction, Started};
+ghost use Rattle.sums.specs.Position.{tabulate, placeOf, positionOf, AllRead, Accepted};
+ghost use Rattle.sums.specs.Capped.{Small, both, capSums, sumsAt, plainSums, nodesSums, Caps, Summed, AllSummed, WordsHeld, cappedOperations, cappedWords, cappedInstructions, cappedBytes};
 ghost use Rattle.sums.specs.Answers.{typesBy, codeLength, PortWordsAt, Measures};
 use base::CODE_LIMIT;
 use base::FUNCTION_LIMIT;
 use base::OPERATION_LIMIT;
 use base::WORD_LIMIT;
-use base::padded_byte;
-use base::padded_u16;
+use base::u16_at;
 use base::wide;
-use base::wide16;
 use base::wide32;
 use base::within_limits;
 use ports::Ports;
+use reader::Found;
 
 // ---- numbers
 
@@ -37,72 +36,42 @@ fn capped(x: usize, cap: usize) -> usize
     if cap <= x { cap } else { x }
 }
 
-// ---- nodes
-
-// The place behind the node at p.
-fn node_end(t: &[u8], p: usize) -> usize
-    requires { ⌜ p < 65536 ⌝ }
-    ensures { λ r. ⌜ (r ≡ nodeEnd (now (t .entry)) p) × (r < 2 ^ 20) ⌝ }
-{
-    let row = ports::ports_of(padded_byte(t, p + 2));
-    let form = row.form;
-    if ports::is_call(form) {
-        p + 4 + 3 + 3 * wide(padded_byte(t, p + 4 + 2))
-    } else {
-        p + 4 + 3 * wide(row.operands) + 8 * ports::constant_words(row)
-    }
-}
+// ---- places
 
 // Where the nodes of the function at p begin.
 pub fn nodes_place(t: &[u8], p: usize) -> usize
-    requires { ⌜ p < 65536 ⌝ }
-    ensures { λ r. ⌜ (r ≡ nodesPlace (now (t .entry)) p) × (r < 2 ^ 20) ⌝ }
+    requires { ⌜ ReadsFunction (now t) p ⌝ }
+    ensures { λ r. ⌜ r ≡ nodesPlace (now (t .entry)) p ⌝ }
 {
-    p + 6 + wide(padded_byte(t, p + 2)) + 4 * wide(padded_byte(t, p + 3))
-}
-
-// The place behind n nodes from `at` on.
-fn nodes_end(t: &[u8], at: usize, n: usize) -> usize
-    requires { ⌜ (at < 2 ^ 20) × NodesFit (now t) n at ⌝ }
-    ensures { λ r. ⌜ (r ≡ nodePlace (now (t .entry)) at n) × (r < 2 ^ 20) ⌝ }
-{
-    let mut q = at;
-    let mut i = 0;
-    while i < n {
-        q = node_end(t, q);
-        i += 1;
-    }
-    q
+    p + 6 + wide(t[p + 2]) + 4 * wide(t[p + 3])
 }
 
 // The places of n functions.
-pub fn find_starts(t: &[u8], n: usize, starts: &mut [u16; FUNCTION_LIMIT])
-    requires { ⌜ (n ≤ functionLimit) × AllFit (now t) n × (length (now starts) ≡ functionLimit) ⌝ }
+pub fn find_starts(t: &[u8], n: usize, starts: &mut [usize; FUNCTION_LIMIT])
+    requires { ⌜ (n ≤ functionLimit) × AllRead (now t) n × (length (now starts) ≡ functionLimit) ⌝ }
     ensures { λ _. ⌜ now (starts .exit) ≡ sets (now (starts .entry)) 0 (tabulate (placeOf (now (t .entry))) n) ⌝ }
+    ensures { λ _. ⌜ Started (now (t .entry)) (now (starts .exit)) n ⌝ }
 {
-    let mut p = 8;
+    let mut p = reader::HEADER;
     let mut k = 0;
     while k < n {
-        starts[k] = p as u16;
-        let count = padded_u16(t, p + 4);
-        p = nodes_end(t, nodes_place(t, p), count);
+        starts[k] = p;
+        let count = u16_at(t, p + 4);
+        p = reader::node_place(t, nodes_place(t, p), count, count);
         k += 1;
     }
 }
 
 // The position of the function of an id among those before k, or FUNCTION_LIMIT.
-pub fn position_of(t: &[u8], starts: &[u16; FUNCTION_LIMIT], k: usize, c: usize) -> usize
-    requires { ⌜ (k ≤ functionLimit) × Starts (now t) (now starts) k ⌝ }
+pub fn position_of(t: &[u8], starts: &[usize; FUNCTION_LIMIT], k: usize, c: usize) -> usize
+    requires { ⌜ (k ≤ functionLimit) × Started (now t) (now starts) k ⌝ }
     ensures { λ r. ⌜ r ≡ positionOf (now (t .entry)) k c ⌝ }
 {
-    let mut m = k;
-    while 0 < m {
-        m -= 1;
-        if padded_u16(t, wide16(starts[m])) == c {
-            return m;
-        }
+    let found = reader::find_function(t, starts, k, c);
+    match found {
+        Found::At(g, _) => g,
+        Found::Nothing => FUNCTION_LIMIT,
     }
-    FUNCTION_LIMIT
 }
 
 // ---- sums
@@ -115,10 +84,55 @@ pub struct Sums {
     pub bytes: usize,
 }
 
+fn add(a: Sums, b: Sums) -> Sums
+    requires { ⌜ Small a × Small b ⌝ }
+    ensures { λ r. ⌜ r ≡ capSums (both a b) ⌝ }
+{
+    Sums {
+        operations: capped(a.operations + b.operations, OPERATION_CAP),
+        words: capped(a.words + b.words, WORD_CAP),
+        instructions: capped(a.instructions + b.instructions, OPERATION_CAP),
+        bytes: capped(a.bytes + b.bytes, BYTE_CAP),
+    }
+}
+
+// Those of the function at position g.
+fn sums_at(
+    ops: &[u32; FUNCTION_LIMIT],
+    words: &[u32; FUNCTION_LIMIT],
+    counts: &[u32; FUNCTION_LIMIT],
+    sizes: &[u32; FUNCTION_LIMIT],
+    g: usize,
+) -> Sums
+    requires { ⌜ g < functionLimit ⌝ }
+    ensures { λ r. ⌜ r ≡ sumsAt (now (ops .entry)) (now (words .entry)) (now (counts .entry)) (now (sizes .entry)) g ⌝ }
+    ensures bounded { λ r. ⌜ (r .operations < 2 ^ 32) × (r .words < 2 ^ 32) × (r .bytes < 2 ^ 32) ⌝ }
+{
+    Sums {
+        operations: wide32(ops[g]),
+        words: wide32(words[g]),
+        instructions: wide32(counts[g]),
+        bytes: wide32(sizes[g]),
+    }
+}
+
+// What a node adds that is no call, by its kind's row.
+fn plain_sums(row: Ports, ty: u8) -> Sums
+    ensures { λ r. ⌜ r ≡ plainSums row ty ⌝ }
+    ensures bounded { λ r. ⌜ Small r ⌝ }
+{
+    Sums {
+        operations: 1,
+        words: ports::result_words(row, ty),
+        instructions: 1,
+        bytes: 2 + 2 * wide(row.operands) + 8 * ports::constant_words(row),
+    }
+}
+
 // What the node at p adds to the sums of the function at position k.
 fn node_sums(
     t: &[u8],
-    starts: &[u16; FUNCTION_LIMIT],
+    starts: &[usize; FUNCTION_LIMIT],
     k: usize,
     ops: &[u32; FUNCTION_LIMIT],
     words: &[u32; FUNCTION_LIMIT],
@@ -126,24 +140,21 @@ fn node_sums(
     sizes: &[u32; FUNCTION_LIMIT],
     p: usize,
 ) -> Sums
-    requires { ⌜ (k ≤ functionLimit) × (p < 65536) × Starts (now t) (now starts) k ⌝ }
+    requires { ⌜ (k ≤ functionLimit) × ReadsNode (now t) p × Started (now t) (now starts) k ⌝ }
     requires { ⌜ AllSummed (now t) (now ops) (now words) (now counts) (now sizes) k ⌝ }
     ensures { λ r. ⌜ Caps (now (t .entry)) k (nodeAt (now (t .entry)) p) r ⌝ }
 {
-    let row = ports::ports_of(padded_byte(t, p + 2));
+    let row = ports::ports_of(t[p + 2]);
     let form = row.form;
     if ports::is_call(form) {
-        let g = position_of(t, starts, k, padded_u16(t, p + 4));
+        let g = position_of(t, starts, k, u16_at(t, p + 4));
         if g < k {
-            let o = wide32(ops[g]);
-            let w = wide32(words[g]);
-            let m = wide32(counts[g]);
-            let b = wide32(sizes[g]);
+            let callee = sums_at(ops, words, counts, sizes, g);
             Sums {
-                operations: 1 + o,
-                words: w,
-                instructions: m,
-                bytes: b,
+                operations: 1 + callee.operations,
+                words: callee.words,
+                instructions: callee.instructions,
+                bytes: callee.bytes,
             }
         } else {
             Sums {
@@ -154,69 +165,81 @@ fn node_sums(
             }
         }
     } else {
-        let w = ports::result_words(row, padded_byte(t, p + 3));
-        let n = wide(row.operands);
-        let c = ports::constant_words(row);
-        Sums {
-            operations: 1,
-            words: w,
-            instructions: 1,
-            bytes: 2 + 2 * n + 8 * c,
-        }
+        plain_sums(row, t[p + 3])
     }
+}
+
+// The sums of n nodes of the function at position k, from the place `first` on.
+fn nodes_sums(
+    t: &[u8],
+    starts: &[usize; FUNCTION_LIMIT],
+    k: usize,
+    ops: &[u32; FUNCTION_LIMIT],
+    words: &[u32; FUNCTION_LIMIT],
+    counts: &[u32; FUNCTION_LIMIT],
+    sizes: &[u32; FUNCTION_LIMIT],
+    first: usize,
+    n: usize,
+) -> Sums
+    requires { ⌜ (k ≤ functionLimit) × ReadsNodes n (now t) first × Started (now t) (now starts) k ⌝ }
+    requires { ⌜ AllSummed (now t) (now ops) (now words) (now counts) (now sizes) k ⌝ }
+    ensures { λ r. ⌜ r ≡ capSums (nodesSums (now (t .entry)) k (nodesAt n (now (t .entry)) first)) ⌝ }
+{
+    let mut total = Sums {
+        operations: 0,
+        words: 0,
+        instructions: 0,
+        bytes: 0,
+    };
+    let mut p = first;
+    let mut i = 0;
+    while i < n {
+        let own = node_sums(t, starts, k, ops, words, counts, sizes, p);
+        total = add(total, own);
+        p = reader::node_end(t, p);
+        i += 1;
+    }
+    total
 }
 
 // The sums of the function at position k, behind those of the functions before it.
 fn function_sums(
     t: &[u8],
-    starts: &[u16; FUNCTION_LIMIT],
+    starts: &[usize; FUNCTION_LIMIT],
     k: usize,
     ops: &mut [u32; FUNCTION_LIMIT],
     words: &mut [u32; FUNCTION_LIMIT],
     counts: &mut [u32; FUNCTION_LIMIT],
     sizes: &mut [u32; FUNCTION_LIMIT],
 )
-    requires { ⌜ (k < functionLimit) × Fit (now t) k × Starts (now t) (now starts) (suc k) ⌝ }
+    requires { ⌜ (k < functionLimit) × Started (now t) (now starts) (suc k) ⌝ }
     requires { ⌜ AllSummed (now t) (now ops) (now words) (now counts) (now sizes) k ⌝ }
     ensures { λ _. ⌜ (now (ops .exit) ≡ set (now (ops .entry)) k (cappedOperations (now (t .entry)) k))
         × (now (words .exit) ≡ set (now (words .entry)) k (cappedWords (now (t .entry)) k))
         × (now (counts .exit) ≡ set (now (counts .entry)) k (cappedInstructions (now (t .entry)) k))
         × (now (sizes .exit) ≡ set (now (sizes .entry)) k (cappedBytes (now (t .entry)) k)) ⌝ }
 {
-    let p = wide16(starts[k]);
-    let n = padded_u16(t, p + 4);
-    let mut q = nodes_place(t, p);
-    let mut o = 0;
-    let mut w = 0;
-    let mut m = 0;
-    let mut b = 0;
-    let mut i = 0;
-    while i < n {
-        let r = node_sums(t, starts, k, ops, words, counts, sizes, q);
-        o = capped(o + r.operations, OPERATION_CAP);
-        w = capped(w + r.words, WORD_CAP);
-        m = capped(m + r.instructions, OPERATION_CAP);
-        b = capped(b + r.bytes, BYTE_CAP);
-        q = node_end(t, q);
-        i += 1;
-    }
-    ops[k] = o as u32;
-    words[k] = w as u32;
-    counts[k] = m as u32;
-    sizes[k] = b as u32;
+    let p = starts[k];
+    let n = u16_at(t, p + 4);
+    let first = nodes_place(t, p);
+    let total = nodes_sums(t, starts, k, ops, words, counts, sizes, first, n);
+    ops[k] = total.operations as u32;
+    words[k] = total.words as u32;
+    counts[k] = total.instructions as u32;
+    sizes[k] = total.bytes as u32;
 }
 
 // The sums of the first n functions.
 pub fn all_sums(
     t: &[u8],
-    starts: &[u16; FUNCTION_LIMIT],
+    starts: &[usize; FUNCTION_LIMIT],
     n: usize,
     ops: &mut [u32; FUNCTION_LIMIT],
     words: &mut [u32; FUNCTION_LIMIT],
     counts: &mut [u32; FUNCTION_LIMIT],
     sizes: &mut [u32; FUNCTION_LIMIT],
 )
-    requires { ⌜ (n ≤ functionLimit) × AllFit (now t) n × Starts (now t) (now starts) n ⌝ }
+    requires { ⌜ (n ≤ functionLimit) × Started (now t) (now starts) n ⌝ }
     requires { ⌜ (length (now ops) ≡ functionLimit) × (length (now words) ≡ functionLimit) × (length (now counts) ≡ functionLimit) × (length (now sizes) ≡ functionLimit) ⌝ }
     ensures { λ _. ⌜ (now (ops .exit) ≡ sets (now (ops .entry)) 0 (tabulate (cappedOperations (now (t .entry))) n))
         × (now (words .exit) ≡ sets (now (words .entry)) 0 (tabulate (cappedWords (now (t .entry))) n))
@@ -234,14 +257,14 @@ pub fn all_sums(
 
 // The words of n types, the first at p and each `step` bytes behind the one before it.
 fn widths_at(t: &[u8], p: usize, step: usize, n: usize) -> usize
-    requires { ⌜ (p < 2 ^ 20) × (step ≤ 4) × (n ≤ portLimit) ⌝ }
+    requires { ⌜ (0 < step) × (n ≤ portLimit) × (p + n * step ≤ length (now t)) ⌝ }
     ensures { λ r. ⌜ (r ≡ widths (typesBy step n (now (t .entry)) p)) × (r ≤ portWordLimit) ⌝ }
 {
     let mut total = 0;
     let mut q = p;
     let mut i = 0;
     while i < n {
-        total += ports::width(padded_byte(t, q));
+        total += ports::width(t[q]);
         q += step;
         i += 1;
     }
@@ -256,12 +279,12 @@ pub struct PortWords {
 
 // Of the function at p.
 fn port_words(t: &[u8], p: usize) -> PortWords
-    requires { ⌜ (p < 65536) × (inputCount (now t) p ≤ portLimit) × (outputCount (now t) p ≤ portLimit) ⌝ }
+    requires { ⌜ ReadsFunction (now t) p ⌝ }
     ensures { λ r. ⌜ PortWordsAt (now (t .entry)) p r ⌝ }
 {
-    let input_count = wide(padded_byte(t, p + 2));
+    let input_count = wide(t[p + 2]);
     let inputs = widths_at(t, p + 6, 1, input_count);
-    let output_count = wide(padded_byte(t, p + 3));
+    let output_count = wide(t[p + 3]);
     let outputs = widths_at(t, p + 6 + input_count, 4, output_count);
     PortWords { inputs, outputs }
 }
@@ -293,7 +316,7 @@ pub struct Sizes {
 // The sizes of the function at position k of an accepted table, whose sums are taken.
 pub fn sizes_at(
     t: &[u8],
-    starts: &[u16; FUNCTION_LIMIT],
+    starts: &[usize; FUNCTION_LIMIT],
     k: usize,
     ops: &[u32; FUNCTION_LIMIT],
     words: &[u32; FUNCTION_LIMIT],
@@ -303,35 +326,30 @@ pub fn sizes_at(
     requires { ⌜ Accepted (now t) (suc k) × (getD (now starts) k 0 ≡ placeOf (now t) k) × Summed (now t) (now ops) (now words) (now counts) (now sizes) k ⌝ }
     ensures { λ r. ⌜ Measures (now (t .entry)) k r ⌝ }
 {
-    let place = wide16(starts[k]);
+    let place = starts[k];
     let ports = port_words(t, place);
-    let operations = wide32(ops[k]);
-    let own = wide32(words[k]);
-    let instructions = wide32(counts[k]);
-    let bytes = wide32(sizes[k]);
-    let arguments = ports.inputs;
-    let outputs = ports.outputs;
-    let all = capped(arguments + own, WORD_CAP);
-    let code = code_length(operations, all, bytes, outputs);
+    let own = sums_at(ops, words, counts, sizes, k);
+    let all = capped(ports.inputs + own.words, WORD_CAP);
+    let code = code_length(own.operations, all, own.bytes, ports.outputs);
     Sizes {
         place,
-        operations,
+        operations: own.operations,
         words: all,
-        instructions,
+        instructions: own.instructions,
         code,
-        arguments,
-        outputs,
+        arguments: ports.inputs,
+        outputs: ports.outputs,
     }
 }
 
 // The sizes of the function at position k of an accepted table, and the words of the functions up to it.
 pub fn measure(
     t: &[u8],
-    starts: &[u16; FUNCTION_LIMIT],
+    starts: &[usize; FUNCTION_LIMIT],
     k: usize,
     words: &mut [u32; FUNCTION_LIMIT],
 ) -> Sizes
-    requires { ⌜ Accepted (now t) (suc k) × Starts (now t) (now starts) (suc k) × (length (now words) ≡ functionLimit) ⌝ }
+    requires { ⌜ Accepted (now t) (suc k) × Started (now t) (now starts) (suc k) × (length (now words) ≡ functionLimit) ⌝ }
     ensures { λ r. ⌜ Measures (now (t .entry)) k r × WordsHeld (now (t .entry)) (now (words .exit)) (suc k) ⌝ }
 {
     let mut ops = [0u32; FUNCTION_LIMIT];

@@ -1,7 +1,7 @@
 -- `listing::fill_digits`: the digits behind i are written.
 use native.Mathlib.Omega.{arith}
 use borrow.Author.Needs.{needs}
-use Rattle.listing.proofs.Digits.{Left, start, more, step, done, size-kept}
+use Rattle.listing.proofs.Digits.{Left, start, step, done, size-kept}
 use Rattle.listing.proofs.fill_digits.Statement.{statement}
 use Rattle.listing.proofs.fill_digits.Tie as tie
 

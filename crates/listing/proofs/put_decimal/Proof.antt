@@ -1,9 +1,7 @@
 -- `listing::put_decimal`: the digits that were found.
-use mathlib.Core.Path.{_≡_, refl, sym, ap, _∙_}
+use mathlib.Core.Path.{refl}
 use native.Mathlib.Omega.{arith}
 use borrow.Author.Needs.{needs}
-use lib.ListN.{length, take, drop}
-use Rattle.lowering.specs.Listing.{decimal}
 use Rattle.listing.proofs.Digits.{all-digits}
 use Rattle.listing.proofs.Text.{same}
 use Rattle.listing.proofs.put_decimal.Statement.{statement}

@@ -1,5 +1,4 @@
 -- `listing::put_field`: the word, then the number.
-use borrow.Author.Needs.{needs}
 use denote.Ref.{now}
 use Rattle.lowering.specs.Listing.{decimal}
 use Rattle.listing.proofs.Text.{then, room-first, room-rest}

@@ -1,11 +1,12 @@
 -- `listing::put_function`: the head is read, and both halves are written.
 use Prim.Native.Nat.{_+_, _≤_}
-use mathlib.Core.Path.{_≡_, _∙_}
+use mathlib.Core.Path.{_≡_}
 use native.Mathlib.Omega.{arith}
 use borrow.Author.Needs.{needs}
 use lib.ListN.{length}
 use mathlib.Core.List.{_++_}
-use Rattle.listing.specs.Lines.{headText, countsText, lineAt}
+use Rattle.reader.proofs.Passed.{function-fits}
+use Rattle.listing.specs.Lines.{headLimit, countsLimit, headText, countsText, lineAt}
 use Rattle.listing.proofs.Lines.{head-length, counts-length, line-is}
 use Rattle.listing.proofs.Text.{then, same}
 use Rattle.listing.proofs.put_function.Statement.{statement}
@@ -13,45 +14,52 @@ use Rattle.listing.proofs.put_function.Tie as tie
 
 -- ---- places: each field of the head is read
 
-abbrev outputs-read : tie.After-padded-u162 → tie.After-wide2
+abbrev outputs-read : tie.After-u16-at2 → tie.After-wide2
 outputs-read c = c .before
 
 abbrev inputs-read : tie.After-wide2 → tie.After-wide
 inputs-read c = c .before .before
 
-abbrev id-read : tie.After-wide → tie.After-padded-u16
+abbrev id-read : tie.After-wide → tie.After-u16-at
 id-read c = c .before .before
 
-abbrev start : tie.After-padded-u162 → tie.Start
-start c = id-read (inputs-read (outputs-read c)) .before .before
+abbrev begin : tie.After-u16-at → tie.Start
+begin c = c .before .before
+
+abbrev start : tie.After-u16-at2 → tie.Start
+start c = begin (id-read (inputs-read (outputs-read c)))
+
+-- the head is there
+head : (b : tie.Start) → b .args .p + 6 ≤ length (b .args .table .now)
+head b = function-fits (b .args .table .now) (b .args .p) (b .pre .1)
 
 -- ---- how long the halves are
 
-head-room : (r : tie.After-padded-u162) →
+head-room : (r : tie.After-u16-at2) →
     let o = outputs-read r in
     let i = inputs-read o in
-    length (headText (id-read i .padded-u16 .result) (i .wide .result) (o .wide2 .result) (r .padded-u162 .result)) ≤ 49
+    length (headText (id-read i .u16-at .result) (i .wide .result) (o .wide2 .result) (r .u16-at2 .result)) ≤ headLimit
 head-room r =
     let o = outputs-read r in
     let i = inputs-read o in
     let d = id-read i in
-    head-length (d .padded-u16 .result) (i .wide .result) (o .wide2 .result) (r .padded-u162 .result) (d .padded-u16 .ensures .1) (i .wide .ensures .1) (o .wide2 .ensures .1) (r .padded-u162 .ensures .1)
+    head-length (d .u16-at .result) (i .wide .result) (o .wide2 .result) (r .u16-at2 .result) (d .u16-at .ensures .1) (i .wide .ensures .1) (o .wide2 .ensures .1) (r .u16-at2 .ensures .1)
 
-counts-room : (r : tie.After-padded-u162) → let a = start r .args in length (countsText (a .operations) (a .words) (a .code)) ≤ 54
+counts-room : (r : tie.After-u16-at2) → let a = start r .args in length (countsText (a .operations) (a .words) (a .code)) ≤ countsLimit
 counts-room r = let a = start r .args in counts-length (a .operations) (a .words) (a .code) (omega arith)
 
 -- the line that they make
-line : (r : tie.After-padded-u162) →
+line : (r : tie.After-u16-at2) →
     let o = outputs-read r in
     let i = inputs-read o in
     let a = start r .args in
-    headText (id-read i .padded-u16 .result) (i .wide .result) (o .wide2 .result) (r .padded-u162 .result) ++ countsText (a .operations) (a .words) (a .code)
+    headText (id-read i .u16-at .result) (i .wide .result) (o .wide2 .result) (r .u16-at2 .result) ++ countsText (a .operations) (a .words) (a .code)
     ≡ lineAt (a .table .now) (a .p) (a .operations) (a .words) (a .code)
 line r =
     let o = outputs-read r in
     let i = inputs-read o in
     let a = start r .args in
-    line-is (a .table .now) (a .p) (a .operations) (a .words) (a .code) (id-read i .padded-u16 .ensures .0) (i .wide .ensures .0 ∙ i .before .padded-byte .ensures) (o .wide2 .ensures .0 ∙ o .before .padded-byte2 .ensures) (r .padded-u162 .ensures .0)
+    line-is (a .table .now) (a .p) (a .operations) (a .words) (a .code) (id-read i .u16-at .ensures .0) (i .wide .ensures .0) (o .wide2 .ensures .0) (r .u16-at2 .ensures .0)
 
 put-head-requires : tie.Need-put-head-requires
 put-head-requires c κs = let r = c .before in omega (arith, start r .pre .0, head-room r)
@@ -75,5 +83,15 @@ pub put-function-spec : {M : Type 1} → statement M
 put-function-spec =
     tie.close
     (tie.spec
-    (λ c κs. search needs) (λ c. search needs) (λ c κs. search needs) (λ c κs. search needs) (λ c. search needs) (λ c κs. search needs) (λ c κs. search needs)
-    (λ c. search needs) (λ c κs. search needs) put-head-requires put-counts-requires returns)
+    (λ c κs. omega (arith, head (c .before)))
+    (λ c. omega (arith, head (begin c)))
+    (λ c. omega (arith, head (begin (c .before))))
+    (λ c κs. search needs)
+    (λ c. omega (arith, head (begin (id-read c))))
+    (λ c. omega (arith, head (begin (id-read (c .before)))))
+    (λ c κs. search needs)
+    (λ c. omega (arith, head (begin (id-read (inputs-read c)))))
+    (λ c κs. omega (arith, head (begin (id-read (inputs-read c)))))
+    put-head-requires
+    put-counts-requires
+    returns)

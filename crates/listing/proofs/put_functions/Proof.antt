@@ -2,7 +2,6 @@
 use Prim.Native.Nat.{suc, _-_}
 use native.Mathlib.Omega.{arith}
 use borrow.Author.Needs.{needs}
-use Rattle.sums.proofs.Measuring.{sized}
 use Rattle.sums.proofs.Accepted.{fewer}
 use Rattle.listing.proofs.Table.{line-at}
 use Rattle.listing.proofs.Functions.{Listed, start, step, done}
@@ -32,7 +31,7 @@ sizes-at-requires c κs =
     let b = begin l in
     let lt = c .loop-test .taken in (
       fewer (b .args .table .now) (b .args .count) (suc (l .loop .k)) (b .pre .0 .1) (omega arith),
-      b .pre .0 .2 (l .loop .k) (omega arith),
+      b .pre .0 .2 .places (l .loop .k) (omega arith),
       b .pre .1 (l .loop .k) (omega arith),
     )
 
@@ -42,17 +41,15 @@ put-function-requires c κs =
     let l = at-loop m .loop .inv in
     let room = l .room in
     let most = l .most in
-    (omega arith, m .sizes-at .ensures .near)
+    (omega arith, m .sizes-at .ensures .reads)
 
 loop-again : tie.Need-loop-again Inv-loop μ-loop
 loop-again c =
     let m = c .before .before in
     let l = at-loop m .loop in
     let a = begin (at-loop m) .args in
-    let e = sized (a .table .now) (l .k) (m .sizes-at .result) (m .sizes-at .ensures) in
-    let r = m .sizes-at .result in
     step _ _ _ _ _ _ _ _ _ _ (l .inv) (omega arith)
-    (line-at (a .table .now) (l .k) (r .place) (r .operations) (r .words) (r .code) (e .place) (e .operations) (e .words) (e .code))
+    (line-at (a .table .now) (l .k) (m .sizes-at .result) (m .sizes-at .ensures .sizes))
     (c .put-function .ensures .0)
     (c .put-function .ensures .1)
 

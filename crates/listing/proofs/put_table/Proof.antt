@@ -5,9 +5,8 @@ use native.Mathlib.Omega.{arith}
 use lib.ListN.{length-replicate}
 use Rattle.base.specs.Limits.{functionLimit}
 use Rattle.base.specs.Bytes.{Bytes}
-use Rattle.sums.specs.Position.{Starts}
-use Rattle.sums.proofs.Accepted.{few-functions, all-fit}
-use Rattle.sums.proofs.Tabulate.{starts-in, summed-in}
+use Rattle.sums.proofs.Accepted.{few-functions, all-read}
+use Rattle.sums.proofs.Tabulate.{summed-in}
 use Rattle.listing.proofs.put_table.Statement.{statement}
 use Rattle.listing.proofs.put_table.Tie as tie
 
@@ -30,23 +29,19 @@ summed c = let x = c .before .before .before in x .before .before .before
 small : (c : tie.After-shared-slice-known) → Bytes (c .before .args .table .now)
 small c q = omega (arith, c .shared-slice-known .given q)
 
-few : (b : tie.Start) → b .args .count ≤ functionLimit
-few b = few-functions (b .args .table .now) (b .args .count) (b .pre .0)
+few : (c : tie.After-shared-slice-known) → c .before .args .count ≤ functionLimit
+few c = let b = c .before in few-functions (b .args .table .now) (b .args .count) (b .pre .0) (small c)
 
 find-starts-requires : tie.Need-find-starts-requires
 find-starts-requires c κs =
     let l = c .before in
     let b = l .before in
-    (few b, all-fit (b .args .table .now) (b .args .count) (b .pre .0) (small l), length-replicate {A = ℕ} functionLimit 0)
-
-starts : (c : tie.After-find-starts) → Starts (start c .args .table .now) (c .find-starts .last .1 .1 .0) (start c .args .count)
-starts c = let b = start c in starts-in (b .args .table .now) _ _ (b .args .count) (c .find-starts .ensures) (few b)
+    (few l, all-read (b .args .table .now) (b .args .count) (b .pre .0) (small l), length-replicate {A = ℕ} functionLimit 0)
 
 all-sums-requires : tie.Need-all-sums-requires
 all-sums-requires c κs =
-    let f = found c in
-    let b = start f in (
-      (few b, all-fit (b .args .table .now) (b .args .count) (b .pre .0) (small (lent f)), starts f),
+    let f = found c in (
+      (few (lent f), f .find-starts .ensures .1),
       (length-replicate {A = ℕ} functionLimit 0, length-replicate {A = ℕ} functionLimit 0, length-replicate {A = ℕ} functionLimit 0, length-replicate {A = ℕ} functionLimit 0),
     )
 
@@ -58,11 +53,11 @@ put-functions-requires c κs =
       (
         b .pre .1,
         record { functions = b .args .count; judged = b .pre .0; most = omega arith; small = small (lent f) },
-        starts f,
+        f .find-starts .ensures .1,
       ),
       summed-in (b .args .table .now) _ _ _ _ _ _ _ _ (b .args .count) (x .all-sums .ensures)
           (length-replicate {A = ℕ} functionLimit 0, length-replicate {A = ℕ} functionLimit 0, length-replicate {A = ℕ} functionLimit 0, length-replicate {A = ℕ} functionLimit 0)
-          (few b),
+          (few (lent f)),
     )
 
 pub put-table-spec : {M : Type 1} → statement M

@@ -1,11 +1,13 @@
 use borrow.Author.Needs.{needs}
-use Prim.Native.Nat.{suc, _<_}
+use Prim.Native.Nat.{suc, _≤_}
 use mathlib.Core.Path.{_≡_, ap, _∙_}
 use native.Mathlib.Omega.{arith}
 use Rattle.base.specs.Bytes.{Bytes}
-use Rattle.sums.specs.Position.{positionOf, Starts, Accepted}
-use Rattle.sums.proofs.Accepted.{few-functions, all-fit}
-use Rattle.sums.proofs.Tabulate.{starts-in}
+use Rattle.base.specs.Limits.{functionLimit}
+use Rattle.reader.specs.Find.{Started}
+use Rattle.sums.specs.Position.{positionOf, Accepted}
+use Rattle.sums.proofs.Accepted.{few-functions, all-read}
+use Rattle.sums.proofs.Tabulate.{fewer-starts}
 use Rattle.quetlapin.proofs.Choosing.{named-at, named-none}
 use Rattle.quetlapin.proofs.find_accepted.Statement.{statement}
 use Rattle.quetlapin.proofs.find_accepted.Tie as tie
@@ -26,24 +28,17 @@ placed c = c .before .before .before
 small : (c : tie.After-shared-slice-known) → Bytes (c .before .args .table .now)
 small c q = omega (arith, c .shared-slice-known .given q)
 
+few : (c : tie.After-shared-slice-known) → c .before .args .count ≤ functionLimit
+few c = let b = c .before in few-functions (b .args .table .now) (b .args .count) (b .pre .0) (small c)
+
 find-starts-requires : tie.Need-find-starts-requires
 find-starts-requires c κs =
-    let b = c .before .before in
-    let s = b .args .table .now in
-    (few-functions s (b .args .count) (b .pre .0), all-fit s (b .args .count) (b .pre .0) (small (c .before)), b .pre .1)
-
-starts : (c : tie.After-find-starts) → Starts (start c .args .table .now) (c .find-starts .last .1 .1 .0) (start c .args .count)
-starts c =
-    let b = start c in
-    let few = few-functions (b .args .table .now) (b .args .count) (b .pre .0) in
-    let l = b .pre .1 in
-    starts-in (b .args .table .now) _ _ (b .args .count) (c .find-starts .ensures) (omega arith)
+    let l = c .before in
+    let b = l .before in
+    (few l, all-read (b .args .table .now) (b .args .count) (b .pre .0) (small l), b .pre .1)
 
 position-of-requires : tie.Need-position-of-requires
-position-of-requires c κs =
-    let f = c .before .before in
-    let b = start f in
-    (few-functions (b .args .table .now) (b .args .count) (b .pre .0), starts f)
+position-of-requires c κs = let f = c .before .before in (few (lent f), f .find-starts .ensures .1)
 
 position : (c : tie.After-position-of) → let a = start (placed c) .args in c .position-of .result ≡ positionOf (a .table .now) (a .count) (a .id)
 position c = let a = start (placed c) .args in c .position-of .ensures ∙ ap (positionOf (a .table .now) (a .count)) (c .before .wide16 .ensures .0)
@@ -61,12 +56,15 @@ accepted c =
     let b = start f in
     record { functions = b .args .count; judged = b .pre .0; most = let l = c .if1 .left in omega arith; small = small (lent f) }
 
+-- the functions up to it
+starts : (c : tie.Else1) → let f = placed (c .before) in Started (start f .args .table .now) (f .find-starts .last .1 .1 .0) (suc (c .before .position-of .result))
+starts c =
+    let f = placed (c .before) in
+    let l = c .if1 .left in
+    fewer-starts (start f .args .table .now) _ (start f .args .count) _ (f .find-starts .ensures .1) (omega arith)
+
 measure-requires : tie.Need-measure-requires
-measure-requires c κs =
-    let e = c .before .before in
-    let f = placed (e .before) in
-    let l = e .if1 .left in
-    (accepted e, (λ j h. starts f j (omega arith)), start f .pre .2)
+measure-requires c κs = let e = c .before .before in (accepted e, starts e, start (placed (e .before)) .pre .2)
 
 returns-2 : tie.Need-returns-2
 returns-2 c =
@@ -78,9 +76,9 @@ returns-2 c =
     let l = e .if1 .left in
     record {
       accepted = accepted e;
-      named = named-at (a .table .now) (a .id) (a .count) (g .position-of .result) (b .pre .0) (position g) (omega arith);
+      named = named-at (a .table .now) (a .id) (a .count) (g .position-of .result) (b .pre .0) (position g) (few (lent f)) (omega arith);
       sizes = c .measure .ensures .0;
-      places = λ j h. starts f j (omega arith);
+      places = starts e;
       held = c .measure .ensures .1;
     }
 

@@ -1,8 +1,8 @@
 use borrow.Author.Needs.{needs}
-use Prim.Native.Nat.{_-_, _≤_}
+use Prim.Native.Nat.{suc, _-_, _≤_}
 use native.Mathlib.Omega.{arith}
 use mathlib.Core.Path.{_≡_}
-use Rattle.sums.proofs.Tabulate.{SumsIn, sums-none, sums-more, summed-in}
+use Rattle.sums.proofs.Tabulate.{SumsIn, sums-none, sums-more, summed-in, fewer-starts}
 use Rattle.sums.proofs.all_sums.Statement.{statement}
 use Rattle.sums.proofs.all_sums.Tie as tie
 
@@ -12,44 +12,35 @@ Inv-loop t starts n ops₀ words₀ counts₀ sizes₀ k₀ ops words counts siz
 abbrev μ-loop : tie.MeasureT-loop
 μ-loop t starts n ops₀ words₀ counts₀ sizes₀ k₀ ops words counts sizes k = n - k
 
--- ---- places: from one back to another
+-- ---- places
 
-abbrev function-sums-arg4-to-in-loop : tie.After-function-sums-arg4 Inv-loop μ-loop → tie.In-loop Inv-loop μ-loop
-function-sums-arg4-to-in-loop c = let d = c .before .before .before in d .before
+abbrev in-loop : tie.After-function-sums-arg4 Inv-loop μ-loop → tie.In-loop Inv-loop μ-loop
+in-loop c = let d = c .before .before .before in d .before
 
-abbrev function-sums-arg4-to-at-loop : tie.After-function-sums-arg4 Inv-loop μ-loop → tie.At-loop Inv-loop μ-loop
-function-sums-arg4-to-at-loop c = function-sums-arg4-to-in-loop c .before
-
-abbrev function-sums-to-in-loop : tie.After-function-sums Inv-loop μ-loop → tie.In-loop Inv-loop μ-loop
-function-sums-to-in-loop c = function-sums-arg4-to-in-loop (c .before)
-
-abbrev function-sums-to-at-loop : tie.After-function-sums Inv-loop μ-loop → tie.At-loop Inv-loop μ-loop
-function-sums-to-at-loop c = function-sums-arg4-to-at-loop (c .before)
-
-abbrev function-sums-arg4-to-start : tie.After-function-sums-arg4 Inv-loop μ-loop → tie.Start Inv-loop μ-loop
-function-sums-arg4-to-start c = function-sums-arg4-to-at-loop c .before .before
-
-abbrev function-sums-to-start : tie.After-function-sums Inv-loop μ-loop → tie.Start Inv-loop μ-loop
-function-sums-to-start c = function-sums-arg4-to-start (c .before)
+abbrev start : tie.At-loop Inv-loop μ-loop → tie.Start Inv-loop μ-loop
+start c = c .before .before
 
 loop-holds : tie.Need-loop-holds Inv-loop μ-loop
 loop-holds c = let a = c .before .args in (omega arith, sums-none (a .t .now) (a .ops .now) (a .words .now) (a .counts .now) (a .sizes .now))
 
 function-sums-requires : tie.Need-function-sums-requires Inv-loop μ-loop
 function-sums-requires c κs =
-    let b = function-sums-arg4-to-start c in
-    let l = function-sums-arg4-to-at-loop c .loop in
-    let t = function-sums-arg4-to-in-loop c .loop-test .taken in
-    let n = b .pre .0 .0 in
-    ((omega arith, b .pre .0 .1 (l .k) t, λ j h. b .pre .0 .2 j (omega arith)), summed-in (b .args .t .now) (b .args .ops .now) (b .args .words .now) (b .args .counts .now) (b .args .sizes .now) (l .ops) (l .words) (l .counts) (l .sizes) (l .k) (l .inv .1) (b .pre .1) (omega arith))
+    let i = in-loop c in
+    let l = i .before .loop in
+    let b = start (i .before) in
+    let a = b .args in
+    let t = i .loop-test .taken in
+    let n = b .pre .0 .0 in (
+      (omega arith, fewer-starts (a .t .now) (a .starts .now) (a .n) (suc (l .k)) (b .pre .0 .1) (omega arith)),
+      summed-in (a .t .now) (a .ops .now) (a .words .now) (a .counts .now) (a .sizes .now) (l .ops) (l .words) (l .counts) (l .sizes) (l .k) (l .inv .1) (b .pre .1) (omega arith),
+    )
 
 loop-again : tie.Need-loop-again Inv-loop μ-loop
 loop-again c =
-    let b = function-sums-to-start c in
-    let l = function-sums-to-at-loop c .loop in
-    let t = function-sums-to-in-loop c .loop-test .taken in
-    let n = b .pre .0 .0 in
-    let a = b .args in
+    let i = in-loop (c .before) in
+    let l = i .before .loop in
+    let a = start (i .before) .args in
+    let t = i .loop-test .taken in
     (omega arith, sums-more (a .t .now) (a .ops .now) (a .words .now) (a .counts .now) (a .sizes .now) (l .ops) (l .words) (l .counts) (l .sizes) _ _ _ _ (l .k) (l .inv .1) (c .function-sums .ensures))
 
 returns : tie.Need-returns Inv-loop μ-loop

@@ -1,101 +1,108 @@
 use borrow.Author.Needs.{needs}
-use mathlib.Core.Path.{_≡_, sym, ap, _∙_}
-use Prim.Native.Nat.{ℕ, _+_, _-_, min}
+use Prim.Native.Nat.{ℕ, suc, _+_, _≤_}
+use mathlib.Core.Path.{_≡_, sym, ap, _∙_, subst}
 use native.Mathlib.Omega.{arith}
-use lib.ListN.{set}
+use lib.ListN.{length, getD, set}
 use Rattle.base.specs.Bytes.{u16}
-use Rattle.reader.specs.Layout.{nodesPlace, nodeCount}
+use Rattle.reader.specs.Layout.{nodesAt, nodesPlace, nodeCount}
+use Rattle.reader.specs.Find.{ReadsNodes, ReadsFunction}
+use Rattle.reader.proofs.Passed.{function-fits, function-holds}
 use Rattle.sums.specs.Position.{placeOf}
-use Rattle.sums.specs.Capped.{operationCap, wordCap, byteCap}
-use Rattle.sums.proofs.Nodes.{pass-here}
-use Rattle.sums.proofs.Summing.{Summing, sum-start, sum-step, sum-done, sums-are}
+use Rattle.sums.specs.declared.Sums.{Sums}
+use Rattle.sums.specs.Capped.{ownSums, capSums, nodesSums}
+use Rattle.sums.proofs.Summing.{sums-are}
+use Rattle.sums.proofs.Tabulate.{fewer-starts}
 use Rattle.sums.proofs.function_sums.Statement.{statement}
 use Rattle.sums.proofs.function_sums.Tie as tie
 
-abbrev Inv-loop : tie.InvT-loop
-Inv-loop t starts k ops words counts sizes p n q₀ o₀ w₀ m₀ b₀ i₀ q o w m b i = Summing t k n q₀ o w m b i q
+-- ---- places
 
-abbrev μ-loop : tie.MeasureT-loop
-μ-loop t starts k ops words counts sizes p n q₀ o₀ w₀ m₀ b₀ i₀ q o w m b i = n - i
+abbrev start : tie.After-p → tie.Start
+start c = c .before .before
 
-place : (c : tie.After-wide16 Inv-loop μ-loop) → c .wide16 .result ≡ placeOf (c .before .before .before .args .t .now) (c .before .before .before .args .k)
-place c = c .wide16 .ensures .0 ∙ c .before .before .before .pre .0 .2 (c .before .before .before .args .k) (omega arith)
+abbrev counted : tie.After-nodes-place → tie.After-u16-at
+counted c = c .before
 
--- the count of nodes, and where they begin
-count : (c : tie.After-padded-u16 Inv-loop μ-loop) → c .padded-u16 .result ≡ nodeCount (c .before .before .before .before .args .t .now) (placeOf (c .before .before .before .before .args .t .now) (c .before .before .before .before .args .k))
-count c = c .padded-u16 .ensures .0 ∙ ap (λ (q : ℕ). u16 (c .before .before .before .before .args .t .now) (q + 4)) (place (c .before))
+abbrev lent : tie.After-nodes-sums-arg4 → tie.After-nodes-place
+lent c = let d = c .before .before .before in d .before
 
-begin : (c : tie.After-nodes-place Inv-loop μ-loop) → c .nodes-place .result ≡ nodesPlace (c .before .before .before .before .before .args .t .now) (placeOf (c .before .before .before .before .before .args .t .now) (c .before .before .before .before .before .args .k))
-begin c = c .nodes-place .ensures .0 ∙ ap (nodesPlace (c .before .before .before .before .before .args .t .now)) (place (c .before .before))
+abbrev begin : tie.After-nodes-place → tie.Start
+begin c = start (counted c .before)
 
-loop-holds : tie.Need-loop-holds Inv-loop μ-loop
-loop-holds c =
-    sum-start (c .before .before .before .before .before .args .t .now) (c .before .before .before .before .before .args .k) (c .before .padded-u16 .result) (c .nodes-place .result) (c .nodes-place .ensures .1)
-    (rw (count (c .before), begin c) (c .before .before .before .before .before .pre .0 .1 .nodes))
+-- ---- what is known there
 
-node-sums-requires : tie.Need-node-sums-requires Inv-loop μ-loop
-node-sums-requires c κs =
-    let near = pass-here (c .before .before .before .before .before .before .before .before .before .before .before .args .t .now) (c .before .before .before .before .before .before .nodes-place .result) (c .before .before .before .before .before .before .before .padded-u16 .result) (c .before .before .before .before .before .loop .q) (c .before .before .before .before .before .loop .i) (c .before .before .before .before .before .loop .inv .pass) (c .before .before .before .before .loop-test .taken) .near in
-    ((omega arith, near, λ j lt. c .before .before .before .before .before .before .before .before .before .before .before .pre .0 .2 j (omega arith)), c .before .before .before .before .before .before .before .before .before .before .before .pre .1)
+place : (b : tie.Start) → getD (b .args .starts .now) (b .args .k) 0 ≡ placeOf (b .args .t .now) (b .args .k)
+place b = b .pre .0 .1 .places (b .args .k) (omega arith)
 
-node-end-requires : tie.Need-node-end-requires Inv-loop μ-loop
-node-end-requires c κs =
-    pass-here (c .before .before .before .before .before .before .before .before .before .before .before .before .before .before .before .before .before .before .before .before .args .t .now) (c .before .before .before .before .before .before .before .before .before .before .before .before .before .before .before .nodes-place .result) (c .before .before .before .before .before .before .before .before .before .before .before .before .before .before .before .before .padded-u16 .result) (c .before .before .before .before .before .before .before .before .before .before .before .before .before .before .loop .q) (c .before .before .before .before .before .before .before .before .before .before .before .before .before .before .loop .i) (c .before .before .before .before .before .before .before .before .before .before .before .before .before .before .loop .inv .pass) (c .before .before .before .before .before .before .before .before .before .before .before .before .before .loop-test .taken) .near
+was-read : (b : tie.Start) → ReadsFunction (b .args .t .now) (placeOf (b .args .t .now) (b .args .k))
+was-read b = b .pre .0 .1 .reads (b .args .k) (omega arith)
 
-add-capped : tie.Need-add-capped Inv-loop μ-loop
-add-capped c = let (x1, x2, x3, x4) = c .before .before .before .before .before .before .before .loop .inv .small in let (u1, u2, u3, u4) = c .before .node-sums .ensures .small in omega arith
+fits : (b : tie.Start) → placeOf (b .args .t .now) (b .args .k) + 6 ≤ length (b .args .t .now)
+fits b = function-fits (b .args .t .now) (placeOf (b .args .t .now) (b .args .k)) (was-read b)
 
-add-capped-2 : tie.Need-add-capped-2 Inv-loop μ-loop
-add-capped-2 c = let (x1, x2, x3, x4) = c .before .before .before .before .before .before .before .before .before .loop .inv .small in let (u1, u2, u3, u4) = c .before .before .before .node-sums .ensures .small in omega arith
+count : (c : tie.After-u16-at) → let a = start (c .before) .args in c .u16-at .result ≡ nodeCount (a .t .now) (placeOf (a .t .now) (a .k))
+count c = let b = start (c .before) in c .u16-at .ensures .0 ∙ ap (λ (q : ℕ). u16 (b .args .t .now) (q + 4)) (place b)
 
-add-capped-3 : tie.Need-add-capped-3 Inv-loop μ-loop
-add-capped-3 c = let (x1, x2, x3, x4) = c .before .before .before .before .before .before .before .before .before .before .before .loop .inv .small in let (u1, u2, u3, u4) = c .before .before .before .before .before .node-sums .ensures .small in omega arith
+first : (c : tie.After-nodes-place) → let a = begin c .args in c .nodes-place .result ≡ nodesPlace (a .t .now) (placeOf (a .t .now) (a .k))
+first c = let b = begin c in c .nodes-place .ensures ∙ ap (nodesPlace (b .args .t .now)) (place b)
 
-add-capped-4 : tie.Need-add-capped-4 Inv-loop μ-loop
-add-capped-4 c = let (x1, x2, x3, x4) = c .before .before .before .before .before .before .before .before .before .before .before .before .before .loop .inv .small in let (u1, u2, u3, u4) = c .before .before .before .before .before .before .before .node-sums .ensures .small in omega arith
+nodes-sums-requires : tie.Need-nodes-sums-requires
+nodes-sums-requires c κs =
+    let f = lent c in
+    let b = begin f in
+    let s = b .args .t .now in
+    let k = b .args .k in (
+      (
+        omega arith,
+        subst (λ (n : ℕ). ReadsNodes n s (f .nodes-place .result)) (sym (count (counted f)))
+            (subst (ReadsNodes (nodeCount s (placeOf s k)) s) (sym (first f)) (function-holds s (placeOf s k) (was-read b) .nodes)),
+        fewer-starts s (b .args .starts .now) (suc k) k (b .pre .0 .1) (omega arith),
+      ),
+      b .pre .1,
+    )
 
-loop-again : tie.Need-loop-again Inv-loop μ-loop
-loop-again c =
-    let l = c .before .before .before .before .before .before .before .before .before .before .before .before .before .before .before .loop in
-    sum-step (c .before .before .before .before .before .before .before .before .before .before .before .before .before .before .before .before .before .before .before .before .before .args .t .now) (c .before .before .before .before .before .before .before .before .before .before .before .before .before .before .before .before .before .before .before .before .before .args .k) (c .before .before .before .before .before .before .before .before .before .before .before .before .before .before .before .before .before .padded-u16 .result) (c .before .before .before .before .before .before .before .before .before .before .before .before .before .before .before .before .nodes-place .result) (l .o) (l .w) (l .m) (l .b) (l .i) (l .q) (l .inv) (c .before .before .before .before .before .before .before .before .before .before .before .before .before .before .loop-test .taken)
-    (c .before .before .before .before .before .before .before .before .before .node-sums .result) (c .before .before .before .before .before .before .before .before .before .node-sums .ensures) (c .before .before .before .before .before .before .before .capped .result) (c .before .before .before .before .before .capped2 .result) (c .before .before .before .capped3 .result) (c .before .capped4 .result) (c .node-end .result)
-    (c .before .before .before .before .before .before .before .capped .ensures) (c .before .before .before .before .before .capped2 .ensures) (c .before .before .before .capped3 .ensures) (c .before .capped4 .ensures) (c .node-end .ensures .0) (c .node-end .ensures .1)
-
-add-i : tie.Need-add-i Inv-loop μ-loop
-add-i c = let x = c .before .before .before .before .before .before .before .before .before .before .before .before .before .before .before .before .before .padded-u16 .ensures .1 in let y = c .before .before .before .before .before .before .before .before .before .before .before .before .before .before .loop-test .taken in omega arith
-
-cast-ops : tie.Need-cast-ops Inv-loop μ-loop
-cast-ops c = let (x1, x2, x3, x4) = c .before .loop .inv .small in omega arith
-
-cast-words : tie.Need-cast-words Inv-loop μ-loop
-cast-words c = let (x1, x2, x3, x4) = c .before .loop .inv .small in omega arith
-
-cast-counts : tie.Need-cast-counts Inv-loop μ-loop
-cast-counts c = let (x1, x2, x3, x4) = c .before .loop .inv .small in omega arith
-
-cast-sizes : tie.Need-cast-sizes Inv-loop μ-loop
-cast-sizes c = let (x1, x2, x3, x4) = c .before .loop .inv .small in omega arith
-
-returns : tie.Need-returns Inv-loop μ-loop
-returns c =
-    let a = c .before .before .before .before .before .before .before .args in
+-- the sums of the function
+sums : (c : tie.After-nodes-sums) → let a = begin (lent (c .before)) .args in c .nodes-sums .result ≡ capSums (ownSums (a .t .now) (a .k))
+sums c =
+    let f = lent (c .before) in
+    let a = begin f .args in
     let s = a .t .now in
-    let l = c .before .loop in
-    let (x1, x2, x3, x4) = sum-done s (a .k) (c .before .before .before .padded-u16 .result) (c .before .before .nodes-place .result) (l .o) (l .w) (l .m) (l .b) (l .i) (l .q) (l .inv) (c .loop-test .left) in
-    let (y1, y2, y3, y4) = sums-are s (a .k) in
-    let e = count (c .before .before .before) in
-    let f = begin (c .before .before) in (
-      ap (λ (v : ℕ). set (a .ops .now) (a .k) v) (x1 ∙ rw (e, f) (ap (min operationCap) (sym y1))),
-      ap (λ (v : ℕ). set (a .words .now) (a .k) v) (x2 ∙ rw (e, f) (ap (min wordCap) (sym y2))),
-      ap (λ (v : ℕ). set (a .counts .now) (a .k) v) (x3 ∙ rw (e, f) (ap (min operationCap) (sym y3))),
-      ap (λ (v : ℕ). set (a .sizes .now) (a .k) v) (x4 ∙ rw (e, f) (ap (min byteCap) (sym y4))),
+    c .nodes-sums .ensures
+    ∙ ap (λ (n : ℕ). capSums (nodesSums s (a .k) (nodesAt n s (f .nodes-place .result)))) (count (counted f))
+    ∙ ap (λ (q : ℕ). capSums (nodesSums s (a .k) (nodesAt (nodeCount s (placeOf s (a .k))) s q))) (first f)
+    ∙ ap capSums (sym (sums-are s (a .k)))
+
+returns : tie.Need-returns
+returns c =
+    let m = c .before .before .before in
+    let x = m .before in
+    let a = begin (lent (x .before)) .args in (
+      ap (λ (y : Sums). set (a .ops .now) (a .k) (y .operations)) (sums x),
+      ap (λ (y : Sums). set (a .words .now) (a .k) (y .words)) (sums x),
+      ap (λ (y : Sums). set (a .counts .now) (a .k) (y .instructions)) (sums x),
+      ap (λ (y : Sums). set (a .sizes .now) (a .k) (y .bytes)) (sums x),
     )
 
 pub function-sums-spec : {M : Type 1} → statement M
 function-sums-spec =
     tie.close
-    (tie.spec Inv-loop μ-loop (λ c. search needs) (λ c. search needs) (λ c κs. search needs) (λ c. search needs) (λ c κs. search needs)
-    (λ c κs. search needs) loop-holds node-sums-requires add-capped (λ c κs. search needs) add-capped-2 (λ c κs. search needs) add-capped-3
-    (λ c κs. search needs) add-capped-4 (λ c κs. search needs) node-end-requires add-i (λ c. search needs) loop-again cast-ops
-    (λ c. search needs) (λ c. search needs) cast-words (λ c. search needs) (λ c. search needs) cast-counts (λ c. search needs)
-    (λ c. search needs) cast-sizes (λ c. search needs) (λ c. search needs) returns)
+    (tie.spec
+    (λ c. search needs)
+    (λ c. search needs)
+    (λ c. let b = start c in omega (arith, place b, fits b))
+    (λ c κs. let b = start c in omega (arith, place b, fits b))
+    (λ c κs. let b = start (c .before) in subst (ReadsFunction (b .args .t .now)) (sym (place b)) (was-read b))
+    nodes-sums-requires
+    (λ c. omega (arith, ap (λ (y : Sums). y .operations) (sums (c .before))))
+    (λ c. search needs)
+    (λ c. search needs)
+    (λ c. omega (arith, ap (λ (y : Sums). y .words) (sums (c .before .before))))
+    (λ c. search needs)
+    (λ c. search needs)
+    (λ c. omega (arith, ap (λ (y : Sums). y .instructions) (sums (c .before .before .before))))
+    (λ c. search needs)
+    (λ c. search needs)
+    (λ c. let x = c .before .before .before in omega (arith, ap (λ (y : Sums). y .bytes) (sums (x .before))))
+    (λ c. search needs)
+    (λ c. search needs)
+    returns)

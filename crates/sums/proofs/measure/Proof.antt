@@ -1,12 +1,12 @@
-use borrow.Author.Needs.{needs}
 use Prim.Native.Nat.{ℕ, suc, _+_, _<_}
-use mathlib.Core.Path.{refl}
+use mathlib.Core.Path.{ap}
 use native.Mathlib.Omega.{arith}
 use lib.ListN.{length-replicate}
 use Rattle.base.specs.Limits.{functionLimit}
+use Rattle.sums.specs.declared.Sums.{Sums}
 use Rattle.sums.specs.Capped.{AllSummed}
-use Rattle.sums.proofs.Accepted.{few, fit-below}
-use Rattle.sums.proofs.Tabulate.{summed-in}
+use Rattle.sums.proofs.Accepted.{few}
+use Rattle.sums.proofs.Tabulate.{summed-in, fewer-starts}
 use Rattle.sums.proofs.measure.Statement.{statement}
 use Rattle.sums.proofs.measure.Tie as tie
 
@@ -32,7 +32,7 @@ all-sums-requires c κs =
     let b = start c in
     let a = b .args in
     let l = below b in (
-      (omega arith, (λ j h. fit-below (a .t .now) (suc (a .k)) (b .pre .0) j (omega arith)), (λ j h. b .pre .1 j (omega arith))),
+      (omega arith, fewer-starts (a .t .now) (a .starts .now) (suc (a .k)) (a .k + 1) (b .pre .1) (omega arith)),
       (length-replicate {A = ℕ} functionLimit 0, b .pre .2, length-replicate {A = ℕ} functionLimit 0, length-replicate {A = ℕ} functionLimit 0),
     )
 
@@ -49,12 +49,12 @@ sizes-at-requires : tie.Need-sizes-at-requires
 sizes-at-requires c κs =
     let x = summed c in
     let b = start (x .before) in
-    (b .pre .0, b .pre .1 (b .args .k) (omega arith), sums x (b .args .k) (omega arith))
+    (b .pre .0, b .pre .1 .places (b .args .k) (omega arith), sums x (b .args .k) (omega arith))
 
 returns : tie.Need-returns
 returns c =
     let x = summed (c .before) in
-    (c .sizes-at .ensures, (λ g h. sums x g (omega arith) .words))
+    (c .sizes-at .ensures, (λ g h. ap (λ (y : Sums). y .words) (sums x g (omega arith))))
 
 pub measure-spec : {M : Type 1} → statement M
 measure-spec = tie.close (tie.spec add-all-sums all-sums-requires sizes-at-requires returns)

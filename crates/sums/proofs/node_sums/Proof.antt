@@ -1,96 +1,92 @@
 use borrow.Author.Needs.{needs}
-use mathlib.Core.Path.{sym, _∙_}
+use Prim.Native.Nat.{_+_, _≤_}
+use mathlib.Core.Path.{_≡_, refl, sym, _∙_}
+use mathlib.Core.Bool.{true}
+use native.Mathlib.Omega.{arith}
+use lib.ListN.{length}
+use Rattle.base.specs.Bytes.{byte}
+use Rattle.ports.specs.Ports.{calling}
+use Rattle.reader.proofs.Passed.{head-fits, callee-fits}
+use Rattle.sums.proofs.Nodes.{called}
 use Rattle.sums.proofs.Summing.{called-sums, no-callee-sums, plain-sums}
 use Rattle.sums.proofs.node_sums.Statement.{statement}
 use Rattle.sums.proofs.node_sums.Tie as tie
 
--- ---- places: from one back to another
+-- ---- places
 
-abbrev wide324-to-wide322 : tie.After-wide324 → tie.After-wide322
-wide324-to-wide322 c = let d = c .before .before .before in d .before
+abbrev start : tie.After-ports-of → tie.Start
+start c = c .before .before .before
 
-abbrev else2-to-is-call : tie.Else2 → tie.After-is-call
-else2-to-is-call c = let d = c .before .before .before in d .before
+abbrev row-read : tie.Then1 → tie.After-ports-of
+row-read c = c .before .before
 
-abbrev constant-words-to-else1 : tie.After-constant-words → tie.Else1
-constant-words-to-else1 c = let d = c .before .before .before in d .before
+abbrev call : tie.After-position-of → tie.Then1
+call c = c .before .before
 
-abbrev else2-to-ports-of : tie.Else2 → tie.After-ports-of
-else2-to-ports-of c = else2-to-is-call c .before
+-- ---- what is known there
 
-abbrev constant-words-to-is-call : tie.After-constant-words → tie.After-is-call
-constant-words-to-is-call c = constant-words-to-else1 c .before
+head : (b : tie.Start) → b .args .p + 4 ≤ length (b .args .t .now)
+head b = head-fits (b .args .t .now) (b .args .p) (b .pre .0 .1)
 
-abbrev wide324-to-wide32 : tie.After-wide324 → tie.After-wide32
-wide324-to-wide32 c = wide324-to-wide322 c .before .before
+calls : (c : tie.Then1) → calling (row-read c .ports-of .result .form) ≡ true
+calls c = sym (c .before .is-call .ensures) ∙ c .if1 .taken
 
-abbrev else2-to-padded-byte : tie.Else2 → tie.After-padded-byte
-else2-to-padded-byte c = else2-to-ports-of c .before
-
-abbrev constant-words-to-ports-of : tie.After-constant-words → tie.After-ports-of
-constant-words-to-ports-of c = constant-words-to-is-call c .before
-
-abbrev constant-words-to-padded-byte : tie.After-constant-words → tie.After-padded-byte
-constant-words-to-padded-byte c = constant-words-to-ports-of c .before
-
-abbrev wide324-to-then2 : tie.After-wide324 → tie.Then2
-wide324-to-then2 c = wide324-to-wide32 c .before .before
-
-abbrev else2-to-start : tie.Else2 → tie.Start
-else2-to-start c = else2-to-padded-byte c .before .before
-
-abbrev wide324-to-position-of : tie.After-wide324 → tie.After-position-of
-wide324-to-position-of c = wide324-to-then2 c .before
-
-abbrev constant-words-to-start : tie.After-constant-words → tie.Start
-constant-words-to-start c = constant-words-to-padded-byte c .before .before
-
-abbrev wide324-to-padded-u16 : tie.After-wide324 → tie.After-padded-u16
-wide324-to-padded-u16 c = wide324-to-position-of c .before
-
-abbrev wide324-to-then1 : tie.After-wide324 → tie.Then1
-wide324-to-then1 c = wide324-to-padded-u16 c .before
-
-abbrev wide324-to-is-call : tie.After-wide324 → tie.After-is-call
-wide324-to-is-call c = wide324-to-then1 c .before
-
-abbrev wide324-to-ports-of : tie.After-wide324 → tie.After-ports-of
-wide324-to-ports-of c = wide324-to-is-call c .before
-
-abbrev wide324-to-padded-byte : tie.After-wide324 → tie.After-padded-byte
-wide324-to-padded-byte c = wide324-to-ports-of c .before
-
-abbrev wide324-to-start : tie.After-wide324 → tie.Start
-wide324-to-start c = wide324-to-padded-byte c .before .before
+callee : (c : tie.Then1) → let a = start (row-read c) .args in a .p + 4 + 3 ≤ length (a .t .now)
+callee c =
+    let r = row-read c in
+    let b = start r in
+    let s = b .args .t .now in
+    let p = b .args .p in
+    callee-fits s p (b .pre .0 .1) (called s p (byte s (p + 2)) (r .ports-of .result) refl (r .ports-of .ensures) (calls c)) .0
 
 returns : tie.Need-returns
 returns c =
-    let a = wide324-to-start c .args in
-    called-sums (a .t .now) (a .k) (a .p) (wide324-to-padded-byte c .padded-byte .result) (wide324-to-ports-of c .ports-of .result) (wide324-to-padded-byte c .padded-byte .ensures) (wide324-to-ports-of c .ports-of .ensures)
-    (sym (wide324-to-is-call c .is-call .ensures) ∙ wide324-to-then1 c .if1 .taken) (wide324-to-padded-u16 c .padded-u16 .result) (wide324-to-position-of c .position-of .result) (wide324-to-padded-u16 c .padded-u16 .ensures .0) (wide324-to-position-of c .position-of .ensures)
-    (wide324-to-start c .pre .0 .0) (a .ops .now) (a .words .now) (a .counts .now) (a .sizes .now) (wide324-to-start c .pre .1) (wide324-to-then2 c .if2 .taken)
-    (wide324-to-wide32 c .wide32 .result) (wide324-to-wide322 c .wide322 .result) (c .before .before .wide323 .result) (c .wide324 .result)
-    (wide324-to-wide32 c .wide32 .ensures .0) (wide324-to-wide322 c .wide322 .ensures .0) (c .before .before .wide323 .ensures .0) (c .wide324 .ensures .0)
+    let x = c .before in
+    let f = x .before .before in
+    let h = call f in
+    let r = row-read h in
+    let b = start r in
+    let a = b .args in
+    let s = a .t .now in
+    called-sums s (a .k) (a .p) (byte s (a .p + 2)) (r .ports-of .result) refl (r .ports-of .ensures) (calls h) (f .before .u16-at .result) (f .position-of .result) (f .before .u16-at .ensures .0)
+    (f .position-of .ensures) (b .pre .0 .0) (a .ops .now) (a .words .now) (a .counts .now) (a .sizes .now) (b .pre .1) (x .before .if2 .taken) (x .sums-at .result) (x .sums-at .ensures .0)
 
 returns-2 : tie.Need-returns-2
 returns-2 c =
-    let a = else2-to-start c .args in
-    no-callee-sums (a .t .now) (a .k) (a .p) (else2-to-padded-byte c .padded-byte .result) (else2-to-ports-of c .ports-of .result) (else2-to-padded-byte c .padded-byte .ensures) (else2-to-ports-of c .ports-of .ensures)
-    (sym (else2-to-is-call c .is-call .ensures) ∙ c .before .before .before .if1 .taken) (c .before .before .padded-u16 .result) (c .before .position-of .result) (c .before .before .padded-u16 .ensures .0) (c .before .position-of .ensures) (c .if2 .left)
+    let f = c .before in
+    let h = call f in
+    let r = row-read h in
+    let a = start r .args in
+    let s = a .t .now in
+    no-callee-sums s (a .k) (a .p) (byte s (a .p + 2)) (r .ports-of .result) refl (r .ports-of .ensures) (calls h) (f .before .u16-at .result) (f .position-of .result) (f .before .u16-at .ensures .0)
+    (f .position-of .ensures) (c .if2 .left)
 
 returns-3 : tie.Need-returns-3
 returns-3 c =
-    let a = constant-words-to-start c .args in
-    plain-sums (a .t .now) (a .k) (a .p) (constant-words-to-padded-byte c .padded-byte .result) (constant-words-to-ports-of c .ports-of .result) (constant-words-to-padded-byte c .padded-byte .ensures) (constant-words-to-ports-of c .ports-of .ensures)
-    (sym (constant-words-to-is-call c .is-call .ensures) ∙ constant-words-to-else1 c .if1 .left) (c .before .before .before .padded-byte2 .result) (c .before .before .result-words .result) (c .before .wide .result) (c .constant-words .result)
-    (c .before .before .before .padded-byte2 .ensures) (c .before .before .result-words .ensures .0) (c .before .before .result-words .ensures .1) (c .before .wide .ensures .0) (c .constant-words .ensures .0) (c .constant-words .ensures .1)
+    let e = c .before .before in
+    let i = e .before in
+    let r = i .before in
+    let a = start r .args in
+    let s = a .t .now in
+    plain-sums s (a .k) (a .p) (byte s (a .p + 2)) (r .ports-of .result) refl (r .ports-of .ensures) (sym (i .is-call .ensures) ∙ e .if1 .left) (c .plain-sums .result)
+    (c .plain-sums .ensures .0) (c .plain-sums .ensures .1)
 
 pub node-sums-spec : {M : Type 1} → statement M
 node-sums-spec =
     tie.close
-    (tie.spec (λ c. search needs) (λ c κs. search needs) (λ c κs. search needs) (λ c κs. search needs) (λ c. search needs)
-    (λ c κs. search needs) (λ c κs. search needs) (λ c. search needs) (λ c. search needs) (λ c κs. search needs) (λ c. search needs)
-    (λ c. search needs) (λ c κs. search needs) (λ c. search needs) (λ c. search needs) (λ c κs. search needs) (λ c. search needs)
-    (λ c. search needs) (λ c κs. search needs) (λ c. search needs) (λ c. search needs) (λ c κs. search needs) (λ c κs. search needs)
-    (λ c κs. search needs) (λ c κs. search needs) (λ c. search needs) (λ c. search needs) (λ c. search needs) (λ c. search needs) returns
-    returns-2 returns-3)
+    (tie.spec
+    (λ c. omega (arith, head (c .before)))
+    (λ c. omega (arith, head (c .before .before)))
+    (λ c κs. search needs)
+    (λ c κs. search needs)
+    (λ c. omega (arith, callee c))
+    (λ c κs. omega (arith, callee c))
+    (λ c κs. search needs)
+    (λ c κs. search needs)
+    (λ c. omega (arith, c .before .sums-at .ensures .1 .0))
+    (λ c. omega (arith, head (start (c .before .before))))
+    (λ c. omega (arith, head (start (c .before .before .before))))
+    (λ c κs. search needs)
+    returns
+    returns-2
+    returns-3)
