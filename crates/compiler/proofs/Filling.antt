@@ -7,7 +7,7 @@ use mathlib.Core.Option.{some}
 use native.Mathlib.Omega.{arith}
 use native.Mathlib.Nat.{add-zero}
 use lib.Dec.{eqb}
-use lib.ListN.{length, getD, set, getElem?, length-set}
+use lib.ListN.{length, getD, set, getElem?, length-set, replicate, length-replicate}
 use lib.Seq.{sets}
 use Rattle.base.specs.Limits.{nodeLimit, slotLimit}
 use Rattle.base.proofs.Numbers.{one-less}
@@ -109,16 +109,20 @@ none-index id ns e = subst (Indexed 0 (indexOf id ns) (length ns)) (sym e) (inde
 
 -- ---- what the resolver gives
 
-module _ (s : List ℕ) (at n : ℕ) (few : n ≤ nodeLimit) where
-  pub places-are : (ps₀ ps : List ℕ) → length ps₀ ≡ nodeLimit → ps ≡ sets ps₀ 0 (placesOf (nodesAt n s at)) → Places s at ps n
-  places-are ps₀ ps l e i il = ap (λ (xs : List ℕ). getD xs i 0) e ∙ place-at s at n ps₀ i il (omega arith)
+module _ (s : List ℕ) {at at' n : ℕ} (few : n ≤ nodeLimit) (e : at ≡ at') where
+  pub places-are : {ps : List ℕ} → ps ≡ sets (replicate nodeLimit 0) 0 (placesOf (nodesAt n s at)) → Places s at' ps n
+  places-are {ps} h = subst (λ (q : ℕ). Places s q ps n) e (λ i il. ap (λ (xs : List ℕ). getD xs i 0) h ∙ place-at s at n _ i il (rw length-replicate (omega arith)))
 
-  pub slots-are : (ts₀ ts : List ℕ) → length ts₀ ≡ slotLimit → ts ≡ sets ts₀ 0 (rowsOf (nodesAt n s at) (nodesAt n s at)) → Slots s at n ts
-  slots-are ts₀ ts l e =
-      record {
-        size = ap length e ∙ rows-size (nodesAt n s at) ts₀ ∙ l;
-        slots = λ i j x g jl. ap (λ (xs : List ℕ). slot xs i j) e ∙ row-slot (nodesAt n s at) ts₀ i j x g jl (let z = length-nodes n s at in omega arith) l;
-      }
+  pub slots-are : {ts : List ℕ} → ts ≡ sets (replicate slotLimit 0) 0 (rowsOf (nodesAt n s at) (nodesAt n s at)) → Slots s at' n ts
+  slots-are {ts} h =
+      let ns = nodesAt n s at in
+      let z = length-nodes n s at in
+      let l = length-replicate {A = ℕ} slotLimit 0 in
+      subst (λ (q : ℕ). Slots s q n ts) e
+      (record {
+        size = ap length h ∙ rows-size ns (replicate slotLimit 0) ∙ l;
+        slots = λ i j x g jl. ap (λ (xs : List ℕ). slot xs i j) h ∙ row-slot ns (replicate slotLimit 0) i j x g jl (omega arith) l;
+      })
 
 -- ---- the outputs
 

@@ -123,15 +123,16 @@ module _ (s locations : List ℕ) (k p cell : ℕ) (ins : List ℕ) (first next 
       ∙ ap (inlineWith (inlined (before s k)) given next (nodeAt s p)) (call-payload s p kind row ek er f)
       ∙ ap (λ (d : ℕ). inlined (before s k) d given next) (sym ec)
 
-  module _ (args : List ℕ) (ea : args ≡ sets (replicate 8 0) 0 given) (few : n ≤ 8) (g : ℕ) (eg : g ≡ positionOf s k c) where
-    pub callee-is : k ≤ 16 → g < k → nodeInlined s locations k p cell ins first next ≡ functionInlined s g args next
-    unfolding functionInlined
-    callee-is b lt =
-        let l : length given ≡ n = addresses-length locations ins first cell n in
-        inlined-here
-        ∙ inlined-at s given next k c b (subst (λ (q : ℕ). q < k) eg lt)
-        ∙ ap (λ (q : ℕ). functionInlined s q given next) (sym eg)
-        ∙ function-same given args (subst (λ (ys : List ℕ). Same given ys) (sym ea) (padded 8 given (omega arith))) (inlined (before s g)) (functionIn s g) next
-
-    pub callee-none : k ≤ g → nodeInlined s locations k p cell ins first next ≡ nothing next
-    callee-none le = inlined-here ∙ inlined-none s given next k c (subst (λ (q : ℕ). k ≤ q) eg le)
+  -- the call is the function at its callee's position, on these addresses; where there is none, nothing
+  pub callee-is : {args : List ℕ} {g : ℕ} → args ≡ sets (replicate 8 0) 0 given → n ≤ 8 → g ≡ positionOf s k c
+      → (k ≤ 16 → g < k → nodeInlined s locations k p cell ins first next ≡ functionInlined s g args next)
+      × (k ≤ g → nodeInlined s locations k p cell ins first next ≡ nothing next)
+  unfolding functionInlined
+  callee-is {args} {g} ea few eg =
+      let l : length given ≡ n = addresses-length locations ins first cell n in (
+        λ b lt. inlined-here
+            ∙ inlined-at s given next k c b (subst (λ (q : ℕ). q < k) eg lt)
+            ∙ ap (λ (q : ℕ). functionInlined s q given next) (sym eg)
+            ∙ function-same given args (subst (λ (ys : List ℕ). Same given ys) (sym ea) (padded 8 given (omega arith))) (inlined (before s g)) (functionIn s g) next,
+        λ le. inlined-here ∙ inlined-none s given next k c (subst (λ (q : ℕ). k ≤ q) eg le),
+      )
