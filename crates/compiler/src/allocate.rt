@@ -35,16 +35,16 @@ use base::wide32;
 use reader::Found;
 
 // The references of the node at p.
-fn reads_at(t: &[u8], p: usize) -> Reads
-    requires { ⌜ NodeFit (now t) p ⌝ }
-    ensures { λ r. ⌜ ReadsOf (now (t .entry)) p r ⌝ }
+fn reads_at(table: &[u8], p: usize) -> Reads
+    requires { ⌜ NodeFit (now table) p ⌝ }
+    ensures { λ r. ⌜ ReadsOf (now (table .entry)) p r ⌝ }
 {
-    let row = ports::ports_of(padded_byte(t, p + 2));
+    let row = ports::ports_of(padded_byte(table, p + 2));
     let form = row.form;
     if ports::is_call(form) {
         Reads {
             first: p + 4 + 3,
-            count: wide(padded_byte(t, p + 4 + 2)),
+            count: wide(padded_byte(table, p + 4 + 2)),
         }
     } else {
         Reads {
@@ -55,15 +55,15 @@ fn reads_at(t: &[u8], p: usize) -> Reads
 }
 
 // The index of the node that the reference at q reads, or `NO_NODE` for an input.
-fn target(t: &[u8], at: usize, n: usize, q: usize) -> u16
-    requires { ⌜ (n ≤ nodeLimit) × (q < 2 ^ 31) × ReadsNodes n (now t) at ⌝ }
-    ensures { λ r. ⌜ r ≡ Resolve.target (nodesAt n (now (t .entry)) at) (some (reference (now (t .entry)) q)) ⌝ }
+fn target(table: &[u8], at: usize, n: usize, q: usize) -> u16
+    requires { ⌜ (n ≤ nodeLimit) × (q < 2 ^ 31) × ReadsNodes n (now table) at ⌝ }
+    ensures { λ r. ⌜ r ≡ Resolve.target (nodesAt n (now (table .entry)) at) (some (reference (now (table .entry)) q)) ⌝ }
 {
-    let id = padded_u16(t, q);
+    let id = padded_u16(table, q);
     if id == 0 {
         return NO_NODE;
     }
-    let found = reader::find_node(t, at, n, id);
+    let found = reader::find_node(table, at, n, id);
     match found {
         Found::At(i, _) => i as u16,
         Found::Nothing => n as u16,
@@ -86,7 +86,7 @@ fn location_of(allocated: &[u16; NODE_PORT_LIMIT], v: usize, port: usize) -> u16
 
 // The locations of n references, the first at q, of the i-th node.
 fn allocate_reads(
-    t: &[u8],
+    table: &[u8],
     targets: &[u16; SLOT_LIMIT],
     allocated: &[u16; NODE_PORT_LIMIT],
     i: usize,
@@ -97,13 +97,13 @@ fn allocate_reads(
 )
     requires { ⌜ (i < nodeLimit) × (n ≤ operandLimit) × (first < 2 ^ 20) × (cell + n ≤ referenceLimit) ⌝ }
     ensures { λ _. ⌜ now (locations .exit) ≡ sets (now (locations .entry)) cell
-        (readCodes (now (t .entry)) (now (targets .entry)) (now (allocated .entry)) (operandLimit * i) n first) ⌝ }
+        (readCodes (now (table .entry)) (now (targets .entry)) (now (allocated .entry)) (operandLimit * i) n first) ⌝ }
 {
     let mut q = first;
     let mut j = 0;
     while j < n {
         let v = wide16(targets[OPERAND_LIMIT * i + j]);
-        let port = wide(padded_byte(t, q + 2));
+        let port = wide(padded_byte(table, q + 2));
         locations[cell + j] = location_of(allocated, v, port);
         q += 3;
         j += 1;
@@ -167,7 +167,7 @@ fn allocate_results(
 
 // The ports of the i-th node, which stands at p; the answer is the offset behind its results.
 fn allocate_node(
-    t: &[u8],
+    table: &[u8],
     starts: &[u16; FUNCTION_LIMIT],
     words: &[u32; FUNCTION_LIMIT],
     outs: &[u16; OUTPUT_LIMIT],
@@ -180,19 +180,19 @@ fn allocate_node(
     allocated: &mut [u16; NODE_PORT_LIMIT],
     d: usize,
 ) -> usize
-    requires { ⌜ (k ≤ functionLimit) × (i < nodeLimit) × NodeFit (now t) p × Starts (now t) (now starts) k × WordsHeld (now t) (now words) k ⌝ }
-    requires { ⌜ AllFit (now t) k × AllOuts (now t) (now outs) k × (cell + n ≤ referenceLimit) × (n ≡ length (reads (nodeAt (now t) p))) ⌝ }
-    requires { ⌜ d + addsWords (now t) k (nodeAt (now t) p) ≤ wordLimit ⌝ }
-    ensures { λ r. ⌜ now (allocated .exit) ≡ sets (now (allocated .entry)) (portLimit * i) (nodeCodes (now (t .entry)) (now (outs .entry)) (now (locations .entry)) k p cell d) ⌝ }
-    ensures { λ r. ⌜ r ≡ d + addsWords (now (t .entry)) k (nodeAt (now (t .entry)) p) ⌝ }
+    requires { ⌜ (k ≤ functionLimit) × (i < nodeLimit) × NodeFit (now table) p × Starts (now table) (now starts) k × WordsHeld (now table) (now words) k ⌝ }
+    requires { ⌜ AllFit (now table) k × AllOuts (now table) (now outs) k × (cell + n ≤ referenceLimit) × (n ≡ length (reads (nodeAt (now table) p))) ⌝ }
+    requires { ⌜ d + addsWords (now table) k (nodeAt (now table) p) ≤ wordLimit ⌝ }
+    ensures { λ r. ⌜ now (allocated .exit) ≡ sets (now (allocated .entry)) (portLimit * i) (nodeCodes (now (table .entry)) (now (outs .entry)) (now (locations .entry)) k p cell d) ⌝ }
+    ensures { λ r. ⌜ r ≡ d + addsWords (now (table .entry)) k (nodeAt (now (table .entry)) p) ⌝ }
 {
-    let row = ports::ports_of(padded_byte(t, p + 2));
+    let row = ports::ports_of(padded_byte(table, p + 2));
     let form = row.form;
     if ports::is_call(form) {
-        let c = padded_u16(t, p + 4);
-        let g = sums::position_of(t, starts, k, c);
+        let c = padded_u16(table, p + 4);
+        let g = sums::position_of(table, starts, k, c);
         if g < k {
-            let count = wide(padded_byte(t, wide16(starts[g]) + 3));
+            let count = wide(padded_byte(table, wide16(starts[g]) + 3));
             let w = wide32(words[g]);
             allocate_call(outs, g, count, locations, cell, n, allocated, i, d);
             d + w
@@ -200,7 +200,7 @@ fn allocate_node(
             d
         }
     } else {
-        let ty = padded_byte(t, p + 3);
+        let ty = padded_byte(table, p + 3);
         let w = ports::width(ports::own(ty, row.result));
         let count = wide(row.results);
         let all = ports::result_words(row, ty);
@@ -211,7 +211,7 @@ fn allocate_node(
 
 // The nodes of the function at position k in their order; the answer is the place behind their locations.
 fn allocate_nodes(
-    t: &[u8],
+    table: &[u8],
     starts: &[u16; FUNCTION_LIMIT],
     words: &[u32; FUNCTION_LIMIT],
     outs: &[u16; OUTPUT_LIMIT],
@@ -225,12 +225,12 @@ fn allocate_nodes(
     allocated: &mut [u16; NODE_PORT_LIMIT],
     cell: usize,
 ) -> usize
-    requires { ⌜ Accepted (now t) (suc k) × (n ≡ nodeCount (now t) (placeOf (now t) k)) × (wordsAt (now t) k ≤ wordLimit) × (cell + readCount (now t) k ≤ referenceLimit) ⌝ }
-    requires { ⌜ Starts (now t) (now starts) k × WordsHeld (now t) (now words) k × AllOuts (now t) (now outs) k ⌝ }
-    requires { ⌜ Slots (now t) (nodesPlace (now t) (placeOf (now t) k)) n (now targets) × Places (now t) (nodesPlace (now t) (placeOf (now t) k)) (now places) n
+    requires { ⌜ Accepted (now table) (suc k) × (n ≡ nodeCount (now table) (placeOf (now table) k)) × (wordsAt (now table) k ≤ wordLimit) × (cell + readCount (now table) k ≤ referenceLimit) ⌝ }
+    requires { ⌜ Starts (now table) (now starts) k × WordsHeld (now table) (now words) k × AllOuts (now table) (now outs) k ⌝ }
+    requires { ⌜ Slots (now table) (nodesPlace (now table) (placeOf (now table) k)) n (now targets) × Places (now table) (nodesPlace (now table) (placeOf (now table) k)) (now places) n
         × (now index ≡ sets (replicate nodeLimit 0) 0 (indexOrder (now targets) n)) ⌝ }
     requires { ⌜ (length (now order) ≡ orderLimit) × (length (now locations) ≡ referenceLimit) × (length (now allocated) ≡ nodePortLimit) ⌝ }
-    ensures { λ r. ⌜ NodesAllocated (now (t .entry)) k cell (now (order .entry)) (now (order .exit)) (now (locations .entry)) (now (locations .exit)) (now (allocated .exit)) r ⌝ }
+    ensures { λ r. ⌜ NodesAllocated (now (table .entry)) k cell (now (order .entry)) (now (order .exit)) (now (locations .entry)) (now (locations .exit)) (now (allocated .exit)) r ⌝ }
 {
     let mut here = cell;
     let mut d = 0;
@@ -239,11 +239,20 @@ fn allocate_nodes(
         let i = wide16(index[m]);
         let p = wide32(places[i]);
         order[NODE_LIMIT * k + m] = p as u16;
-        let r = reads_at(t, p);
+        let r = reads_at(table, p);
         let count = r.count;
-        allocate_reads(t, targets, allocated, i, r.first, count, locations, here);
+        allocate_reads(
+            table,
+            targets,
+            allocated,
+            i,
+            r.first,
+            count,
+            locations,
+            here,
+        );
         d = allocate_node(
-            t,
+            table,
             starts,
             words,
             outs,
@@ -264,7 +273,7 @@ fn allocate_nodes(
 
 // The locations of the outputs of the function at p, the k-th, whose n nodes begin at `at`.
 fn allocate_outputs(
-    t: &[u8],
+    table: &[u8],
     p: usize,
     at: usize,
     n: usize,
@@ -272,16 +281,16 @@ fn allocate_outputs(
     k: usize,
     outs: &mut [u16; OUTPUT_LIMIT],
 )
-    requires { ⌜ (k < functionLimit) × (p < 65536) × (outputCount (now t) p ≤ portLimit) × (n ≤ nodeLimit) × ReadsNodes n (now t) at ⌝ }
+    requires { ⌜ (k < functionLimit) × (p < 65536) × (outputCount (now table) p ≤ portLimit) × (n ≤ nodeLimit) × ReadsNodes n (now table) at ⌝ }
     ensures { λ _. ⌜ now (outs .exit) ≡ sets (now (outs .entry)) (portLimit * k)
-        (outputCodes (now (t .entry)) (now (allocated .entry)) (nodesAt n (now (t .entry)) at) (outputCount (now (t .entry)) p) (outputsPlace (now (t .entry)) p)) ⌝ }
+        (outputCodes (now (table .entry)) (now (allocated .entry)) (nodesAt n (now (table .entry)) at) (outputCount (now (table .entry)) p) (outputsPlace (now (table .entry)) p)) ⌝ }
 {
-    let count = wide(padded_byte(t, p + 3));
-    let mut q = p + 6 + wide(padded_byte(t, p + 2));
+    let count = wide(padded_byte(table, p + 3));
+    let mut q = p + 6 + wide(padded_byte(table, p + 2));
     let mut j = 0;
     while j < count {
-        let v = wide16(target(t, at, n, q + 1));
-        let port = wide(padded_byte(t, q + 1 + 2));
+        let v = wide16(target(table, at, n, q + 1));
+        let port = wide(padded_byte(table, q + 1 + 2));
         outs[PORT_LIMIT * k + j] = location_of(allocated, v, port);
         q += 4;
         j += 1;
@@ -290,7 +299,7 @@ fn allocate_outputs(
 
 // The function at position k; the answer is the place behind its locations.
 fn allocate_function(
-    t: &[u8],
+    table: &[u8],
     starts: &[u16; FUNCTION_LIMIT],
     words: &[u32; FUNCTION_LIMIT],
     k: usize,
@@ -299,23 +308,23 @@ fn allocate_function(
     locations: &mut [u16; REFERENCE_LIMIT],
     cell: usize,
 ) -> usize
-    requires { ⌜ Accepted (now t) (suc k) × (wordsAt (now t) k ≤ wordLimit) × (cell + readCount (now t) k ≤ referenceLimit) ⌝ }
-    requires { ⌜ Starts (now t) (now starts) (suc k) × WordsHeld (now t) (now words) k × AllOuts (now t) (now outs) k ⌝ }
+    requires { ⌜ Accepted (now table) (suc k) × (wordsAt (now table) k ≤ wordLimit) × (cell + readCount (now table) k ≤ referenceLimit) ⌝ }
+    requires { ⌜ Starts (now table) (now starts) (suc k) × WordsHeld (now table) (now words) k × AllOuts (now table) (now outs) k ⌝ }
     requires { ⌜ (length (now outs) ≡ outputLimit) × (length (now order) ≡ orderLimit) × (length (now locations) ≡ referenceLimit) ⌝ }
-    ensures { λ r. ⌜ FunctionAllocated (now (t .entry)) k cell (now (order .entry)) (now (order .exit)) (now (locations .entry)) (now (locations .exit)) (now (outs .entry)) (now (outs .exit)) r ⌝ }
+    ensures { λ r. ⌜ FunctionAllocated (now (table .entry)) k cell (now (order .entry)) (now (order .exit)) (now (locations .entry)) (now (locations .exit)) (now (outs .entry)) (now (outs .exit)) r ⌝ }
 {
     let p = wide16(starts[k]);
-    let n = padded_u16(t, p + 4);
-    let at = sums::nodes_place(t, p);
+    let n = padded_u16(table, p + 4);
+    let at = sums::nodes_place(table, p);
     let mut places = [0u32; NODE_LIMIT];
     let mut targets = [0u16; SLOT_LIMIT];
     let mut index = [0u16; NODE_LIMIT];
     let mut allocated = [0u16; NODE_PORT_LIMIT];
-    resolver::places(t, at, n, &mut places);
-    resolver::resolve(t, at, n, &mut targets);
+    resolver::places(table, at, n, &mut places);
+    resolver::resolve(table, at, n, &mut targets);
     order::schedule(&targets, n, &mut index);
     let end = allocate_nodes(
-        t,
+        table,
         starts,
         words,
         outs,
@@ -329,13 +338,13 @@ fn allocate_function(
         &mut allocated,
         cell,
     );
-    allocate_outputs(t, p, at, n, &allocated, k, outs);
+    allocate_outputs(table, p, at, n, &allocated, k, outs);
     end
 }
 
 // The function at position j, where it is within the word limit; the answer is the place behind all locations.
 pub fn allocate_next(
-    t: &[u8],
+    table: &[u8],
     starts: &[u16; FUNCTION_LIMIT],
     words: &[u32; FUNCTION_LIMIT],
     j: usize,
@@ -345,21 +354,21 @@ pub fn allocate_next(
     begins: &mut [u16; FUNCTION_LIMIT],
     cell: usize,
 ) -> usize
-    requires { ⌜ Accepted (now t) (suc j) × Starts (now t) (now starts) (suc j) × WordsHeld (now t) (now words) (suc j) ⌝ }
-    requires { ⌜ AllocatedTo (now t) j (now outs) (now order) (now locations) (now begins) cell ⌝ }
-    ensures { λ r. ⌜ AllocatedTo (now (t .entry)) (suc j) (now (outs .exit)) (now (order .exit)) (now (locations .exit)) (now (begins .exit)) r ⌝ }
+    requires { ⌜ Accepted (now table) (suc j) × Starts (now table) (now starts) (suc j) × WordsHeld (now table) (now words) (suc j) ⌝ }
+    requires { ⌜ AllocatedTo (now table) j (now outs) (now order) (now locations) (now begins) cell ⌝ }
+    ensures { λ r. ⌜ AllocatedTo (now (table .entry)) (suc j) (now (outs .exit)) (now (order .exit)) (now (locations .exit)) (now (begins .exit)) r ⌝ }
 {
     let w = wide32(words[j]);
     if WORD_LIMIT < w {
         return cell;
     }
     begins[j] = cell as u16;
-    allocate_function(t, starts, words, j, outs, order, locations, cell)
+    allocate_function(table, starts, words, j, outs, order, locations, cell)
 }
 
 // The functions before k that are within the word limit; the answer is the place behind all locations.
 pub fn allocate_functions(
-    t: &[u8],
+    table: &[u8],
     starts: &[u16; FUNCTION_LIMIT],
     words: &[u32; FUNCTION_LIMIT],
     k: usize,
@@ -368,14 +377,24 @@ pub fn allocate_functions(
     locations: &mut [u16; REFERENCE_LIMIT],
     begins: &mut [u16; FUNCTION_LIMIT],
 ) -> usize
-    requires { ⌜ Accepted (now t) k × Starts (now t) (now starts) k × WordsHeld (now t) (now words) k ⌝ }
+    requires { ⌜ Accepted (now table) k × Starts (now table) (now starts) k × WordsHeld (now table) (now words) k ⌝ }
     requires { ⌜ (length (now outs) ≡ outputLimit) × (length (now order) ≡ orderLimit) × (length (now locations) ≡ referenceLimit) × (length (now begins) ≡ functionLimit) ⌝ }
-    ensures { λ r. ⌜ AllocatedTo (now (t .entry)) k (now (outs .exit)) (now (order .exit)) (now (locations .exit)) (now (begins .exit)) r ⌝ }
+    ensures { λ r. ⌜ AllocatedTo (now (table .entry)) k (now (outs .exit)) (now (order .exit)) (now (locations .exit)) (now (begins .exit)) r ⌝ }
 {
     let mut cell = 0;
     let mut j = 0;
     while j < k {
-        cell = allocate_next(t, starts, words, j, outs, order, locations, begins, cell);
+        cell = allocate_next(
+            table,
+            starts,
+            words,
+            j,
+            outs,
+            order,
+            locations,
+            begins,
+            cell,
+        );
         j += 1;
     }
     cell

@@ -19,16 +19,16 @@ use base::put16;
 use base::wide16;
 
 // The addresses of n arguments, by their type bytes.
-pub fn input_places(t: &[u8], at: usize, n: usize, ins: &mut [u16; PORT_LIMIT])
+pub fn input_places(table: &[u8], at: usize, n: usize, ins: &mut [u16; PORT_LIMIT])
     requires { ⌜ (at < 2 ^ 20) × (n ≤ portLimit) ⌝ }
-    ensures { λ _. ⌜ now (ins .exit) ≡ sets (now (ins .entry)) 0 (places 0 (typesBy 1 n (now (t .entry)) at)) ⌝ }
+    ensures { λ _. ⌜ now (ins .exit) ≡ sets (now (ins .entry)) 0 (places 0 (typesBy 1 n (now (table .entry)) at)) ⌝ }
 {
     let mut q = at;
     let mut w = 0;
     let mut j = 0;
     while j < n {
         ins[j] = w as u16;
-        w += ports::width(padded_byte(t, q));
+        w += ports::width(padded_byte(table, q));
         q += 1;
         j += 1;
     }
@@ -48,7 +48,7 @@ fn put_span(code: &mut [u8], at: usize, a: usize, n: usize)
 
 // The addresses of the output words of the function at position k, whose n output entries begin at `entries`.
 pub fn put_outputs(
-    t: &[u8],
+    table: &[u8],
     entries: usize,
     n: usize,
     outs: &[u16; OUTPUT_LIMIT],
@@ -59,9 +59,9 @@ pub fn put_outputs(
     at: usize,
 )
     requires { ⌜ (entries < 2 ^ 20) × (n ≤ portLimit) × (k < functionLimit) × (first ≤ wordLimit) × ((j : ℕ) → j < n → addressOf (now ins) first (getD (now outs) (portLimit * k + j) 0) ≤ 2 * wordLimit) ⌝ }
-    requires { ⌜ at + 2 * widths (typesBy 4 n (now t) entries) ≤ length (now code) ⌝ }
+    requires { ⌜ at + 2 * widths (typesBy 4 n (now table) entries) ≤ length (now code) ⌝ }
     ensures { λ _. ⌜ now (code .exit) ≡ sets (now (code .entry)) at
-        (allBytes 2 (spans (typesBy 4 n (now (t .entry)) entries) (addressesIn (now (outs .entry)) (now (ins .entry)) first (portLimit * k) n))) ⌝ }
+        (allBytes 2 (spans (typesBy 4 n (now (table .entry)) entries) (addressesIn (now (outs .entry)) (now (ins .entry)) first (portLimit * k) n))) ⌝ }
 {
     let mut q = entries;
     let mut here = at;
@@ -69,7 +69,7 @@ pub fn put_outputs(
     while j < n {
         let e = wide16(outs[PORT_LIMIT * k + j]);
         let a = wide16(address(ins, first, e));
-        let w = ports::width(padded_byte(t, q));
+        let w = ports::width(padded_byte(table, q));
         put_span(code, here, a, w);
         here += 2 * w;
         q += 4;

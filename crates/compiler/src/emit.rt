@@ -76,20 +76,20 @@ fn arguments(
 }
 
 // n bytes of the table.
-fn copy(t: &[u8], from: usize, n: usize, code: &mut [u8], at: usize)
-    requires { ⌜ (from + n ≤ length (now t)) × (at + n ≤ length (now code)) ⌝ }
-    ensures { λ _. ⌜ now (code .exit) ≡ sets (now (code .entry)) at (copied n (now (t .entry)) from) ⌝ }
+fn copy(table: &[u8], from: usize, n: usize, code: &mut [u8], at: usize)
+    requires { ⌜ (from + n ≤ length (now table)) × (at + n ≤ length (now code)) ⌝ }
+    ensures { λ _. ⌜ now (code .exit) ≡ sets (now (code .entry)) at (copied n (now (table .entry)) from) ⌝ }
 {
     let mut j = 0;
     while j < n {
-        code[at + j] = t[from + j];
+        code[at + j] = table[from + j];
         j += 1;
     }
 }
 
 // The node at p, which is no call.
 fn emit_single(
-    t: &[u8],
+    table: &[u8],
     locations: &[u16; REFERENCE_LIMIT],
     k: usize,
     p: usize,
@@ -100,15 +100,15 @@ fn emit_single(
     at: usize,
     next: usize,
 ) -> Reached
-    requires { ⌜ (p < 65536) × (calling (formOf (kindAt (now t) p)) ≡ false) × (nodeEnd (now t) p ≤ length (now t)) ⌝ }
-    requires { ⌜ (first ≤ wordLimit) × (cell + length (reads (nodeAt (now t) p)) ≤ referenceLimit) ⌝ }
-    requires { ⌜ Room (now code) at (nodeInlined (now t) (now locations) k p cell (now ins) first next) ⌝ }
+    requires { ⌜ (p < 65536) × (calling (formOf (kindAt (now table) p)) ≡ false) × (nodeEnd (now table) p ≤ length (now table)) ⌝ }
+    requires { ⌜ (first ≤ wordLimit) × (cell + length (reads (nodeAt (now table) p)) ≤ referenceLimit) ⌝ }
+    requires { ⌜ Room (now code) at (nodeInlined (now table) (now locations) k p cell (now ins) first next) ⌝ }
     ensures { λ r. ⌜ Emits (now (code .entry)) (now (code .exit)) at
-        (nodeInlined (now (t .entry)) (now (locations .entry)) k p cell (now (ins .entry)) first next) r ⌝ }
-    ensures { λ r. ⌜ r .cell ≡ cell + length (reads (nodeAt (now (t .entry)) p)) ⌝ }
+        (nodeInlined (now (table .entry)) (now (locations .entry)) k p cell (now (ins .entry)) first next) r ⌝ }
+    ensures { λ r. ⌜ r .cell ≡ cell + length (reads (nodeAt (now (table .entry)) p)) ⌝ }
 {
-    let kind = padded_byte(t, p + 2);
-    let ty = padded_byte(t, p + 3);
+    let kind = padded_byte(table, p + 2);
+    let ty = padded_byte(table, p + 3);
     let row = ports::ports_of(kind);
     let form = row.form;
     let n = wide(row.operands);
@@ -117,7 +117,7 @@ fn emit_single(
     code[at] = kind;
     code[at + 1] = ty;
     operands(locations, cell, n, ins, first, code, at + 2);
-    copy(t, p + 4, m, code, at + 2 + 2 * n);
+    copy(table, p + 4, m, code, at + 2 + 2 * n);
     Reached {
         at: at + 2 + 2 * n + m,
         next: next + w,
@@ -127,7 +127,7 @@ fn emit_single(
 
 // The node at p of the function at position k, whose results begin at `first`.
 fn emit_node(
-    t: &[u8],
+    table: &[u8],
     starts: &[u16; FUNCTION_LIMIT],
     begins: &[u16; FUNCTION_LIMIT],
     order: &[u16; ORDER_LIMIT],
@@ -141,25 +141,25 @@ fn emit_node(
     at: usize,
     next: usize,
 ) -> Reached
-    requires { ⌜ (k < functionLimit) × Starts (now t) (now starts) k × NodeFit (now t) p ⌝ }
-    requires { ⌜ (first ≤ wordLimit) × (cell + length (reads (nodeAt (now t) p)) ≤ referenceLimit) ⌝ }
-    requires { ⌜ AllAllocated (now t) (now begins) (now order) (now locations) k ⌝ }
-    requires { ⌜ Room (now code) at (nodeInlined (now t) (now locations) k p cell (now ins) first next) ⌝ }
+    requires { ⌜ (k < functionLimit) × Starts (now table) (now starts) k × NodeFit (now table) p ⌝ }
+    requires { ⌜ (first ≤ wordLimit) × (cell + length (reads (nodeAt (now table) p)) ≤ referenceLimit) ⌝ }
+    requires { ⌜ AllAllocated (now table) (now begins) (now order) (now locations) k ⌝ }
+    requires { ⌜ Room (now code) at (nodeInlined (now table) (now locations) k p cell (now ins) first next) ⌝ }
     ensures { λ r. ⌜ Emits (now (code .entry)) (now (code .exit)) at
-        (nodeInlined (now (t .entry)) (now (locations .entry)) k p cell (now (ins .entry)) first next) r ⌝ }
-    ensures { λ r. ⌜ r .cell ≡ cell + length (reads (nodeAt (now (t .entry)) p)) ⌝ }
+        (nodeInlined (now (table .entry)) (now (locations .entry)) k p cell (now (ins .entry)) first next) r ⌝ }
+    ensures { λ r. ⌜ r .cell ≡ cell + length (reads (nodeAt (now (table .entry)) p)) ⌝ }
 {
-    let row = ports::ports_of(padded_byte(t, p + 2));
+    let row = ports::ports_of(padded_byte(table, p + 2));
     let form = row.form;
     if ports::is_call(form) {
-        let n = wide(padded_byte(t, p + 4 + 2));
-        let c = padded_u16(t, p + 4);
+        let n = wide(padded_byte(table, p + 4 + 2));
+        let c = padded_u16(table, p + 4);
         let mut args = [0u16; PORT_LIMIT];
         arguments(locations, cell, n, ins, first, &mut args);
-        let g = sums::position_of(t, starts, k, c);
+        let g = sums::position_of(table, starts, k, c);
         if g < k {
             let r = emit(
-                t,
+                table,
                 starts,
                 begins,
                 order,
@@ -183,13 +183,13 @@ fn emit_node(
             }
         }
     } else {
-        emit_single(t, locations, k, p, cell, ins, first, code, at, next)
+        emit_single(table, locations, k, p, cell, ins, first, code, at, next)
     }
 }
 
 // The function at position k, with the addresses of its arguments.
 pub fn emit(
-    t: &[u8],
+    table: &[u8],
     starts: &[u16; FUNCTION_LIMIT],
     begins: &[u16; FUNCTION_LIMIT],
     order: &[u16; ORDER_LIMIT],
@@ -200,12 +200,12 @@ pub fn emit(
     at: usize,
     next: usize,
 ) -> Reached
-    requires { ⌜ (k < functionLimit) × Starts (now t) (now starts) (suc k) ⌝ }
-    requires { ⌜ AllAllocated (now t) (now begins) (now order) (now locations) (suc k) ⌝ }
-    requires { ⌜ Room (now code) at (functionInlined (now t) k (now ins) next) ⌝ }
-    ensures { λ r. ⌜ Emits (now (code .entry)) (now (code .exit)) at (functionInlined (now (t .entry)) k (now (ins .entry)) next) r ⌝ }
+    requires { ⌜ (k < functionLimit) × Starts (now table) (now starts) (suc k) ⌝ }
+    requires { ⌜ AllAllocated (now table) (now begins) (now order) (now locations) (suc k) ⌝ }
+    requires { ⌜ Room (now code) at (functionInlined (now table) k (now ins) next) ⌝ }
+    ensures { λ r. ⌜ Emits (now (code .entry)) (now (code .exit)) at (functionInlined (now (table .entry)) k (now (ins .entry)) next) r ⌝ }
 {
-    let n = padded_u16(t, wide16(starts[k]) + 4);
+    let n = padded_u16(table, wide16(starts[k]) + 4);
     let mut cell = wide16(begins[k]);
     let mut here = at;
     let mut word = next;
@@ -213,7 +213,7 @@ pub fn emit(
     while i < n {
         let p = wide16(order[NODE_LIMIT * k + i]);
         let r = emit_node(
-            t,
+            table,
             starts,
             begins,
             order,

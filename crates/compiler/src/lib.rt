@@ -55,20 +55,20 @@ pub struct Reached {
 // Writes the board list of the function at position k of an accepted table, which was found to be within the limits and
 // to fit the buffer.
 pub fn compile(
-    t: &[u8],
+    table: &[u8],
     starts: &[u16; FUNCTION_LIMIT],
     words: &[u32; FUNCTION_LIMIT],
     k: usize,
     sizes: Sizes,
     code: &mut [u8],
 )
-    requires { ⌜ Accepted (now t) (suc k) × Starts (now t) (now starts) (suc k) × WordsHeld (now t) (now words) (suc k) ⌝ }
-    requires { ⌜ Measured (now t) k (sizes .instructions) (sizes .arguments) (sizes .outputs) × (length (codeAt (now t) k) ≤ length (now code)) ⌝ }
-    ensures { λ _. ⌜ now (code .exit) ≡ sets (now (code .entry)) 0 (codeAt (now (t .entry)) k) ⌝ }
+    requires { ⌜ Accepted (now table) (suc k) × Starts (now table) (now starts) (suc k) × WordsHeld (now table) (now words) (suc k) ⌝ }
+    requires { ⌜ Measured (now table) k (sizes .instructions) (sizes .arguments) (sizes .outputs) × (length (codeAt (now table) k) ≤ length (now code)) ⌝ }
+    ensures { λ _. ⌜ now (code .exit) ≡ sets (now (code .entry)) 0 (codeAt (now (table .entry)) k) ⌝ }
 {
     let p = wide16(starts[k]);
-    let input_count = wide(padded_byte(t, p + 2));
-    let output_count = wide(padded_byte(t, p + 3));
+    let input_count = wide(padded_byte(table, p + 2));
+    let output_count = wide(padded_byte(table, p + 3));
     let count = sizes.instructions;
     let inputs = sizes.arguments;
     let outputs = sizes.outputs;
@@ -79,7 +79,7 @@ pub fn compile(
     let mut begins = [0u16; FUNCTION_LIMIT];
     let mut ins = [0u16; PORT_LIMIT];
     let cell = allocate_functions(
-        t,
+        table,
         starts,
         words,
         k,
@@ -89,7 +89,7 @@ pub fn compile(
         &mut begins,
     );
     allocate_next(
-        t,
+        table,
         starts,
         words,
         k,
@@ -99,10 +99,10 @@ pub fn compile(
         &mut begins,
         cell,
     );
-    input_places(t, p + 6, input_count, &mut ins);
+    input_places(table, p + 6, input_count, &mut ins);
     put_header(code, inputs as u8, outputs as u8, count as u16, all as u16);
     let r = emit(
-        t,
+        table,
         starts,
         &begins,
         &order,
@@ -114,7 +114,7 @@ pub fn compile(
         inputs,
     );
     put_outputs(
-        t,
+        table,
         p + 6 + input_count,
         output_count,
         &outs,

@@ -174,7 +174,7 @@ abbrev slice-known4-to-start : tie.After-slice-known4 → tie.Start
 slice-known4-to-start c = put-outputs-arg-to-start (c .before .before .before)
 
 low : (c : tie.Start) → c .args .k < 16
-low c = let l = few (c .args .t .now) (suc (c .args .k)) (c .pre .0 .0) in omega arith
+low c = let l = few (c .args .table .now) (suc (c .args .k)) (c .pre .0 .0) in omega arith
 
 mul-wide16 : tie.Need-mul-wide16
 mul-wide16 c = let l = low (c .before .before) in omega arith
@@ -189,23 +189,23 @@ element-copy-out-wide32 : tie.Need-element-copy-out-wide32
 element-copy-out-wide32 c = let l = low (wide2-to-start c) in omega arith
 
 -- the function's place and counts
-place : (c : tie.After-wide16) → c .wide16 .result ≡ placeOf (wide16-to-start c .args .t .now) (wide16-to-start c .args .k)
+place : (c : tie.After-wide16) → c .wide16 .result ≡ placeOf (wide16-to-start c .args .table .now) (wide16-to-start c .args .k)
 place c = c .wide16 .ensures .0 ∙ wide16-to-start c .pre .0 .1 (wide16-to-start c .args .k) (omega arith)
 
-nin : (c : tie.After-wide) → (c .wide .result ≡ inputCount (wide-to-start c .args .t .now) (placeOf (wide-to-start c .args .t .now) (wide-to-start c .args .k))) × (c .wide .result ≤ 8)
+nin : (c : tie.After-wide) → (c .wide .result ≡ inputCount (wide-to-start c .args .table .now) (placeOf (wide-to-start c .args .table .now) (wide-to-start c .args .k))) × (c .wide .result ≤ 8)
 nin c =
-    let e = c .wide .ensures .0 ∙ c .before .padded-byte .ensures ∙ ap (λ (q : ℕ). byte (wide-to-start c .args .t .now) (q + 2)) (place (c .before .before)) in
-    let f = fit-below (wide-to-start c .args .t .now) (suc (wide-to-start c .args .k)) (wide-to-start c .pre .0 .0) (wide-to-start c .args .k) (omega arith) .inputs in
+    let e = c .wide .ensures .0 ∙ c .before .padded-byte .ensures ∙ ap (λ (q : ℕ). byte (wide-to-start c .args .table .now) (q + 2)) (place (c .before .before)) in
+    let f = fit-below (wide-to-start c .args .table .now) (suc (wide-to-start c .args .k)) (wide-to-start c .pre .0 .0) (wide-to-start c .args .k) (omega arith) .inputs in
     (e, omega arith)
 
-nout : (c : tie.After-wide2) → (c .wide2 .result ≡ outputCount (wide2-to-start c .args .t .now) (placeOf (wide2-to-start c .args .t .now) (wide2-to-start c .args .k))) × (c .wide2 .result ≤ 8)
+nout : (c : tie.After-wide2) → (c .wide2 .result ≡ outputCount (wide2-to-start c .args .table .now) (placeOf (wide2-to-start c .args .table .now) (wide2-to-start c .args .k))) × (c .wide2 .result ≤ 8)
 nout c =
-    let e = c .wide2 .ensures .0 ∙ c .before .padded-byte2 .ensures ∙ ap (λ (q : ℕ). byte (wide2-to-start c .args .t .now) (q + 3)) (place (wide2-to-wide16 c)) in
-    let f = fit-below (wide2-to-start c .args .t .now) (suc (wide2-to-start c .args .k)) (wide2-to-start c .pre .0 .0) (wide2-to-start c .args .k) (omega arith) .outputs in
+    let e = c .wide2 .ensures .0 ∙ c .before .padded-byte2 .ensures ∙ ap (λ (q : ℕ). byte (wide2-to-start c .args .table .now) (q + 3)) (place (wide2-to-wide16 c)) in
+    let f = fit-below (wide2-to-start c .args .table .now) (suc (wide2-to-start c .args .k)) (wide2-to-start c .pre .0 .0) (wide2-to-start c .args .k) (omega arith) .outputs in
     (e, omega arith)
 
 -- the words of its results
-words : (c : tie.After-wide32) → c .wide32 .result ≡ wordsAt (wide32-to-start c .args .t .now) (wide32-to-start c .args .k)
+words : (c : tie.After-wide32) → c .wide32 .result ≡ wordsAt (wide32-to-start c .args .table .now) (wide32-to-start c .args .k)
 words c =
     let e = c .wide32 .ensures .0 ∙ wide32-to-start c .pre .0 .2 (wide32-to-start c .args .k) (omega arith) in
     let w = wide32-to-start c .pre .1 .0 .words in
@@ -214,7 +214,7 @@ words c =
 allocate-functions-requires : tie.Need-allocate-functions-requires
 allocate-functions-requires c κs =
     let a = begins-to-start c .args in (
-      (fewer (a .t .now) (suc (a .k)) (a .k) (begins-to-start c .pre .0 .0) (omega arith), (λ j l. begins-to-start c .pre .0 .1 j (omega arith)), (λ j l. begins-to-start c .pre .0 .2 j (omega arith))),
+      (fewer (a .table .now) (suc (a .k)) (a .k) (begins-to-start c .pre .0 .0) (omega arith), (λ j l. begins-to-start c .pre .0 .1 j (omega arith)), (λ j l. begins-to-start c .pre .0 .2 j (omega arith))),
       (length-replicate {A = ℕ} outputLimit 0, length-replicate {A = ℕ} orderLimit 0, length-replicate {A = ℕ} referenceLimit 0, length-replicate {A = ℕ} functionLimit 0),
     )
 
@@ -225,18 +225,18 @@ input-places-requires : tie.Need-input-places-requires
 input-places-requires c κs = let (x, y) = nin (ins-to-wide c) in let p = ins-to-wide16 c .wide16 .ensures .1 in (omega arith, y)
 
 -- what was allocated
-allocated : (c : tie.After-allocate-next) → PortsCoded (summaryAt (allocate-next-to-start c .args .t .now) (allocate-next-to-start c .args .k) .outputs) (c .allocate-next .last .1 .1 .1 .1 .0) (8 * allocate-next-to-start c .args .k)
+allocated : (c : tie.After-allocate-next) → PortsCoded (summaryAt (allocate-next-to-start c .args .table .now) (allocate-next-to-start c .args .k) .outputs) (c .allocate-next .last .1 .1 .1 .1 .0) (8 * allocate-next-to-start c .args .k)
 allocated c =
     let a = allocate-next-to-start c .args in
     let w = allocate-next-to-start c .pre .1 .0 .words in
     c .allocate-next .ensures .ports (a .k) (omega arith) (omega arith)
 
 -- the addresses of the arguments
-ins-are : (c : tie.After-input-places) → (c .input-places .last .1 .1 .1 .0) ≡ sets (replicate 8 0) 0 (places 0 (functionIn (input-places-to-start c .args .t .now) (input-places-to-start c .args .k) .inputs))
+ins-are : (c : tie.After-input-places) → (c .input-places .last .1 .1 .1 .0) ≡ sets (replicate 8 0) 0 (places 0 (functionIn (input-places-to-start c .args .table .now) (input-places-to-start c .args .k) .inputs))
 unfolding functionAt
 ins-are c =
     let a = input-places-to-start c .args in
-    let s = a .t .now in
+    let s = a .table .now in
     let (e, l) = nin (input-places-to-wide c) in
     c .input-places .ensures
     ∙ ap (λ (q : ℕ). sets (replicate 8 0) 0 (places 0 (typesBy 1 (input-places-to-wide c .wide .result) s (q + 6)))) (place (input-places-to-wide16 c))
@@ -258,7 +258,7 @@ cast-put-header-4 c = let w = words (put-header-arg-to-wide32 c) in let x = put-
 room : (c : tie.After-input-places) → 12 ≤ length (input-places-to-start c .args .code .now)
 room c =
     let a = input-places-to-start c .args in
-    let r = emit-room (a .t .now) (a .k) (input-places-to-start c .pre .0 .0) (a .sizes .instructions) (a .sizes .arguments) (a .sizes .outputs) (input-places-to-start c .pre .1 .0) (c .before .before .allocate-next .last .1 .1 .1 .1 .0) (c .input-places .last .1 .1 .1 .0) (allocated (c .before .before)) (ins-are c) (a .code .now) (input-places-to-start c .pre .1 .1) .room in
+    let r = emit-room (a .table .now) (a .k) (input-places-to-start c .pre .0 .0) (a .sizes .instructions) (a .sizes .arguments) (a .sizes .outputs) (input-places-to-start c .pre .1 .0) (c .before .before .allocate-next .last .1 .1 .1 .1 .0) (c .input-places .last .1 .1 .1 .0) (allocated (c .before .before)) (ins-are c) (a .code .now) (input-places-to-start c .pre .1 .1) .room in
     omega arith
 
 put-header-requires : tie.Need-put-header-requires
@@ -273,7 +273,7 @@ emit-requires c κs =
       (low (emit-arg-to-start c), emit-arg-to-start c .pre .0 .1),
       (
         emit-arg-to-allocate-next c .allocate-next .ensures .allocated,
-        emit-room (a .t .now) (a .k) (emit-arg-to-start c .pre .0 .0) (a .sizes .instructions) (a .sizes .arguments) (a .sizes .outputs) (emit-arg-to-start c .pre .1 .0) (emit-arg-to-allocate-next c .allocate-next .last .1 .1 .1 .1 .0) (emit-arg-to-input-places c .input-places .last .1 .1 .1 .0) (allocated (emit-arg-to-allocate-next c)) (ins-are (emit-arg-to-input-places c)) (emit-arg-to-put-header c .put-header .last .0)
+        emit-room (a .table .now) (a .k) (emit-arg-to-start c .pre .0 .0) (a .sizes .instructions) (a .sizes .arguments) (a .sizes .outputs) (emit-arg-to-start c .pre .1 .0) (emit-arg-to-allocate-next c .allocate-next .last .1 .1 .1 .1 .0) (emit-arg-to-input-places c .input-places .last .1 .1 .1 .0) (allocated (emit-arg-to-allocate-next c)) (ins-are (emit-arg-to-input-places c)) (emit-arg-to-put-header c .put-header .last .0)
             (let e = same-header (emit-arg-to-put-header c) in let l = emit-arg-to-start c .pre .1 .1 in omega arith),
       ),
     )
@@ -285,13 +285,13 @@ add-put-outputs-2 : tie.Need-add-put-outputs-2
 add-put-outputs-2 c = let p = slice-known3-to-wide16 c .wide16 .ensures .1 in let (x, y) = nin (slice-known3-to-wide c) in omega arith
 
 -- where the output entries begin
-entries : (c : tie.After-wide) → c .before .before .wide16 .result + 6 + c .wide .result ≡ outputsPlace (wide-to-start c .args .t .now) (placeOf (wide-to-start c .args .t .now) (wide-to-start c .args .k))
-entries c = ap (λ (q : ℕ). q + 6 + c .wide .result) (place (c .before .before)) ∙ ap (λ (n : ℕ). placeOf (wide-to-start c .args .t .now) (wide-to-start c .args .k) + 6 + n) (nin c .0)
+entries : (c : tie.After-wide) → c .before .before .wide16 .result + 6 + c .wide .result ≡ outputsPlace (wide-to-start c .args .table .now) (placeOf (wide-to-start c .args .table .now) (wide-to-start c .args .k))
+entries c = ap (λ (q : ℕ). q + 6 + c .wide .result) (place (c .before .before)) ∙ ap (λ (n : ℕ). placeOf (wide-to-start c .args .table .now) (wide-to-start c .args .k) + 6 + n) (nin c .0)
 
 put-outputs-requires : tie.Need-put-outputs-requires
 put-outputs-requires c κs =
     let a = put-outputs-arg-to-start c .args in
-    let s = a .t .now in
+    let s = a .table .now in
     let (e, l) = nout (put-outputs-arg-to-wide2 c) in
     let q = entries (put-outputs-arg-to-wide c) in
     let p = put-outputs-arg-to-wide16 c .wide16 .ensures .1 in
@@ -315,7 +315,7 @@ same-length c = c .before .before .put-outputs .kept .1 .1 .1 .1 .1 .1 .1 .0 ∙
 returns : tie.Need-returns
 returns c =
     let a = slice-known4-to-start c .args in
-    let s = a .t .now in
+    let s = a .table .now in
     let (e, l) = nout (slice-known4-to-wide2 c) in
     let q = entries (slice-known4-to-wide c) in
     assembled s (a .k) (slice-known4-to-start c .pre .0 .0) (a .sizes .instructions) (a .sizes .arguments) (a .sizes .outputs) (slice-known4-to-start c .pre .1 .0) (slice-known4-to-allocate-next c .allocate-next .last .1 .1 .1 .1 .0) (slice-known4-to-input-places c .input-places .last .1 .1 .1 .0) (allocated (slice-known4-to-allocate-next c)) (ins-are (slice-known4-to-input-places c)) (a .code .now) (slice-known4-to-put-header c .put-header .last .0) (slice-known4-to-emit c .emit .last .1 .1 .1 .1 .1 .1 .1 .0) (c .before .before .put-outputs .last .1 .1 .1 .1 .1 .1 .1 .0)

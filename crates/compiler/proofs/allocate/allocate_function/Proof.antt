@@ -55,21 +55,21 @@ begin-of-outputs c = begin-of-allocated (c .before .before .before)
 
 -- the position is below 16
 low : (c : tie.Start) → c .args .k < 16
-low c = let l = few (c .args .t .now) (suc (c .args .k)) (c .pre .0 .0) in omega arith
+low c = let l = few (c .args .table .now) (suc (c .args .k)) (c .pre .0 .0) in omega arith
 
 -- the function's place, its node count, and where its nodes begin
-place : (c : tie.After-wide16) → let a = entry-of-place c .args in c .wide16 .result ≡ placeOf (a .t .now) (a .k)
+place : (c : tie.After-wide16) → let a = entry-of-place c .args in c .wide16 .result ≡ placeOf (a .table .now) (a .k)
 place c = let e = entry-of-place c in c .wide16 .ensures .0 ∙ e .pre .1 .0 .0 (e .args .k) (omega arith)
 
-count : (c : tie.After-padded-u16) → let a = entry-of-place (c .before) .args in c .padded-u16 .result ≡ nodeCount (a .t .now) (placeOf (a .t .now) (a .k))
-count c = c .padded-u16 .ensures .0 ∙ ap (λ (q : ℕ). u16 (entry-of-place (c .before) .args .t .now) (q + 4)) (place (c .before))
+count : (c : tie.After-padded-u16) → let a = entry-of-place (c .before) .args in c .padded-u16 .result ≡ nodeCount (a .table .now) (placeOf (a .table .now) (a .k))
+count c = c .padded-u16 .ensures .0 ∙ ap (λ (q : ℕ). u16 (entry-of-place (c .before) .args .table .now) (q + 4)) (place (c .before))
 
-begin : (c : tie.After-nodes-place) → let a = entry-of-begin c .args in c .nodes-place .result ≡ nodesPlace (a .t .now) (placeOf (a .t .now) (a .k))
-begin c = c .nodes-place .ensures .0 ∙ ap (nodesPlace (entry-of-begin c .args .t .now)) (place (place-of-begin c))
+begin : (c : tie.After-nodes-place) → let a = entry-of-begin c .args in c .nodes-place .result ≡ nodesPlace (a .table .now) (placeOf (a .table .now) (a .k))
+begin c = c .nodes-place .ensures .0 ∙ ap (nodesPlace (entry-of-begin c .args .table .now)) (place (place-of-begin c))
 
-nodes : (c : tie.After-nodes-place) → let n = c .before .padded-u16 .result in let s = entry-of-begin c .args .t .now in let at = c .nodes-place .result in
+nodes : (c : tie.After-nodes-place) → let n = c .before .padded-u16 .result in let s = entry-of-begin c .args .table .now in let at = c .nodes-place .result in
     (n ≤ nodeLimit) × ReadsNodes n s at × (fresh [] (nodesAt n s at) ≡ ok tt)
-nodes c = let e = entry-of-begin c in nodes-held (e .args .t .now) (suc (e .args .k)) (e .pre .0 .0) (e .args .k) (omega arith) (count (c .before)) (begin c)
+nodes c = let e = entry-of-begin c in nodes-held (e .args .table .now) (suc (e .args .k)) (e .pre .0 .0) (e .args .k) (omega arith) (count (c .before)) (begin c)
 
 -- ---- needs
 
@@ -77,7 +77,7 @@ places-requires : tie.Need-places-requires
 places-requires c κs =
     let (few, read, single) = nodes (c .before) in
     let e = entry-of-begin (c .before) in
-    let l = short (e .args .t .now) (suc (e .args .k)) (e .pre .0 .0) in
+    let l = short (e .args .table .now) (suc (e .args .k)) (e .pre .0 .0) in
     (read, few, omega arith, length-replicate {A = ℕ} nodeLimit 0)
 
 resolve-requires : tie.Need-resolve-requires
@@ -106,15 +106,15 @@ allocate-outputs-requires c κs =
     let p = place-of-begin b in
     let e = entry-of-place p in
     let (few, read, single) = nodes b in
-    let f = fit-below (e .args .t .now) (suc (e .args .k)) (e .pre .0 .0) (e .args .k) (omega arith) .outputs in
-    (low e, p .wide16 .ensures .1, subst (λ (q : ℕ). outputCount (e .args .t .now) q ≤ 8) (sym (place p)) f, few, read)
+    let f = fit-below (e .args .table .now) (suc (e .args .k)) (e .pre .0 .0) (e .args .k) (omega arith) .outputs in
+    (low e, p .wide16 .ensures .1, subst (λ (q : ℕ). outputCount (e .args .table .now) q ≤ 8) (sym (place p)) f, few, read)
 
 returns : tie.Need-returns
 returns c =
     let b = begin-of-outputs (c .before) in
     let e = entry-of-begin b in
     let v = c .before .before .before .allocate-nodes in
-    function-allocated (e .args .t .now) (e .args .k) (e .args .cell) (e .pre .0 .0) _ _ _ _ _ _ _ (v .result) (v .ensures) (place (place-of-begin b)) (count (b .before)) (begin b) (c .allocate-outputs .ensures) (e .pre .1 .1 .0)
+    function-allocated (e .args .table .now) (e .args .k) (e .args .cell) (e .pre .0 .0) _ _ _ _ _ _ _ (v .result) (v .ensures) (place (place-of-begin b)) (count (b .before)) (begin b) (c .allocate-outputs .ensures) (e .pre .1 .1 .0)
 
 pub allocate-function-spec : {M : Type 1} → statement M
 allocate-function-spec =

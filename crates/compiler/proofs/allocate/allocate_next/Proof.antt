@@ -27,12 +27,12 @@ abbrev allocate-function-to-start : tie.After-allocate-function → tie.Start
 allocate-function-to-start c = allocate-function-arg3-to-start (c .before)
 
 -- there is room for the function
-room : (c : tie.Start) → (c .args .cell + readCount (c .args .t .now) (c .args .j) ≤ referenceLimit) × (c .args .cell < 65536) × (c .args .j < 16)
+room : (c : tie.Start) → (c .args .cell + readCount (c .args .table .now) (c .args .j) ≤ referenceLimit) × (c .args .cell < 65536) × (c .args .j < 16)
 room c =
     let a = c .args in
-    room-here (a .t .now) (a .j) (c .pre .0 .0) (a .outs .now) (a .order .now) (a .locations .now) (a .begins .now) (a .cell) (c .pre .1)
+    room-here (a .table .now) (a .j) (c .pre .0 .0) (a .outs .now) (a .order .now) (a .locations .now) (a .begins .now) (a .cell) (c .pre .1)
 
-words : (c : tie.After-wide32) → c .wide32 .result ≡ min wordCap (wordsAt (c .before .before .before .args .t .now) (c .before .before .before .args .j))
+words : (c : tie.After-wide32) → c .wide32 .result ≡ min wordCap (wordsAt (c .before .before .before .args .table .now) (c .before .before .before .args .j))
 words c = c .wide32 .ensures .0 ∙ c .before .before .before .pre .0 .2 (c .before .before .before .args .j) (omega arith)
 
 mul-wide32 : tie.Need-mul-wide32
@@ -46,7 +46,7 @@ returns c =
     let a = then1-to-start c .args in
     let w = words (c .before) in
     let t = c .if1 .taken in
-    passed-over (a .t .now) (a .j) (then1-to-start c .pre .0 .0) (a .outs .now) (a .order .now) (a .locations .now) (a .begins .now) (a .cell) (then1-to-start c .pre .1) (omega arith)
+    passed-over (a .table .now) (a .j) (then1-to-start c .pre .0 .0) (a .outs .now) (a .order .now) (a .locations .now) (a .begins .now) (a .cell) (then1-to-start c .pre .1) (omega arith)
 
 cast-begins : tie.Need-cast-begins
 cast-begins c = let (x, y, z) = room (else1-to-start c) in omega arith
@@ -68,7 +68,7 @@ allocate-function-requires c κs =
 returns-2 : tie.Need-returns-2
 returns-2 c =
     let a = allocate-function-to-start c .args in
-    one-more (a .t .now) (a .j) (allocate-function-to-start c .pre .0 .0) (a .outs .now) (a .order .now) (a .locations .now) (a .begins .now) (a .cell) (allocate-function-to-start c .pre .1) _ _ _ _ (c .allocate-function .result) (c .allocate-function .ensures) refl
+    one-more (a .table .now) (a .j) (allocate-function-to-start c .pre .0 .0) (a .outs .now) (a .order .now) (a .locations .now) (a .begins .now) (a .cell) (allocate-function-to-start c .pre .1) _ _ _ _ (c .allocate-function .result) (c .allocate-function .ensures) refl
 
 pub allocate-next-spec : {M : Type 1} → statement M
 allocate-next-spec =

@@ -151,11 +151,11 @@ position-of-requires c κs = (padded-u16-to-start c .pre .0 .0, padded-u16-to-st
 -- the callee: its outputs, and its words
 callee : (c : tie.After-wide32) →
     let a = wide32-to-start c .args in
-    let s = a .t .now in
+    let s = a .table .now in
     (c .before .before .wide .result ≡ outputCount s (placeOf s (wide32-to-position-of c .position-of .result))) × (c .before .before .wide .result ≤ 8) × (addsWords s (a .k) (nodeAt s (a .p)) ≡ c .wide32 .result)
 callee c =
     let a = wide32-to-start c .args in
-    let s = a .t .now in
+    let s = a .table .now in
     let g = wide32-to-position-of c .position-of .result in
     let lt = wide32-to-then2 c .if2 .taken in
     let f = sym (wide32-to-is-call c .is-call .ensures) ∙ wide32-to-then1 c .if1 .taken in
@@ -183,7 +183,7 @@ add-result c = let (x, y, z) = callee (c .before .before) in let v = allocate-ca
 returns : tie.Need-returns
 returns c =
     let a = allocate-call-to-start c .args in
-    let s = a .t .now in
+    let s = a .table .now in
     let (x, y, z) = callee (c .before .before) in
     let f = sym (allocate-call-to-is-call c .is-call .ensures) ∙ allocate-call-to-then1 c .if1 .taken in
     let n =
@@ -200,7 +200,7 @@ returns c =
 returns-2 : tie.Need-returns-2
 returns-2 c =
     let a = else2-to-start c .args in
-    let s = a .t .now in
+    let s = a .table .now in
     let f = sym (else2-to-is-call c .is-call .ensures) ∙ c .before .before .before .if1 .taken in
     let g = c .before .position-of .result in
     let w =
@@ -214,17 +214,17 @@ returns-2 c =
     )
 
 -- the words of the results
-all-words : (c : tie.After-result-words) → let a = result-words-to-start c .args in addsWords (a .t .now) (a .k) (nodeAt (a .t .now) (a .p)) ≡ c .result-words .result
+all-words : (c : tie.After-result-words) → let a = result-words-to-start c .args in addsWords (a .table .now) (a .k) (nodeAt (a .table .now) (a .p)) ≡ c .result-words .result
 all-words c =
     let a = result-words-to-start c .args in
-    plain-words (a .t .now) (a .k) (a .p) (result-words-to-padded-byte c .padded-byte .result) (result-words-to-ports-of c .ports-of .result) (result-words-to-padded-byte c .padded-byte .ensures) (result-words-to-ports-of c .ports-of .ensures) (sym (result-words-to-is-call c .is-call .ensures) ∙ result-words-to-else1 c .if1 .left)
+    plain-words (a .table .now) (a .k) (a .p) (result-words-to-padded-byte c .padded-byte .result) (result-words-to-ports-of c .ports-of .result) (result-words-to-padded-byte c .padded-byte .ensures) (result-words-to-ports-of c .ports-of .ensures) (sym (result-words-to-is-call c .is-call .ensures) ∙ result-words-to-else1 c .if1 .left)
     (result-words-to-padded-byte3 c .padded-byte3 .result) (c .result-words .result) (result-words-to-padded-byte3 c .padded-byte3 .ensures) (c .result-words .ensures .0)
 
 allocate-results-requires : tie.Need-allocate-results-requires
 allocate-results-requires c κs =
     let a = allocate-results-arg-to-start c .args in
     let v = allocate-results-arg-to-start c .pre .1 .1 in
-    let n = row-narrow (a .t .now) (a .p) (allocate-results-arg-to-padded-byte c .padded-byte .result) (allocate-results-arg-to-ports-of c .ports-of .result) (allocate-results-arg-to-padded-byte c .padded-byte .ensures) (allocate-results-arg-to-ports-of c .ports-of .ensures) .results in
+    let n = row-narrow (a .table .now) (a .p) (allocate-results-arg-to-padded-byte c .padded-byte .result) (allocate-results-arg-to-ports-of c .ports-of .result) (allocate-results-arg-to-padded-byte c .padded-byte .ensures) (allocate-results-arg-to-ports-of c .ports-of .ensures) .results in
     let e = c .before .before .wide2 .ensures .0 in
     (allocate-results-arg-to-start c .pre .0 .1, omega arith, omega arith, c .before .before .before .width .ensures .1)
 
@@ -234,7 +234,7 @@ add-result-2 c = let w = all-words (c .before .before) in let v = allocate-resul
 returns-3 : tie.Need-returns-3
 returns-3 c =
     let a = allocate-results-to-start c .args in
-    let s = a .t .now in (
+    let s = a .table .now in (
       c .allocate-results .ensures
           ∙ ap (λ (l : List ℕ). sets (a .allocated .now) (8 * a .i) l)
           (plain-codes s (a .outs .now) (a .locations .now) (a .k) (a .p) (a .cell) (a .d) (allocate-results-to-padded-byte c .padded-byte .result) (allocate-results-to-ports-of c .ports-of .result) (allocate-results-to-padded-byte c .padded-byte .ensures) (allocate-results-to-ports-of c .ports-of .ensures)

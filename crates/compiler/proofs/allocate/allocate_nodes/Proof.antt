@@ -18,11 +18,11 @@ use Rattle.compiler.proofs.allocate.allocate_nodes.Statement.{statement
 use Rattle.compiler.proofs.allocate.allocate_nodes.Tie as tie
 
 abbrev Inv-loop : tie.InvT-loop
-Inv-loop t starts words outs targets places index k n order₀ locations₀ allocated₀ cell here₀ d₀ m₀ order locations allocated here d m =
-    (acc : Accepted t (suc k)) × State t k cell acc outs targets places index order₀ locations₀ order locations allocated here d m
+Inv-loop table starts words outs targets places index k n order₀ locations₀ allocated₀ cell here₀ d₀ m₀ order locations allocated here d m =
+    (acc : Accepted table (suc k)) × State table k cell acc outs targets places index order₀ locations₀ order locations allocated here d m
 
 abbrev μ-loop : tie.MeasureT-loop
-μ-loop t starts words outs targets places index k n order₀ locations₀ allocated₀ cell here₀ d₀ m₀ order locations allocated here d m = n - m
+μ-loop table starts words outs targets places index k n order₀ locations₀ allocated₀ cell here₀ d₀ m₀ order locations allocated here d m = n - m
 
 -- ---- places: from one back to another
 
@@ -80,13 +80,13 @@ allocate-node-to-start c = allocate-node-arg2-to-start (c .before)
 -- what is lent, by the function's own node count
 lent : (c : tie.Start Inv-loop μ-loop) →
     let a = c .args in
-    let s = a .t .now in
+    let s = a .table .now in
     let at = nodesPlace s (placeOf s (a .k)) in
     let n = nodeCount s (placeOf s (a .k)) in
     Slots s at n (a .targets .now) × Places s at (a .places .now) n × (a .index .now ≡ sets (replicate nodeLimit 0) 0 (indexOrder (a .targets .now) n)) × (n ≤ nodeLimit) × (a .k < 16)
 lent c =
     let a = c .args in
-    let s = a .t .now in
+    let s = a .table .now in
     let at = nodesPlace s (placeOf s (a .k)) in
     let e = c .pre .0 .1 in
     let (x, y, z) = c .pre .1 .1 .0 in
@@ -104,12 +104,12 @@ loop-holds c =
     let (x, y, z, f, l) = lent (c .before) in
     let (lo, ls, ll) = c .before .pre .1 .1 .1 in (
       c .before .pre .0 .0,
-      start (a .t .now) (a .k) (a .cell) (c .before .pre .0 .0) (a .outs .now) (a .targets .now) (a .places .now) (a .index .now) (a .order .now) (a .locations .now)
+      start (a .table .now) (a .k) (a .cell) (c .before .pre .0 .0) (a .outs .now) (a .targets .now) (a .places .now) (a .index .now) (a .order .now) (a .locations .now)
           (a .order .now) (a .locations .now) (a .allocated .now) x z lo ls ll refl refl,
     )
 
 -- the index at hand
-low : (c : tie.After-wide16 Inv-loop μ-loop) → c .wide16 .result < nodeCount (wide16-to-start c .args .t .now) (placeOf (wide16-to-start c .args .t .now) (wide16-to-start c .args .k))
+low : (c : tie.After-wide16 Inv-loop μ-loop) → c .wide16 .result < nodeCount (wide16-to-start c .args .table .now) (placeOf (wide16-to-start c .args .table .now) (wide16-to-start c .args .k))
 low c =
     let a = wide16-to-start c .args in
     let l = c .before .before .before .loop in
@@ -117,13 +117,13 @@ low c =
     let (x, y, z, f, k16) = lent (wide16-to-start c) in
     let t = c .before .before .loop-test .taken in
     let e = wide16-to-start c .pre .0 .1 in
-    index-low (a .t .now) (a .k) (a .cell) acc (a .outs .now) (a .targets .now) (a .places .now) (a .index .now) (a .order .now) (a .locations .now)
+    index-low (a .table .now) (a .k) (a .cell) acc (a .outs .now) (a .targets .now) (a .places .now) (a .index .now) (a .order .now) (a .locations .now)
     (wide16-to-start c .pre .0 .2) (wide16-to-start c .pre .0 .3) x y (wide16-to-start c .pre .1 .0 .2) (l .order) (l .locations) (l .allocated) (l .here) (l .d) (l .m) st (omega arith) (c .wide16 .result) (c .wide16 .ensures .0)
 
 -- the node at hand
 fits : (c : tie.After-wide32 Inv-loop μ-loop) →
     let a = wide32-to-start c .args in
-    let s = a .t .now in
+    let s = a .table .now in
     let p = c .wide32 .result in
     NodeFit s p × (length (reads (nodeAt s p)) ≤ 16) × (wide32-to-at-loop c .loop .here + length (reads (nodeAt s p)) ≤ referenceLimit) × (wide32-to-at-loop c .loop .d + addsWords s (a .k) (nodeAt s p) ≤ wordLimit)
 fits c =
@@ -133,12 +133,12 @@ fits c =
     let (x, y, z, f, k16) = lent (wide32-to-start c) in
     let t = wide32-to-in-loop c .loop-test .taken in
     let e = wide32-to-start c .pre .0 .1 in
-    node-fits (a .t .now) (a .k) (a .cell) acc (a .outs .now) (a .targets .now) (a .places .now) (a .index .now) (a .order .now) (a .locations .now)
+    node-fits (a .table .now) (a .k) (a .cell) acc (a .outs .now) (a .targets .now) (a .places .now) (a .index .now) (a .order .now) (a .locations .now)
     (wide32-to-start c .pre .0 .2) (wide32-to-start c .pre .0 .3) x y (wide32-to-start c .pre .1 .0 .2) (l .order) (l .locations) (l .allocated) (l .here) (l .d) (l .m) st (omega arith) (c .before .before .wide16 .result) (c .wide32 .result) (c .before .before .wide16 .ensures .0) (c .wide32 .ensures .0)
 
 -- its references
-count : (c : tie.After-reads-at Inv-loop μ-loop) → c .reads-at .result .count ≡ length (reads (nodeAt (reads-at-to-start c .args .t .now) (c .before .wide32 .result)))
-count c = sym (ap length (c .reads-at .ensures .refs) ∙ refs-length (c .reads-at .result .count) (reads-at-to-start c .args .t .now) (c .reads-at .result .first))
+count : (c : tie.After-reads-at Inv-loop μ-loop) → c .reads-at .result .count ≡ length (reads (nodeAt (reads-at-to-start c .args .table .now) (c .before .wide32 .result)))
+count c = sym (ap length (c .reads-at .ensures .refs) ∙ refs-length (c .reads-at .result .count) (reads-at-to-start c .args .table .now) (c .reads-at .result .first))
 
 mul-wide16 : tie.Need-mul-wide16 Inv-loop μ-loop
 mul-wide16 c = let (x, y, z, f, k16) = lent (c .before .before .before) in let t = c .loop-test .taken in let e = c .before .before .before .pre .0 .1 in omega arith
@@ -185,7 +185,7 @@ allocate-node-requires c κs =
     let n = count (allocate-node-arg2-to-reads-at c) in
     let a = allocate-node-arg2-to-start c .args in (
       (omega arith, omega arith, fit, allocate-node-arg2-to-start c .pre .1 .0 .0, allocate-node-arg2-to-start c .pre .1 .0 .1),
-      (((λ j jl. fit-below (a .t .now) (suc (a .k)) (allocate-node-arg2-to-start c .pre .0 .0) j (omega arith)), allocate-node-arg2-to-start c .pre .1 .0 .2, omega arith, n), words),
+      (((λ j jl. fit-below (a .table .now) (suc (a .k)) (allocate-node-arg2-to-start c .pre .0 .0) j (omega arith)), allocate-node-arg2-to-start c .pre .1 .0 .2, omega arith, n), words),
     )
 
 add-here : tie.Need-add-here Inv-loop μ-loop
@@ -206,7 +206,7 @@ loop-again c =
     let t = allocate-node-to-in-loop c .loop-test .taken in
     let e = allocate-node-to-start c .pre .0 .1 in (
       acc,
-      advance (a .t .now) (a .k) (a .cell) acc (a .outs .now) (a .targets .now) (a .places .now) (a .index .now) (a .order .now) (a .locations .now)
+      advance (a .table .now) (a .k) (a .cell) acc (a .outs .now) (a .targets .now) (a .places .now) (a .index .now) (a .order .now) (a .locations .now)
           (allocate-node-to-start c .pre .0 .2) (allocate-node-to-start c .pre .0 .3) x y (allocate-node-to-start c .pre .1 .0 .2) (l .order) (l .locations) (l .allocated) (l .here) (l .d) (l .m) st (omega arith) (allocate-node-to-wide16 c .wide16 .result) (allocate-node-to-wide32 c .wide32 .result) (allocate-node-to-wide16 c .wide16 .ensures .0) (allocate-node-to-wide32 c .wide32 .ensures .0)
           (allocate-node-to-reads-at c .reads-at .result) (allocate-node-to-reads-at c .reads-at .ensures) _ _ _ _ _ refl (c .before .before .before .allocate-reads .ensures) (c .allocate-node .ensures .0) (c .allocate-node .ensures .1) refl,
     )
@@ -218,7 +218,7 @@ returns c =
     let (acc, st) = l .inv in
     let t = c .loop-test .left in
     let e = c .before .before .before .pre .0 .1 in
-    finished (a .t .now) (a .k) (a .cell) acc (a .outs .now) (a .targets .now) (a .places .now) (a .index .now) (a .order .now) (a .locations .now)
+    finished (a .table .now) (a .k) (a .cell) acc (a .outs .now) (a .targets .now) (a .places .now) (a .index .now) (a .order .now) (a .locations .now)
     (l .order) (l .locations) (l .allocated) (l .here) (l .d) (l .m) st (omega arith)
 
 pub allocate-nodes-spec : {M : Type 1} → statement M

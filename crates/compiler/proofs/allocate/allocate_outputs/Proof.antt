@@ -15,11 +15,11 @@ use Rattle.compiler.proofs.allocate.allocate_outputs.Statement.{stateme
 use Rattle.compiler.proofs.allocate.allocate_outputs.Tie as tie
 
 abbrev Inv-loop : tie.InvT-loop
-Inv-loop t p at n allocated k outs₀ count q₀ j₀ outs q j =
-    (j ≤ count) × (q ≤ q₀ + 4 * j) × Run (outputCodes t allocated (nodesAt n t at) count q₀) outs₀ (8 * k) outs j (outputCodes t allocated (nodesAt n t at) (count - j) q)
+Inv-loop table p at n allocated k outs₀ count q₀ j₀ outs q j =
+    (j ≤ count) × (q ≤ q₀ + 4 * j) × Run (outputCodes table allocated (nodesAt n table at) count q₀) outs₀ (8 * k) outs j (outputCodes table allocated (nodesAt n table at) (count - j) q)
 
 abbrev μ-loop : tie.MeasureT-loop
-μ-loop t p at n allocated k outs₀ count q₀ j₀ outs q j = count - j
+μ-loop table p at n allocated k outs₀ count q₀ j₀ outs q j = count - j
 
 -- ---- places: from one back to another
 
@@ -54,7 +54,7 @@ abbrev location-of-to-start : tie.After-location-of Inv-loop μ-loop → tie.Sta
 location-of-to-start c = let d = c .before .before .before in in-loop-to-start (d .before .before)
 
 -- the counts
-few : (c : tie.After-wide2 Inv-loop μ-loop) → (c .before .before .wide .result ≡ outputCount (wide2-to-start c .args .t .now) (wide2-to-start c .args .p)) × (c .before .before .wide .result ≤ 8) × (wide2-to-start c .args .p + 6 + c .wide2 .result ≡ outputsPlace (wide2-to-start c .args .t .now) (wide2-to-start c .args .p))
+few : (c : tie.After-wide2 Inv-loop μ-loop) → (c .before .before .wide .result ≡ outputCount (wide2-to-start c .args .table .now) (wide2-to-start c .args .p)) × (c .before .before .wide .result ≤ 8) × (wide2-to-start c .args .p + 6 + c .wide2 .result ≡ outputsPlace (wide2-to-start c .args .table .now) (wide2-to-start c .args .p))
 few c =
     let x = c .before .before .wide .ensures .0 ∙ c .before .before .before .padded-byte .ensures in
     let y = wide2-to-start c .pre .2 in
@@ -64,7 +64,7 @@ loop-holds : tie.Need-loop-holds Inv-loop μ-loop
 loop-holds c =
     let a = wide2-to-start c .args in
     let z : c .before .before .wide .result - 0 ≡ c .before .before .wide .result = omega arith in
-    (omega arith, omega arith, rw z (run-start (outputCodes (a .t .now) (a .allocated .now) (nodesAt (a .n) (a .t .now) (a .at)) (c .before .before .wide .result) (a .p + 6 + c .wide2 .result)) (a .outs .now) (8 * a .k)))
+    (omega arith, omega arith, rw z (run-start (outputCodes (a .table .now) (a .allocated .now) (nodesAt (a .n) (a .table .now) (a .at)) (c .before .before .wide .result) (a .p + 6 + c .wide2 .result)) (a .outs .now) (8 * a .k)))
 
 -- the place at hand
 near : (c : tie.In-loop Inv-loop μ-loop) → c .before .loop .q + 8 ≤ 66000
@@ -103,7 +103,7 @@ add-j c = let (x, y, z) = few (location-of-to-wide2 c) in let t = location-of-to
 loop-again : tie.Need-loop-again Inv-loop μ-loop
 loop-again c =
     let a = location-of-to-start c .args in
-    let s = a .t .now in
+    let s = a .table .now in
     let l = location-of-to-at-loop c .loop in
     let ns = nodesAt (a .n) s (a .at) in
     let e =
@@ -118,7 +118,7 @@ loop-again c =
 returns : tie.Need-returns Inv-loop μ-loop
 returns c =
     let a = loop-to-start c .args in
-    let s = a .t .now in
+    let s = a .table .now in
     let l = c .before .loop in
     let ns = nodesAt (a .n) s (a .at) in
     let (x, y, z) = few (c .before .before) in

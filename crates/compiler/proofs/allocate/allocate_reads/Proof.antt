@@ -10,11 +10,11 @@ use Rattle.compiler.proofs.allocate.allocate_reads.Statement.{statement
 use Rattle.compiler.proofs.allocate.allocate_reads.Tie as tie
 
 abbrev Inv-loop : tie.InvT-loop
-Inv-loop t targets allocated i first n locations₀ cell q₀ j₀ locations q j =
-    (j ≤ n) × (q ≤ first + 3 * j) × Run (readCodes t targets allocated (16 * i) n first) locations₀ cell locations j (readCodes t targets allocated (16 * i + j) (n - j) q)
+Inv-loop table targets allocated i first n locations₀ cell q₀ j₀ locations q j =
+    (j ≤ n) × (q ≤ first + 3 * j) × Run (readCodes table targets allocated (16 * i) n first) locations₀ cell locations j (readCodes table targets allocated (16 * i + j) (n - j) q)
 
 abbrev μ-loop : tie.MeasureT-loop
-μ-loop t targets allocated i first n locations₀ cell q₀ j₀ locations q j = n - j
+μ-loop table targets allocated i first n locations₀ cell q₀ j₀ locations q j = n - j
 
 -- ---- places: from one back to another
 
@@ -32,7 +32,7 @@ loop-holds c =
     let a = c .before .args in
     let z : a .n - 0 ≡ a .n = omega arith in
     let y : 16 * a .i + 0 ≡ 16 * a .i = omega arith in
-    (omega arith, omega arith, rw (z, y) (run-start (readCodes (a .t .now) (a .targets .now) (a .allocated .now) (16 * a .i) (a .n) (a .first)) (a .locations .now) (a .cell)))
+    (omega arith, omega arith, rw (z, y) (run-start (readCodes (a .table .now) (a .targets .now) (a .allocated .now) (16 * a .i) (a .n) (a .first)) (a .locations .now) (a .cell)))
 
 loop-again : tie.Need-loop-again Inv-loop μ-loop
 loop-again c =
@@ -43,17 +43,17 @@ loop-again c =
     ∙ ap (portCode (a .allocated .now) (getD (a .targets .now) (16 * a .i + l .j) 0)) (c .before .wide .ensures .0 ∙ c .before .before .padded-byte .ensures) in (
       omega arith,
       omega arith,
-      run-step (readCodes (a .t .now) (a .targets .now) (a .allocated .now) (16 * a .i) (a .n) (a .first)) (a .locations .now) (a .cell) (l .locations) (l .j) (c .location-of .result) _ _ (l .inv .2)
-          (reads-next (a .t .now) (a .targets .now) (a .allocated .now) (16 * a .i) (a .n) (l .j) (l .q) (location-of-to-in-loop c .loop-test .taken)
-          ∙ ap (λ (x : ℕ). x ∷ readCodes (a .t .now) (a .targets .now) (a .allocated .now) (16 * a .i + (l .j + 1)) (a .n - (l .j + 1)) (l .q + 3)) (sym e)),
+      run-step (readCodes (a .table .now) (a .targets .now) (a .allocated .now) (16 * a .i) (a .n) (a .first)) (a .locations .now) (a .cell) (l .locations) (l .j) (c .location-of .result) _ _ (l .inv .2)
+          (reads-next (a .table .now) (a .targets .now) (a .allocated .now) (16 * a .i) (a .n) (l .j) (l .q) (location-of-to-in-loop c .loop-test .taken)
+          ∙ ap (λ (x : ℕ). x ∷ readCodes (a .table .now) (a .targets .now) (a .allocated .now) (16 * a .i + (l .j + 1)) (a .n - (l .j + 1)) (l .q + 3)) (sym e)),
     )
 
 returns : tie.Need-returns Inv-loop μ-loop
 returns c =
     let a = c .before .before .before .args in
     let l = c .before .loop in
-    run-done (readCodes (a .t .now) (a .targets .now) (a .allocated .now) (16 * a .i) (a .n) (a .first)) (a .locations .now) (a .cell) (l .locations) (l .j) _ (l .inv .2)
-    (reads-none (a .t .now) (a .targets .now) (a .allocated .now) (16 * a .i) (a .n) (l .j) (l .q) (c .loop-test .left))
+    run-done (readCodes (a .table .now) (a .targets .now) (a .allocated .now) (16 * a .i) (a .n) (a .first)) (a .locations .now) (a .cell) (l .locations) (l .j) _ (l .inv .2)
+    (reads-none (a .table .now) (a .targets .now) (a .allocated .now) (16 * a .i) (a .n) (l .j) (l .q) (c .loop-test .left))
 
 pub allocate-reads-spec : {M : Type 1} → statement M
 allocate-reads-spec =

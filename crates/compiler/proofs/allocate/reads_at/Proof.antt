@@ -16,7 +16,7 @@ returns c =
     let q = b .before in
     let r = q .before in
     let a = start r .args in
-    let s = a .t .now in
+    let s = a .table .now in
     let k = r .before .padded-byte in
     let f = sym (q .is-call .ensures) ∙ b .if1 .taken in
     let e = c .wide .ensures .0 ∙ c .before .padded-byte2 .ensures in
@@ -29,7 +29,7 @@ returns-2 c =
     let r = q .before in
     let a = start r .args in
     let k = r .before .padded-byte in
-    plain-reads (a .t .now) (a .p) (k .result) (r .ports-of .result) (k .ensures) (r .ports-of .ensures) (sym (q .is-call .ensures) ∙ c .before .if1 .left)
+    plain-reads (a .table .now) (a .p) (k .result) (r .ports-of .result) (k .ensures) (r .ports-of .ensures) (sym (q .is-call .ensures) ∙ c .before .if1 .left)
     (c .wide2 .result) (c .wide2 .ensures .0)
 
 pub reads-at-spec : {M : Type 1} → statement M

@@ -33,25 +33,25 @@ find-node-requires : tie.Need-find-node-requires
 find-node-requires c κs = c .before .before .before .pre .2
 
 returns : tie.Need-returns
-returns c = let e = sym (c .before .padded-u16 .ensures .0) ∙ c .if1 .taken in rw (eq-eqb (u16 (c .before .before .before .args .t .now) (c .before .before .before .args .q)) 0 e)
+returns c = let e = sym (c .before .padded-u16 .ensures .0) ∙ c .if1 .taken in rw (eq-eqb (u16 (c .before .before .before .args .table .now) (c .before .before .before .args .q)) 0 e)
 
 -- what was found
 index : (c : tie.After-known-told) →
-    let ns = nodesAt (known-told-to-start c .args .n) (known-told-to-start c .args .t .now) (known-told-to-start c .args .at) in
+    let ns = nodesAt (known-told-to-start c .args .n) (known-told-to-start c .args .table .now) (known-told-to-start c .args .at) in
     (c .before .found .given .0 .0 ≡ indexOf (known-told-to-padded-u16 c .padded-u16 .result) ns) × (indexOf (known-told-to-padded-u16 c .padded-u16 .result) ns < length ns)
-index c = found-index (known-told-to-padded-u16 c .padded-u16 .result) (nodesAt (known-told-to-start c .args .n) (known-told-to-start c .args .t .now) (known-told-to-start c .args .at)) (c .before .found .given .0 .0) _ (sym (c .before .found .given .1) ∙ c .before .before .before .find-node .ensures)
+index c = found-index (known-told-to-padded-u16 c .padded-u16 .result) (nodesAt (known-told-to-start c .args .n) (known-told-to-start c .args .table .now) (known-told-to-start c .args .at)) (c .before .found .given .0 .0) _ (sym (c .before .found .given .1) ∙ c .before .before .before .find-node .ensures)
 
 cast-result : tie.Need-cast-result
 cast-result c =
     let (x, y) = index c in
-    let z = length-nodes (known-told-to-start c .args .n) (known-told-to-start c .args .t .now) (known-told-to-start c .args .at) in
+    let z = length-nodes (known-told-to-start c .args .n) (known-told-to-start c .args .table .now) (known-told-to-start c .args .at) in
     let n = known-told-to-start c .pre .0 in
     omega arith
 
 returns-2 : tie.Need-returns-2
 returns-2 c =
     let a = known-told-to-start c .args in
-    let s = a .t .now in
+    let s = a .table .now in
     let ns = nodesAt (a .n) s (a .at) in
     let y = known-told-to-padded-u16 c .padded-u16 .ensures .0 in
     rw (ne-eqb (u16 s (a .q)) 0 (λ z. known-told-to-else1 c .if1 .left (y ∙ z))) (index c .0 ∙ ap (λ (i : ℕ). indexOf i ns) y)
@@ -59,7 +59,7 @@ returns-2 c =
 returns-3 : tie.Need-returns-3
 returns-3 c =
     let a = enum-told-to-start c .args in
-    let s = a .t .now in
+    let s = a .table .now in
     let ns = nodesAt (a .n) s (a .at) in
     let x = none-index (enum-told-to-padded-u16 c .padded-u16 .result) ns (sym (c .enum-told .given .1) ∙ c .before .before .find-node .ensures) in
     let y = enum-told-to-padded-u16 c .padded-u16 .ensures .0 in

@@ -13,11 +13,11 @@ use Rattle.compiler.proofs.assemble.input_places.Statement.{statement}
 use Rattle.compiler.proofs.assemble.input_places.Tie as tie
 
 abbrev Inv-loop : tie.InvT-loop
-Inv-loop t at n ins₀ q₀ w₀ j₀ ins q w j =
-    (j ≤ n) × (q ≤ at + 4 * j) × (w ≤ 16 * j) × Run (places 0 (typesBy 1 n t at)) ins₀ 0 ins j (places w (typesBy 1 (n - j) t q))
+Inv-loop table at n ins₀ q₀ w₀ j₀ ins q w j =
+    (j ≤ n) × (q ≤ at + 4 * j) × (w ≤ 16 * j) × Run (places 0 (typesBy 1 n table at)) ins₀ 0 ins j (places w (typesBy 1 (n - j) table q))
 
 abbrev μ-loop : tie.MeasureT-loop
-μ-loop t at n ins₀ q₀ w₀ j₀ ins q w j = n - j
+μ-loop table at n ins₀ q₀ w₀ j₀ ins q w j = n - j
 
 -- ---- places: from one back to another
 
@@ -28,13 +28,13 @@ loop-holds : tie.Need-loop-holds Inv-loop μ-loop
 loop-holds c =
     let a = c .before .args in
     let z : a .n - 0 ≡ a .n = omega arith in
-    (omega arith, omega arith, omega arith, rw z (run-start (places 0 (typesBy 1 (a .n) (a .t .now) (a .at))) (a .ins .now) 0))
+    (omega arith, omega arith, omega arith, rw z (run-start (places 0 (typesBy 1 (a .n) (a .table .now) (a .at))) (a .ins .now) 0))
 
 loop-again : tie.Need-loop-again Inv-loop μ-loop
 loop-again c =
     let a = width-to-start c .args in
     let l = c .before .before .before .loop in
-    let s = a .t .now in
+    let s = a .table .now in
     let y = c .width .ensures .0 ∙ ap width (c .before .padded-byte .ensures) in
     let b = c .width .ensures .1 in
     let z : 0 + l .j ≡ l .j = omega arith in (
@@ -51,8 +51,8 @@ returns : tie.Need-returns Inv-loop μ-loop
 returns c =
     let a = c .before .before .before .args in
     let l = c .before .loop in
-    run-done (places 0 (typesBy 1 (a .n) (a .t .now) (a .at))) (a .ins .now) 0 (l .ins) (l .j) (places (l .w) (typesBy 1 (a .n - l .j) (a .t .now) (l .q))) (l .inv .3)
-    (ap (places (l .w)) (types-none 1 (a .n) (l .j) (a .t .now) (l .q) (c .loop-test .left)))
+    run-done (places 0 (typesBy 1 (a .n) (a .table .now) (a .at))) (a .ins .now) 0 (l .ins) (l .j) (places (l .w) (typesBy 1 (a .n - l .j) (a .table .now) (l .q))) (l .inv .3)
+    (ap (places (l .w)) (types-none 1 (a .n) (l .j) (a .table .now) (l .q) (c .loop-test .left)))
 
 pub input-places-spec : {M : Type 1} → statement M
 input-places-spec =

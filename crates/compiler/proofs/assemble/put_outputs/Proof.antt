@@ -12,10 +12,10 @@ use Rattle.compiler.proofs.assemble.put_outputs.Statement.{statement}
 use Rattle.compiler.proofs.assemble.put_outputs.Tie as tie
 
 abbrev Inv-loop : tie.InvT-loop
-Inv-loop t entries n outs k ins first code₀ at q₀ here₀ j₀ code q here j = Outgoing t outs ins first (8 * k) n entries code₀ at code q here j
+Inv-loop table entries n outs k ins first code₀ at q₀ here₀ j₀ code q here j = Outgoing table outs ins first (8 * k) n entries code₀ at code q here j
 
 abbrev μ-loop : tie.MeasureT-loop
-μ-loop t entries n outs k ins first code₀ at q₀ here₀ j₀ code q here j = n - j
+μ-loop table entries n outs k ins first code₀ at q₀ here₀ j₀ code q here j = n - j
 
 -- ---- places: from one back to another
 
@@ -68,13 +68,13 @@ abbrev slice-known2-to-start : tie.After-slice-known2 Inv-loop μ-loop → tie.S
 slice-known2-to-start c = put-span-arg-to-start (c .before .before .before)
 
 loop-holds : tie.Need-loop-holds Inv-loop μ-loop
-loop-holds c = let a = c .before .before .args in out-start (a .t .now) (a .outs .now) (a .ins .now) (a .first) (8 * a .k) (a .n) (a .entries) (a .code .now) (a .at)
+loop-holds c = let a = c .before .before .args in out-start (a .table .now) (a .outs .now) (a .ins .now) (a .first) (8 * a .k) (a .n) (a .entries) (a .code .now) (a .at)
 
 -- the address, and the width
 addressed : (c : tie.After-wide162 Inv-loop μ-loop) → let a = wide162-to-start c .args in c .wide162 .result ≡ addressOf (a .ins .now) (a .first) (getD (a .outs .now) (8 * a .k + wide162-to-at-loop c .loop .j) 0)
 addressed c = let a = wide162-to-start c .args in c .wide162 .ensures .0 ∙ c .before .address .ensures ∙ ap (addressOf (a .ins .now) (a .first)) (c .before .before .wide16 .ensures .0)
 
-wide : (c : tie.After-width Inv-loop μ-loop) → c .width .result ≡ width (byte (width-to-start c .args .t .now) (width-to-at-loop c .loop .q))
+wide : (c : tie.After-width Inv-loop μ-loop) → c .width .result ≡ width (byte (width-to-start c .args .table .now) (width-to-at-loop c .loop .q))
 wide c = c .width .ensures .0 ∙ ap width (c .before .padded-byte .ensures)
 
 -- there is room for the words at hand
@@ -82,7 +82,7 @@ room : (c : tie.After-width Inv-loop μ-loop) → width-to-at-loop c .loop .here
 room c =
     let a = width-to-start c .args in
     let l = width-to-at-loop c .loop in
-    let x = out-room (a .t .now) (a .outs .now) (a .ins .now) (a .first) (8 * a .k) (a .n) (a .entries) (a .code .now) (a .at) (l .code) (l .q) (l .here) (l .j) (c .width .result) (l .inv) (width-to-in-loop c .loop-test .taken) (wide c) in
+    let x = out-room (a .table .now) (a .outs .now) (a .ins .now) (a .first) (8 * a .k) (a .n) (a .entries) (a .code .now) (a .at) (l .code) (l .q) (l .here) (l .j) (c .width .result) (l .inv) (width-to-in-loop c .loop-test .taken) (wide c) in
     let y = width-to-start c .pre .1 in
     omega arith
 
@@ -121,7 +121,7 @@ loop-again : tie.Need-loop-again Inv-loop μ-loop
 loop-again c =
     let a = slice-known2-to-start c .args in
     let l = slice-known2-to-at-loop c .loop in
-    out-step (a .t .now) (a .outs .now) (a .ins .now) (a .first) (8 * a .k) (a .n) (a .entries) (a .code .now) (a .at) (l .code) (c .before .before .put-span .last .0) (l .q) (l .here) (l .j) (slice-known2-to-wide162 c .wide162 .result) (slice-known2-to-width c .width .result)
+    out-step (a .table .now) (a .outs .now) (a .ins .now) (a .first) (8 * a .k) (a .n) (a .entries) (a .code .now) (a .at) (l .code) (c .before .before .put-span .last .0) (l .q) (l .here) (l .j) (slice-known2-to-wide162 c .wide162 .result) (slice-known2-to-width c .width .result)
     (l .inv) (slice-known2-to-in-loop c .loop-test .taken) (wide (slice-known2-to-width c)) (addressed (slice-known2-to-wide162 c)) (c .before .before .put-span .ensures)
 
 same-length : tie.Need-same-length Inv-loop μ-loop
@@ -131,7 +131,7 @@ returns : tie.Need-returns Inv-loop μ-loop
 returns c =
     let a = loop-to-start c .args in
     let l = c .before .loop in
-    out-done (a .t .now) (a .outs .now) (a .ins .now) (a .first) (8 * a .k) (a .n) (a .entries) (a .code .now) (a .at) (l .code) (l .q) (l .here) (l .j) (l .inv) (c .loop-test .left)
+    out-done (a .table .now) (a .outs .now) (a .ins .now) (a .first) (8 * a .k) (a .n) (a .entries) (a .code .now) (a .at) (l .code) (l .q) (l .here) (l .j) (l .inv) (c .loop-test .left)
 
 pub put-outputs-spec : {M : Type 1} → statement M
 put-outputs-spec =

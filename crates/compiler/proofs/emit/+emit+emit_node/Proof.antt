@@ -60,11 +60,11 @@ abbrev KN : ℕ → emit-node-lts.Claims
 KN t = (padded-byte-reads.Asked, padded-byte-reads.Learnt, ports-of-reads.Asked, ports-of-reads.Learnt, is-call-reads.Asked, is-call-reads.Learnt, wide-reads.Asked, wide-reads.Learnt, padded-u16-reads.Asked, padded-u16-reads.Learnt, arguments-reads.Asked, arguments-reads.Learnt, position-of-reads.Asked, position-of-reads.Learnt, emit-below t, emit.Post, emit-single-reads.Asked, emit-single-reads.Learnt)
 
 abbrev emit-Inv-loop : emit-lts.InvT-loop
-emit-Inv-loop t starts begins order locations k ins code₀ at next n cell₀ here₀ word₀ i₀ code cell here word i =
-    State t order locations k ins code₀ at next code cell here word i n
+emit-Inv-loop table starts begins order locations k ins code₀ at next n cell₀ here₀ word₀ i₀ code cell here word i =
+    State table order locations k ins code₀ at next code cell here word i n
 
 abbrev emit-μ-loop : emit-lts.MeasureT-loop
-emit-μ-loop t starts begins order locations k ins code₀ at next n cell₀ here₀ word₀ i₀ code cell here word i = n - i
+emit-μ-loop table starts begins order locations k ins code₀ at next n cell₀ here₀ word₀ i₀ code cell here word i = n - i
 
 -- ---- emit
 
@@ -107,7 +107,7 @@ module _ (t : ℕ) where
       let a = e .args in
       let p = d .before .wide16 .ensures .0 ∙ e .pre .1 .0 .1 (a .k) (omega arith) in
       let room = e .pre .1 .1 .1 in
-      start _ _ _ _ _ _ _ _ room (e .pre .1 .1 .0 (a .k) (omega arith) (words-fit _ (a .order .now) (a .locations .now) _ _ _ _ _ room .1)) (c .wide162 .ensures .0) (d .padded-u16 .ensures .0 ∙ ap (λ (q : ℕ). u16 (a .t .now) (q + 4)) p)
+      start _ _ _ _ _ _ _ _ room (e .pre .1 .1 .0 (a .k) (omega arith) (words-fit _ (a .order .now) (a .locations .now) _ _ _ _ _ room .1)) (c .wide162 .ensures .0) (d .padded-u16 .ensures .0 ∙ ap (λ (q : ℕ). u16 (a .table .now) (q + 4)) p)
 
   -- the next element of `order`
   next-node : (c : emit-lts.In-loop (KE t) (emit-at t) emit.Post emit-Inv-loop emit-μ-loop) → 256 * entry-of-head (c .before) .args .k + c .before .loop .i < 4096
@@ -190,7 +190,7 @@ module _ (t : ℕ) where
   call-of-return c = c .before .before .before
 
   -- the call's references
-  count : (c : Named) → let a = entry-of-id c .args in (length (reads (nodeAt (a .t .now) (a .p))) ≡ c .before .wide .result) × (c .before .wide .result ≤ 8)
+  count : (c : Named) → let a = entry-of-id c .args in (length (reads (nodeAt (a .table .now) (a .p))) ≡ c .before .wide .result) × (c .before .wide .result ≤ 8)
   count c =
       let d = form-of-id c in
       let a = entry-of-form d .args in
@@ -198,12 +198,12 @@ module _ (t : ℕ) where
       let r = d .before .ports-of in
       let f = sym (d .is-call .ensures) ∙ c .before .before .before .if1 .taken in
       let e = c .before .wide .ensures .0 ∙ c .before .before .padded-byte2 .ensures in
-      let x = entry-of-form d .pre .1 .0 .2 .arguments (called (a .t .now) (a .p) (k .result) (r .result) (k .ensures) (r .ensures) f) in
-      (count-is (a .t .now) (a .locations .now) (a .k) (a .p) (a .cell) (a .ins .now) (a .first) (a .next) (k .result) (r .result) (k .ensures) (r .ensures) f (c .before .wide .result) (c .padded-u16 .result) e (c .padded-u16 .ensures .0), omega arith)
+      let x = entry-of-form d .pre .1 .0 .2 .arguments (called (a .table .now) (a .p) (k .result) (r .result) (k .ensures) (r .ensures) f) in
+      (count-is (a .table .now) (a .locations .now) (a .k) (a .p) (a .cell) (a .ins .now) (a .first) (a .next) (k .result) (r .result) (k .ensures) (r .ensures) f (c .before .wide .result) (c .padded-u16 .result) e (c .padded-u16 .ensures .0), omega arith)
 
   -- the callee, on the addresses of the arguments
-  callee : (c : Found) → let a = entry-of-position c .args in let g = c .position-of .result in let o = nodeInlined (a .t .now) (a .locations .now) (a .k) (a .p) (a .cell) (a .ins .now) (a .first) (a .next) in
-      (g < a .k → o ≡ functionInlined (a .t .now) g (c .before .arguments .last .1 .1 .1 .1 .1 .0) (a .next)) × (a .k ≤ g → o ≡ nothing (a .next))
+  callee : (c : Found) → let a = entry-of-position c .args in let g = c .position-of .result in let o = nodeInlined (a .table .now) (a .locations .now) (a .k) (a .p) (a .cell) (a .ins .now) (a .first) (a .next) in
+      (g < a .k → o ≡ functionInlined (a .table .now) g (c .before .arguments .last .1 .1 .1 .1 .1 .0) (a .next)) × (a .k ≤ g → o ≡ nothing (a .next))
   callee c =
       let i = id-of-position c in
       let d = form-of-id i in
@@ -212,7 +212,7 @@ module _ (t : ℕ) where
       let r = d .before .ports-of in
       let k16 = entry-of-form d .pre .1 .0 .0 in
       let (on, off) =
-      callee-is (a .t .now) (a .locations .now) (a .k) (a .p) (a .cell) (a .ins .now) (a .first) (a .next) (k .result) (r .result) (k .ensures) (r .ensures) (sym (d .is-call .ensures) ∙ i .before .before .before .if1 .taken) (i .before .wide .result) (i .padded-u16 .result)
+      callee-is (a .table .now) (a .locations .now) (a .k) (a .p) (a .cell) (a .ins .now) (a .first) (a .next) (k .result) (r .result) (k .ensures) (r .ensures) (sym (d .is-call .ensures) ∙ i .before .before .before .if1 .taken) (i .before .wide .result) (i .padded-u16 .result)
       (i .before .wide .ensures .0 ∙ i .before .before .padded-byte2 .ensures) (i .padded-u16 .ensures .0) (c .before .arguments .ensures) (count i .1) (c .position-of .ensures) in
       (on (omega arith), off)
 
@@ -246,7 +246,7 @@ module _ (t : ℕ) where
       let a = e .args in
       let k = d .before .before .padded-byte in
       let r = d .before .ports-of in (
-        (e .pre .1 .0 .2 .near, ap calling (sym (form-is (a .t .now) (a .p) (k .result) (r .result) (k .ensures) (r .ensures))) ∙ sym (d .is-call .ensures) ∙ c .before .if1 .left, end-fits (a .t .now) (a .p) (e .pre .1 .0 .2 .reads)),
+        (e .pre .1 .0 .2 .near, ap calling (sym (form-is (a .table .now) (a .p) (k .result) (r .result) (k .ensures) (r .ensures))) ∙ sym (d .is-call .ensures) ∙ c .before .if1 .left, end-fits (a .table .now) (a .p) (e .pre .1 .0 .2 .reads)),
         (e .pre .1 .1 .0, e .pre .1 .1 .1 .1),
       )
 
@@ -254,7 +254,7 @@ module _ (t : ℕ) where
   cell-fits : (c : Named) → entry-of-id c .args .cell + c .before .wide .result ≤ 65535
   cell-fits c = let (x, y) = count c in let l = entry-of-id c .pre .1 .1 .0 .1 in omega arith
 
-  cell-is : (c : Named) → let a = entry-of-id c .args in a .cell + c .before .wide .result ≡ a .cell + length (reads (nodeAt (a .t .now) (a .p)))
+  cell-is : (c : Named) → let a = entry-of-id c .args in a .cell + c .before .wide .result ≡ a .cell + length (reads (nodeAt (a .table .now) (a .p)))
   cell-is c = let a = entry-of-id c .args in ap (λ (m : ℕ). a .cell + m) (sym (count c .0))
 
   emit-node-returns : emit-node-lts.Need-returns (KN t) (emit-node-at t) emit-node.Post

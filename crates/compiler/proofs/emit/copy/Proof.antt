@@ -6,19 +6,19 @@ use Rattle.compiler.proofs.emit.copy.Statement.{statement}
 use Rattle.compiler.proofs.emit.copy.Tie as tie
 
 abbrev Inv-loop : tie.InvT-loop
-Inv-loop t from n code₀ at j₀ code j = Copying t from n code₀ at code j
+Inv-loop table from n code₀ at j₀ code j = Copying table from n code₀ at code j
 
 abbrev μ-loop : tie.MeasureT-loop
-μ-loop t from n code₀ at j₀ code j = n - j
+μ-loop table from n code₀ at j₀ code j = n - j
 
 loop-holds : tie.Need-loop-holds Inv-loop μ-loop
-loop-holds c = let a = c .args in copy-start (a .t .now) (a .from) (a .n) (a .code .now) (a .at)
+loop-holds c = let a = c .args in copy-start (a .table .now) (a .from) (a .n) (a .code .now) (a .at)
 
 loop-again : tie.Need-loop-again Inv-loop μ-loop
 loop-again c =
     let a = c .before .before .before .args in
     let l = c .before .before .loop in
-    copy-step (a .t .now) (a .from) (a .n) (a .code .now) (a .at) (l .code) (l .j) _ (l .inv) (c .before .loop-test .taken) refl
+    copy-step (a .table .now) (a .from) (a .n) (a .code .now) (a .at) (l .code) (l .j) _ (l .inv) (c .before .loop-test .taken) refl
 
 same-length : tie.Need-same-length Inv-loop μ-loop
 same-length c = c .before .loop .inv .same
@@ -27,7 +27,7 @@ returns : tie.Need-returns Inv-loop μ-loop
 returns c =
     let a = c .before .before .args in
     let l = c .before .loop in
-    copy-done (a .t .now) (a .from) (a .n) (a .code .now) (a .at) (l .code) (l .j) (l .inv) (c .loop-test .left)
+    copy-done (a .table .now) (a .from) (a .n) (a .code .now) (a .at) (l .code) (l .j) (l .inv) (c .loop-test .left)
 
 pub copy-spec : {M : Type 1} → statement M
 copy-spec =

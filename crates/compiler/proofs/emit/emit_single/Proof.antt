@@ -75,12 +75,12 @@ slice-known3-to-start c = copy-arg-to-start (c .before .before .before)
 -- the node as it was read
 node : (c : tie.After-result-words) →
     let a = result-words-to-start c .args in
-    Taken (a .t .now) (a .locations .now) (a .k) (a .p) (a .cell) (a .ins .now) (a .first) (a .next) (λ q. omega (arith, result-words-to-shared-slice-known c .shared-slice-known .given q))
+    Taken (a .table .now) (a .locations .now) (a .k) (a .p) (a .cell) (a .ins .now) (a .first) (a .next) (λ q. omega (arith, result-words-to-shared-slice-known c .shared-slice-known .given q))
     (result-words-to-padded-byte c .padded-byte .result) (result-words-to-padded-byte2 c .padded-byte2 .result) (c .before .before .before .ports-of .result) (result-words-to-padded-byte c .padded-byte .ensures) (result-words-to-padded-byte2 c .padded-byte2 .ensures) (c .before .before .before .ports-of .ensures) (result-words-to-start c .pre .0 .1)
     (c .before .before .wide .result) (c .before .constant-words .result) (c .result-words .result) (c .before .before .wide .ensures .0) (c .before .constant-words .ensures .0) (c .result-words .ensures .0)
 node c =
     let a = result-words-to-start c .args in
-    taken (a .t .now) (a .locations .now) (a .k) (a .p) (a .cell) (a .ins .now) (a .first) (a .next) (λ q. omega (arith, result-words-to-shared-slice-known c .shared-slice-known .given q))
+    taken (a .table .now) (a .locations .now) (a .k) (a .p) (a .cell) (a .ins .now) (a .first) (a .next) (λ q. omega (arith, result-words-to-shared-slice-known c .shared-slice-known .given q))
     (result-words-to-padded-byte c .padded-byte .result) (result-words-to-padded-byte2 c .padded-byte2 .result) (c .before .before .before .ports-of .result) (result-words-to-padded-byte c .padded-byte .ensures) (result-words-to-padded-byte2 c .padded-byte2 .ensures) (c .before .before .before .ports-of .ensures) (result-words-to-start c .pre .0 .1)
     (c .before .before .wide .result) (c .before .constant-words .result) (c .result-words .result) (c .before .before .wide .ensures .0) (c .before .constant-words .ensures .0) (c .result-words .ensures .0)
 
@@ -117,8 +117,8 @@ copy-requires c κs =
     let a = b .args in
     let kind = copy-arg-to-padded-byte c .padded-byte in
     let row = copy-arg-to-ports-of c .ports-of in
-    let f = ap calling (form-is (a .t .now) (a .p) (kind .result) (row .result) (kind .ensures) (row .ensures)) ∙ b .pre .0 .1 in
-    let end = plain-end (a .t .now) (a .p) (kind .result) (row .result) (kind .ensures) (row .ensures) f (copy-arg-to-wide c .wide .result) (copy-arg-to-constant-words c .constant-words .result) (copy-arg-to-wide c .wide .ensures .0) (copy-arg-to-constant-words c .constant-words .ensures .0) in
+    let f = ap calling (form-is (a .table .now) (a .p) (kind .result) (row .result) (kind .ensures) (row .ensures)) ∙ b .pre .0 .1 in
+    let end = plain-end (a .table .now) (a .p) (kind .result) (row .result) (kind .ensures) (row .ensures) f (copy-arg-to-wide c .wide .result) (copy-arg-to-constant-words c .constant-words .result) (copy-arg-to-wide c .wide .ensures .0) (copy-arg-to-constant-words c .constant-words .ensures .0) in
     let most = b .pre .0 .2 in
     let same = c .before .before .before .operands .kept .1 .1 .1 .1 .1 .0 ∙ head-length (a .code .now) (a .at) (kind .result) (copy-arg-to-padded-byte2 c .padded-byte2 .result) in
     (omega arith, omega arith)
@@ -150,7 +150,7 @@ returns c =
     let n = slice-known3-to-wide c .wide .result in
     let v = slice-known3-to-constant-words c .constant-words .result in
     let xs = allBytes 2 (addressesIn (a .locations .now) (a .ins .now) (a .first) (a .cell) n) in
-    let ys = copied (8 * v) (a .t .now) (a .p + 4) in (
+    let ys = copied (8 * v) (a .table .now) (a .p + 4) in (
       record {
         written =
             c .before .before .copy .ensures
