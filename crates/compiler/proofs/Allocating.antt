@@ -133,10 +133,6 @@ module _ (s : List ℕ) (k c : ℕ) (acc : Accepted s (suc k)) (outs ts places i
   abbrev sizeOf : Node → ℕ
   sizeOf x = length (reads x)
 
-  nodes-are : ns ≡ nodesAt n s at
-  unfolding functionAt
-  nodes-are = refl
-
   sound : AllSound (functionIn s k ∷ before s k)
   unfolding earlier
   sound = sound-below s (suc k) acc k (omega arith)

@@ -6,7 +6,7 @@ use mathlib.Core.List.{List, [], _∷_, _++_}
 use mathlib.Core.Option.{some}
 use native.Mathlib.Omega.{arith}
 use lib.Dec.{eqb}
-use lib.ListN.{length, getD, set, getElem?, length-set, replicate, length-replicate}
+use lib.ListN.{length, getD, set, length-set, replicate, length-replicate}
 use lib.Seq.{sets, length-sets}
 use Rattle.base.specs.Limits.{nodeLimit, slotLimit}
 use Rattle.base.proofs.Numbers.{one-less}
@@ -15,7 +15,7 @@ use Rattle.base.specs.Bytes.{byte}
 use Rattle.base.specs.Lists.{span}
 use Rattle.graph.specs.Graph.{Node}
 use Rattle.graph.specs.Read.{reference}
-use Rattle.reader.specs.Layout.{nodeAt, nodeEnd, nodesAt, nodePlace}
+use Rattle.reader.specs.Layout.{nodeEnd, nodesAt, nodePlace}
 use Rattle.reader.specs.Find.{nodeFound}
 use Rattle.reader.specs.declared.Found.{Found}
 use Rattle.reader.specs.declared.Found.the-variants.{At, Nothing}

@@ -1,9 +1,9 @@
 -- Inlining goes by addresses alone, and a call opens the function at its callee's position.
-use Prim.Native.Nat.{ℕ, zero, suc, _+_, _≤_, _<_}
+use Prim.Native.Nat.{ℕ, suc, _+_, _≤_, _<_}
 use mathlib.Core.Path.{_≡_, refl, sym, ap, _∙_, subst}
 use mathlib.Core.Bool.{Bool, true, false, cond}
 use mathlib.Core.List.{List, [], _∷_, map}
-use mathlib.Core.Logic.{_⊎_, inl, inr, ⊎-elim}
+use mathlib.Core.Logic.{⊎-elim}
 use native.Mathlib.Omega.{arith}
 use lib.Dec.{eqb}
 use lib.ListN.{length, getD, replicate, length-replicate, getD-replicate, List·getD-eq-default}
@@ -24,16 +24,13 @@ use Rattle.compiler.specs.Emit.{addressesIn, inlineWith, nodeInlined, fu
 use Rattle.base.proofs.Stores.{sets-in, sets-above}
 use Rattle.sums.proofs.Nodes.{call-payload}
 use Rattle.sums.proofs.Positions.{at-position, no-position}
+use Rattle.compiler.proofs.Locations.{map-same}
 use Rattle.compiler.proofs.Single.{addresses-length}
 
 -- ---- addresses that are the same at every port
 
 abbrev pub Same : List ℕ → List ℕ → Type 0
 Same xs ys = (p : ℕ) → getD xs p 0 ≡ getD ys p 0
-
-pub map-same : (f g : Ref → ℕ) → ((r : Ref) → f r ≡ g r) → (rs : List Ref) → map f rs ≡ map g rs
-map-same f g h [] = refl
-map-same f g h (r ∷ rs) = ap (λ (x : ℕ). x ∷ map f rs) (h r) ∙ ap (λ (xs : List ℕ). g r ∷ xs) (map-same f g h rs)
 
 node-same : (go : Inline) (f g : Ref → ℕ) → ((r : Ref) → f r ≡ g r) → (next : ℕ) (n : Node) (p : Payload) → inlineNode go f next n p ≡ inlineNode go g next n p
 node-same go f g h next n (consts ws) = refl

@@ -1,9 +1,8 @@
 use borrow.Author.Needs.{needs}
-use Prim.Native.Nat.{ℕ, suc, _+_, _-_, _≤_, _<_}
-use mathlib.Core.Path.{_≡_, refl, sym, subst}
+use Prim.Native.Nat.{suc, _+_, _-_, _≤_, _<_}
+use mathlib.Core.Path.{_≡_}
 use native.Mathlib.Omega.{arith}
-use Rattle.compiler.specs.Emit.{AllAllocated}
-use Rattle.compiler.specs.Locating.{AllOuts, AllocatedTo}
+use Rattle.compiler.specs.Locating.{AllocatedTo}
 use Rattle.sums.proofs.Accepted.{few, fewer}
 use Rattle.compiler.proofs.Tables.{allocated-none}
 use Rattle.compiler.proofs.allocate.allocate_functions.Statement.{statement}
