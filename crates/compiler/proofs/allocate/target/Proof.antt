@@ -14,59 +14,60 @@ use Rattle.compiler.proofs.allocate.target.Tie as tie
 
 -- ---- places: from one back to another
 
-abbrev known-told-to-else1 : tie.After-known-told → tie.Else1
-known-told-to-else1 c = let d = c .before .before .before in d .before
+abbrev entry-of-id : tie.After-padded-u16 → tie.Start
+entry-of-id c = c .before .before
 
-abbrev enum-told-to-padded-u16 : tie.After-enum-told → tie.After-padded-u16
-enum-told-to-padded-u16 c = let d = c .before .before .before in d .before
+abbrev id-of-search : tie.After-find-node → tie.After-padded-u16
+id-of-search c = c .before .before
 
-abbrev known-told-to-padded-u16 : tie.After-known-told → tie.After-padded-u16
-known-told-to-padded-u16 c = known-told-to-else1 c .before
+abbrev search-of-found : tie.After-known-told → tie.After-find-node
+search-of-found c = c .before .before .before
 
-abbrev enum-told-to-start : tie.After-enum-told → tie.Start
-enum-told-to-start c = enum-told-to-padded-u16 c .before .before
-
-abbrev known-told-to-start : tie.After-known-told → tie.Start
-known-told-to-start c = known-told-to-padded-u16 c .before .before
-
-find-node-requires : tie.Need-find-node-requires
-find-node-requires c κs = c .before .before .before .pre .2
+abbrev entry-of-found : tie.After-known-told → tie.Start
+entry-of-found c = entry-of-id (id-of-search (search-of-found c))
 
 returns : tie.Need-returns
-returns c = let e = sym (c .before .padded-u16 .ensures .0) ∙ c .if1 .taken in rw (eq-eqb (u16 (c .before .before .before .args .table .now) (c .before .before .before .args .q)) 0 e)
+returns c = let a = entry-of-id (c .before) .args in rw (eq-eqb (u16 (a .table .now) (a .q)) 0 (sym (c .before .padded-u16 .ensures .0) ∙ c .if1 .taken))
+
+-- the reference names a node
+named : (c : tie.After-find-node) → let a = entry-of-id (id-of-search c) .args in u16 (a .table .now) (a .q) ≡ 0 → ⊥
+named c z = c .before .if1 .left (id-of-search c .padded-u16 .ensures .0 ∙ z)
 
 -- what was found
 index : (c : tie.After-known-told) →
-    let ns = nodesAt (known-told-to-start c .args .n) (known-told-to-start c .args .table .now) (known-told-to-start c .args .at) in
-    (c .before .found .given .0 .0 ≡ indexOf (known-told-to-padded-u16 c .padded-u16 .result) ns) × (indexOf (known-told-to-padded-u16 c .padded-u16 .result) ns < length ns)
-index c = found-index (known-told-to-padded-u16 c .padded-u16 .result) (nodesAt (known-told-to-start c .args .n) (known-told-to-start c .args .table .now) (known-told-to-start c .args .at)) (c .before .found .given .0 .0) _ (sym (c .before .found .given .1) ∙ c .before .before .before .find-node .ensures)
+    let a = entry-of-found c .args in
+    let i = indexOf (id-of-search (search-of-found c) .padded-u16 .result) (nodesAt (a .n) (a .table .now) (a .at)) in
+    (c .before .found .given .0 .0 ≡ i) × (i < length (nodesAt (a .n) (a .table .now) (a .at)))
+index c =
+    let a = entry-of-found c .args in
+    let s = search-of-found c in
+    found-index (id-of-search s .padded-u16 .result) (nodesAt (a .n) (a .table .now) (a .at)) (c .before .found .given .0 .0) _ (sym (c .before .found .given .1) ∙ s .find-node .ensures)
 
 cast-result : tie.Need-cast-result
 cast-result c =
+    let b = entry-of-found c in
     let (x, y) = index c in
-    let z = length-nodes (known-told-to-start c .args .n) (known-told-to-start c .args .table .now) (known-told-to-start c .args .at) in
-    let n = known-told-to-start c .pre .0 in
+    let z = length-nodes (b .args .n) (b .args .table .now) (b .args .at) in
+    let n = b .pre .0 in
     omega arith
 
 returns-2 : tie.Need-returns-2
 returns-2 c =
-    let a = known-told-to-start c .args in
-    let s = a .table .now in
-    let ns = nodesAt (a .n) s (a .at) in
-    let y = known-told-to-padded-u16 c .padded-u16 .ensures .0 in
-    rw (ne-eqb (u16 s (a .q)) 0 (λ z. known-told-to-else1 c .if1 .left (y ∙ z))) (index c .0 ∙ ap (λ (i : ℕ). indexOf i ns) y)
+    let s = search-of-found c in
+    let a = entry-of-found c .args in
+    rw (ne-eqb (u16 (a .table .now) (a .q)) 0 (named s)) (index c .0 ∙ ap (λ (i : ℕ). indexOf i (nodesAt (a .n) (a .table .now) (a .at))) (id-of-search s .padded-u16 .ensures .0))
 
 returns-3 : tie.Need-returns-3
 returns-3 c =
-    let a = enum-told-to-start c .args in
-    let s = a .table .now in
-    let ns = nodesAt (a .n) s (a .at) in
-    let x = none-index (enum-told-to-padded-u16 c .padded-u16 .result) ns (sym (c .enum-told .given .1) ∙ c .before .before .find-node .ensures) in
-    let y = enum-told-to-padded-u16 c .padded-u16 .ensures .0 in
-    rw (ne-eqb (u16 s (a .q)) 0 (λ z. c .before .before .before .if1 .left (y ∙ z))) (sym (ap (λ (i : ℕ). indexOf i ns) (sym y) ∙ x ∙ length-nodes (a .n) s (a .at)))
+    let s = c .before .before in
+    let i = id-of-search s in
+    let a = entry-of-id i .args in
+    let ns = nodesAt (a .n) (a .table .now) (a .at) in
+    let x = none-index (i .padded-u16 .result) ns (sym (c .enum-told .given .1) ∙ s .find-node .ensures) in
+    rw (ne-eqb (u16 (a .table .now) (a .q)) 0 (named s)) (sym (ap (λ (i : ℕ). indexOf i ns) (sym (i .padded-u16 .ensures .0)) ∙ x ∙ length-nodes (a .n) (a .table .now) (a .at)))
 
 pub target-spec : {M : Type 1} → statement M
 target-spec =
     tie.close
-    (tie.spec (λ c κs. search needs) returns find-node-requires (λ c. search needs) cast-result (λ c. search needs)
+    (tie.spec (λ c κs. search needs) returns (λ c κs. entry-of-id (c .before) .pre .2) (λ c. search needs) cast-result (λ c. search needs)
     (λ c. search needs) returns-2 returns-3)
