@@ -4,6 +4,7 @@ use mathlib.Core.Path.{_≡_, sym, subst}
 use mathlib.Core.List.{List, []}
 use mathlib.Core.Logic.{⊎-elim}
 use native.Mathlib.Omega.{arith}
+use Rattle.base.specs.Limits.{nodeLimit}
 use Rattle.base.specs.Lists.{Each}
 use Rattle.base.specs.Outcome.{ok}
 use Rattle.base.proofs.Numbers.{lt-or-eq}
@@ -13,7 +14,7 @@ use Rattle.reader.specs.Layout.{nodesAt, nodeCount, nodesPlace, functionAt, ear
 use Rattle.reader.specs.Find.{ReadsNodes}
 use Rattle.reader.proofs.Passed.{function-holds}
 use Rattle.sums.specs.Position.{placeOf, functionIn, before, Accepted}
-use Rattle.sums.proofs.Accepted.{functions-are, read-below}
+use Rattle.sums.proofs.Accepted.{functions-are, read-below, fit-below}
 use Rattle.compiler.proofs.Locations.{Single, accepted-single}
 
 module _ (s : List ℕ) (k : ℕ) (acc : Accepted s k) where
@@ -28,9 +29,8 @@ module _ (s : List ℕ) (k : ℕ) (acc : Accepted s k) where
       let n = acc .most in
       single-down (acc .functions) j (omega arith) (accepted-single s (acc .small) (before s (acc .functions)) (functions-are s (acc .functions) (acc .judged)))
 
-  pub fresh-at : (j : ℕ) → j < k → fresh [] (nodesAt (nodeCount s (placeOf s j)) s (nodesPlace s (placeOf s j))) ≡ ok tt
+  -- its nodes, n of them from `at` on
+  pub nodes-held : (j : ℕ) → j < k → {n at : ℕ} → n ≡ nodeCount s (placeOf s j) → at ≡ nodesPlace s (placeOf s j)
+      → (n ≤ nodeLimit) × ReadsNodes n s at × (fresh [] (nodesAt n s at) ≡ ok tt)
   unfolding functionAt
-  fresh-at j l = distinct-fresh (functionIn s j .nodes) (single-at j l)
-
-  pub reads-nodes : (j : ℕ) → j < k → ReadsNodes (nodeCount s (placeOf s j)) s (nodesPlace s (placeOf s j))
-  reads-nodes j l = function-holds s (placeOf s j) (read-below s k acc j l) .nodes
+  nodes-held j l en ea = rw (en, ea) (fit-below s k acc j l .count, function-holds s (placeOf s j) (read-below s k acc j l) .nodes, distinct-fresh (functionIn s j .nodes) (single-at j l))

@@ -106,6 +106,14 @@ coded-reads a table located locations here (r ∷ rs) (e ∷ es) l (c, h) (t, ts
 
 -- ---- the loop
 
+-- what the loop over the nodes of the function at position k is lent; its references have their locations from c on
+pub record Lent (s : List ℕ) (k c : ℕ) (outs ts places : List ℕ) : Type 0 where
+  pub limit : wordsAt s k ≤ wordLimit
+  pub room : c + readCount s k ≤ referenceLimit
+  pub slots : Slots s (nodesPlace s (placeOf s k)) (nodeCount s (placeOf s k)) ts
+  pub held : Places s (nodesPlace s (placeOf s k)) places (nodeCount s (placeOf s k))
+  pub all : AllOuts s outs k
+
 module _ (s : List ℕ) (k c : ℕ) (acc : Accepted s (suc k)) (outs ts places index order₀ locations₀ : List ℕ) where
   abbrev n : ℕ
   n = nodeCount s (placeOf s k)
@@ -124,10 +132,6 @@ module _ (s : List ℕ) (k c : ℕ) (acc : Accepted s (suc k)) (outs ts places i
 
   abbrev sizeOf : Node → ℕ
   sizeOf x = length (reads x)
-
-  nodes-are : ns ≡ nodesAt n s at
-  unfolding functionAt
-  nodes-are = refl
 
   sound : AllSound (functionIn s k ∷ before s k)
   unfolding earlier
@@ -184,10 +188,10 @@ module _ (s : List ℕ) (k c : ℕ) (acc : Accepted s (suc k)) (outs ts places i
         slots = λ i j x g l. h .slots i j x g l;
       }
 
-  pub start : (order locations allocated : List ℕ) → Slots s at n ts → index ≡ sets (replicate nodeLimit 0) 0 (indexOrder ts n) → length order ≡ orderLimit → length locations ≡ referenceLimit → length allocated ≡ nodePortLimit
-      → order ≡ order₀ → locations ≡ locations₀ → State order locations allocated c 0 0
+  begun : (allocated : List ℕ) → Slots s at n ts → index ≡ sets (replicate nodeLimit 0) 0 (indexOrder ts n) → length order₀ ≡ orderLimit → length locations₀ ≡ referenceLimit → length allocated ≡ nodePortLimit
+      → State order₀ locations₀ allocated c 0 0
   unfolding functionAt
-  start order locations allocated h ei lo ls ll eo es =
+  begun allocated h ei lo ls ll =
       let right = scheduled (before s k) (functionIn s k) (sound .0) in
       let l : length (nodesAt n s at) ≡ n = length-nodes n s at in
       let size : length (schedule ns) ≡ length ns = right .size in
@@ -210,8 +214,8 @@ module _ (s : List ℕ) (k c : ℕ) (acc : Accepted s (suc k)) (outs ts places i
           words = let a = right .total (addsWords s k) in let b = sums-are s k .1 in omega arith;
           unread = let a = right .total sizeOf in omega arith;
           sizes = (lo, ls, ll);
-          old-order = λ q ql. ap (λ (xs : List ℕ). getD xs q 0) eo;
-          old-locations = λ q ql. ap (λ (xs : List ℕ). getD xs q 0) es;
+          old-order = λ q ql. refl;
+          old-locations = λ q ql. refl;
           placed = λ order' locations' ho hs p. rw add-zero at p;
           past = omega arith;
         },
@@ -220,8 +224,7 @@ module _ (s : List ℕ) (k c : ℕ) (acc : Accepted s (suc k)) (outs ts places i
   -- ---- the node at hand
 
   module _ (x : Node) (xs : List Node) (i : ℕ) (is : List ℕ) (located : List Located) (order locations allocated : List ℕ) (here d m : ℕ)
-      (st : At (x ∷ xs) (i ∷ is) located order locations allocated here d m) (limit : wordsAt s k ≤ wordLimit) (room : c + readCount s k ≤ referenceLimit)
-      (slots : Slots s at n ts) (held : Places s at places n) (all : AllOuts s outs k) where
+      (st : At (x ∷ xs) (i ∷ is) located order locations allocated here d m) (lent : Lent s k c outs ts places) where
     stands : getElem? ns i ≡ some x
     stands = let e = st .along in cc
 
@@ -234,7 +237,7 @@ module _ (s : List ℕ) (k c : ℕ) (acc : Accepted s (suc k)) (outs ts places i
 
     module _ (p : ℕ) (ep : p ≡ getD places i 0) where
       place-is : p ≡ nodePlace s at i
-      place-is = ep ∙ held i low
+      place-is = ep ∙ lent .held i low
 
       node-is : nodeAt s p ≡ x
       unfolding functionAt
@@ -279,7 +282,7 @@ module _ (s : List ℕ) (k c : ℕ) (acc : Accepted s (suc k)) (outs ts places i
           let w : summaryAt s g .words ≡ wordsAt s g = function-words (before s g) (functionIn s g) sg in (
             length (functionIn s g .inputs),
             each-wider (length (functionIn s g .inputs)) wordLimit (summaryAt s g .words) (summaryAt s g .outputs) (omega arith) (outputs-within (before s g) (functionIn s g) sg),
-            all g l (omega arith),
+            lent .all g l (omega arith),
           )
 
       module _ (r : Reads) (er : ReadsOf s p r) where
@@ -297,7 +300,7 @@ module _ (s : List ℕ) (k c : ℕ) (acc : Accepted s (suc k)) (outs ts places i
         codes-are =
             let l : length (nodesAt n s at) ≡ n = length-nodes n s at in
             let f = fit-below s (suc k) acc k (omega arith) .count in
-            reads-coded ns (omega arith) allocated located (st .known) s ts i x (λ j jl. slots .slots i j x stands jl)
+            reads-coded ns (omega arith) allocated located (st .known) s ts i x (λ j jl. lent .slots .slots i j x stands jl)
             (λ q w g. sound-closed (before s k) (functionIn s k) (sound .0) .closed x (q .node) (at-is ns i x stands) (ref-member (reads x) w q g))
             (r .count) (r .first) reads-are (let z = here-is .narrow-reads in let y = count-is in omega arith)
 
@@ -410,58 +413,57 @@ module _ (s : List ℕ) (k c : ℕ) (acc : Accepted s (suc k)) (outs ts places i
                       subst (λ (b : ℕ). Placed s order'' locations'' table b (here + length (reads x)) xs) z (subst (λ (b : ℕ). Placed s order'' locations'' table (nodeLimit * k + (m + 1)) b xs) y rest),
                     )
 
-  -- ---- the invariant, at the loop's head
+-- ---- the invariant, at the loop's head
 
-  module _ (limit : wordsAt s k ≤ wordLimit) (room : c + readCount s k ≤ referenceLimit) (slots : Slots s at n ts) (held : Places s at places n) (all : AllOuts s outs k)
-      (order locations allocated : List ℕ) (here d m : ℕ) where
-    pub index-low : State order locations allocated here d m → m < n → (i : ℕ) → i ≡ getD index m 0 → i < n
-    index-low ([], left, located, st) lt i e = let a = st .count in absurd (omega arith)
-    index-low (x ∷ xs, [], located, st) lt i e = let z : _≡_ {A = ℕ} 0 1 = let q = st .along in cc in absurd (omega arith)
-    index-low (x ∷ xs, v ∷ vs, located, st) lt i e =
-        let a = low x xs v vs located order locations allocated here d m st limit room slots held all in
-        let b = index-is x xs v vs located order locations allocated here d m st limit room slots held all in
+module _ {s : List ℕ} {k c : ℕ} {acc : Accepted s (suc k)} {outs ts places index order₀ locations₀ : List ℕ} where
+  pub start : {allocated : List ℕ} → Lent s k c outs ts places → index ≡ sets (replicate nodeLimit 0) 0 (indexOrder ts (nodeCount s (placeOf s k)))
+      → length order₀ ≡ orderLimit → length locations₀ ≡ referenceLimit → length allocated ≡ nodePortLimit
+      → State s k c acc outs ts places index order₀ locations₀ order₀ locations₀ allocated c 0 0
+  start {allocated} lent = begun s k c acc outs ts places index order₀ locations₀ allocated (lent .slots)
+
+  module _ {order locations allocated : List ℕ} {here d m : ℕ} where
+    pub index-low : Lent s k c outs ts places → State s k c acc outs ts places index order₀ locations₀ order locations allocated here d m → m < nodeCount s (placeOf s k) → {i : ℕ} → i ≡ getD index m 0 → i < nodeCount s (placeOf s k)
+    index-low lent ([], left, located, st) lt e = let a = st .count in absurd (omega arith)
+    index-low lent (x ∷ xs, [], located, st) lt e = let z : _≡_ {A = ℕ} 0 1 = let q = st .along in cc in absurd (omega arith)
+    index-low lent (x ∷ xs, v ∷ vs, located, st) lt e =
+        let a = low s k c acc outs ts places index order₀ locations₀ x xs v vs located order locations allocated here d m st lent in
+        let b = index-is s k c acc outs ts places index order₀ locations₀ x xs v vs located order locations allocated here d m st lent in
         omega arith
 
     -- the node at hand, which stands at p
-    abbrev pub Fits : ℕ → Type 0
-    Fits p = NodeFit s p × (length (reads (nodeAt s p)) ≤ 16) × (here + length (reads (nodeAt s p)) ≤ referenceLimit) × (d + addsWords s k (nodeAt s p) ≤ wordLimit)
-
-    pub node-fits : State order locations allocated here d m → m < n → (i p : ℕ) → i ≡ getD index m 0 → p ≡ getD places i 0 → Fits p
-    node-fits ([], left, located, st) lt i p e ep = let a = st .count in absurd (omega arith)
-    node-fits (x ∷ xs, [], located, st) lt i p e ep = let z : _≡_ {A = ℕ} 0 1 = let q = st .along in cc in absurd (omega arith)
-    node-fits (x ∷ xs, v ∷ vs, located, st) lt i p e ep =
-        let b : i ≡ v = e ∙ index-is x xs v vs located order locations allocated here d m st limit room slots held all in
-        let h = here-is x xs v vs located order locations allocated here d m st limit room slots held all p (ep ∙ ap (λ (q : ℕ). getD places q 0) b) in
+    pub node-fits : Lent s k c outs ts places → State s k c acc outs ts places index order₀ locations₀ order locations allocated here d m → m < nodeCount s (placeOf s k) → {i p : ℕ} → i ≡ getD index m 0 → p ≡ getD places i 0
+        → NodeFit s p × (length (reads (nodeAt s p)) ≤ 16) × (here + length (reads (nodeAt s p)) ≤ referenceLimit) × (d + addsWords s k (nodeAt s p) ≤ wordLimit)
+    node-fits lent ([], left, located, st) lt e ep = let a = st .count in absurd (omega arith)
+    node-fits lent (x ∷ xs, [], located, st) lt e ep = let z : _≡_ {A = ℕ} 0 1 = let q = st .along in cc in absurd (omega arith)
+    node-fits lent (x ∷ xs, v ∷ vs, located, st) lt {i} {p} e ep =
+        let b : i ≡ v = e ∙ index-is s k c acc outs ts places index order₀ locations₀ x xs v vs located order locations allocated here d m st lent in
+        let h = here-is s k c acc outs ts places index order₀ locations₀ x xs v vs located order locations allocated here d m st lent p (ep ∙ ap (λ (q : ℕ). getD places q 0) b) in
         (h .fits, h .narrow-reads, h .free, h .short)
 
-    pub advance : State order locations allocated here d m → m < n → (i p : ℕ) → i ≡ getD index m 0 → p ≡ getD places i 0 → (r : Reads) → ReadsOf s p r
-        → (order' locations' allocated' : List ℕ) (here' d' : ℕ) → order' ≡ set order (nodeLimit * k + m) p → locations' ≡ sets locations here (readCodes s ts allocated (16 * i) (r .count) (r .first))
-        → allocated' ≡ sets allocated (8 * i) (nodeCodes s outs locations' k p here d) → d' ≡ d + addsWords s k (nodeAt s p) → here' ≡ here + r .count
-        → State order' locations' allocated' here' d' (m + 1)
-    advance ([], left, located, st) lt i p e ep r er order' locations' allocated' here' d' eo es el ed eh = let a = st .count in absurd (omega arith)
-    advance (x ∷ xs, [], located, st) lt i p e ep r er order' locations' allocated' here' d' eo es el ed eh =
-        let z : _≡_ {A = ℕ} 0 1 = let q = st .along in cc in absurd (omega arith)
-    advance (x ∷ xs, v ∷ vs, located, st) lt i p e ep r er order' locations' allocated' here' d' eo es el ed eh =
-        let b : i ≡ v = e ∙ index-is x xs v vs located order locations allocated here d m st limit room slots held all in (
+    pub advance : Lent s k c outs ts places → State s k c acc outs ts places index order₀ locations₀ order locations allocated here d m → m < nodeCount s (placeOf s k) → {i p : ℕ} → i ≡ getD index m 0 → p ≡ getD places i 0
+        → {r : Reads} → ReadsOf s p r → {locations' allocated' : List ℕ} {d' : ℕ} → locations' ≡ sets locations here (readCodes s ts allocated (16 * i) (r .count) (r .first))
+        → allocated' ≡ sets allocated (8 * i) (nodeCodes s outs locations' k p here d) → d' ≡ d + addsWords s k (nodeAt s p)
+        → State s k c acc outs ts places index order₀ locations₀ (set order (nodeLimit * k + m) p) locations' allocated' (here + r .count) d' (m + 1)
+    advance lent ([], left, located, st) lt e ep er es el ed = let a = st .count in absurd (omega arith)
+    advance lent (x ∷ xs, [], located, st) lt e ep er es el ed = let z : _≡_ {A = ℕ} 0 1 = let q = st .along in cc in absurd (omega arith)
+    advance lent (x ∷ xs, v ∷ vs, located, st) lt {i} {p} e ep {r} er {locations'} {allocated'} {d'} es el ed =
+        let b : i ≡ v = e ∙ index-is s k c acc outs ts places index order₀ locations₀ x xs v vs located order locations allocated here d m st lent in (
           xs,
           vs,
           _,
-          stepped x xs v vs located order locations allocated here d m st limit room slots held all p (ep ∙ ap (λ (q : ℕ). getD places q 0) b) r er locations'
-              (es ∙ ap (λ (q : ℕ). sets locations here (readCodes s ts allocated (16 * q) (r .count) (r .first))) b) order' allocated' d' here' eo
-              (el ∙ ap (λ (q : ℕ). sets allocated (8 * q) (nodeCodes s outs locations' k p here d)) b) ed eh,
+          stepped s k c acc outs ts places index order₀ locations₀ x xs v vs located order locations allocated here d m st lent p (ep ∙ ap (λ (q : ℕ). getD places q 0) b) r er locations'
+              (es ∙ ap (λ (q : ℕ). sets locations here (readCodes s ts allocated (16 * q) (r .count) (r .first))) b) (set order (nodeLimit * k + m) p) allocated' d' (here + r .count) refl
+              (el ∙ ap (λ (q : ℕ). sets allocated (8 * q) (nodeCodes s outs locations' k p here d)) b) ed refl,
         )
 
-  pub same-sizes : (order locations allocated : List ℕ) (here d m : ℕ) → State order locations allocated here d m → (length order ≡ orderLimit) × (length locations ≡ referenceLimit) × (length allocated ≡ nodePortLimit)
-  same-sizes order locations allocated here d m (rest, left, located, st) = st .sizes
-
-  pub finished : (order locations allocated : List ℕ) (here d m : ℕ) → State order locations allocated here d m → n ≤ m → NodesAllocated s k c order₀ order locations₀ locations allocated here
-  finished order locations allocated here d m (x ∷ xs, left, located, st) ge = let a = st .count in absurd (omega arith)
-  finished order locations allocated here d m ([], left, located, st) ge =
-      record {
-        placed = st .placed order locations (λ q l. refl) (λ q l. refl) tt;
-        known = subst (λ (b : Allocation). Knows ns allocated (b .located)) (sym (st .final)) (st .known);
-        end = let a = st .unread in omega arith;
-        sizes = (st .sizes .0, st .sizes .1);
-        old-order = st .old-order;
-        old-locations = st .old-locations;
-      }
+    pub finished : State s k c acc outs ts places index order₀ locations₀ order locations allocated here d m → nodeCount s (placeOf s k) ≤ m → NodesAllocated s k c order₀ order locations₀ locations allocated here
+    finished (x ∷ xs, left, located, st) ge = let a = st .count in absurd (omega arith)
+    finished ([], left, located, st) ge =
+        record {
+          placed = st .placed order locations (λ q l. refl) (λ q l. refl) tt;
+          known = subst (λ (b : Allocation). Knows (functionIn s k .nodes) allocated (b .located)) (sym (st .final)) (st .known);
+          end = let a = st .unread in omega arith;
+          sizes = (st .sizes .0, st .sizes .1);
+          old-order = st .old-order;
+          old-locations = st .old-locations;
+        }

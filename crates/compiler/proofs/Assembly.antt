@@ -79,7 +79,7 @@ each-at P (x ∷ xs) (h, hs) (suc q) l = each-at P xs hs q (omega arith)
 
 -- ---- the whole
 
-module _ (s : List ℕ) (k : ℕ) (acc : Accepted s (suc k)) (count inputs outputs : ℕ) (ms : Measured s k count inputs outputs) (outs ins : List ℕ)
+module _ {s : List ℕ} {k : ℕ} (acc : Accepted s (suc k)) {count inputs outputs : ℕ} (ms : Measured s k count inputs outputs) {outs ins : List ℕ}
     (ports : PortsCoded (summaryAt s k .outputs) outs (8 * k)) (ei : ins ≡ sets (replicate 8 0) 0 (places 0 (functionIn s k .inputs))) where
   abbrev f : Function
   f = functionIn s k
@@ -120,8 +120,8 @@ module _ (s : List ℕ) (k : ℕ) (acc : Accepted s (suc k)) (count inputs outpu
       let r = ms .results in
       omega arith
 
-  pub emit-room : (code : List ℕ) → length (codeAt s k) ≤ length code → Room code 12 (functionInlined s k ins inputs)
-  emit-room code l =
+  pub emit-room : {code : List ℕ} → length (codeAt s k) ≤ length code → Room code 12 (functionInlined s k ins inputs)
+  emit-room {code} l =
       subst (λ (o : Inlined). Room code 12 o) (sym inlined-is)
       (record { room = let a = size in omega arith; words = let a = words-are in let b = ms .words in omega arith })
 
@@ -164,24 +164,23 @@ module _ (s : List ℕ) (k : ℕ) (acc : Accepted s (suc k)) (count inputs outpu
       ∙ ap (λ (w : ℕ). map (addressAt (places 0 (f .inputs)) w) (summaryAt s k .outputs)) (ms .arguments)
       ∙ sym (function-ports (inlined (before s k)) (summary (before s k)) (inlined-follows (before s k)) f (places 0 (f .inputs)) (widths (f .inputs))))
 
-  pub out-words : widths (typesBy 4 (outputCount s (placeOf s k)) s (outputsPlace s (placeOf s k))) ≡ outputs
+  out-words : widths (typesBy 4 (outputCount s (placeOf s k)) s (outputsPlace s (placeOf s k))) ≡ outputs
   unfolding functionAt
   out-words = ap widths (outputs-are (outputCount s (placeOf s k)) s (outputsPlace s (placeOf s k))) ∙ sym (ms .results)
 
-  module _ (code code₁ code₂ code₃ : List ℕ) (r : Reached) (all : ℕ) (ea : all ≡ inputs + wordsAt s k)
+  -- the n outputs have their entries at q; the header and the instructions are written
+  module _ (code : List ℕ) {n q all : ℕ} {code₁ code₂ : List ℕ} {r : Reached} (en : n ≡ outputCount s (placeOf s k)) (eq : q ≡ outputsPlace s (placeOf s k)) (ea : all ≡ inputs + wordsAt s k)
       (e₁ : code₁ ≡ sets code 0 (headerCode inputs outputs count all)) (e₂ : Emits code₁ code₂ 12 (functionInlined s k ins inputs) r) where
-    pub out-room : length (codeAt s k) ≤ length code → r .at + 2 * widths (typesBy 4 (outputCount s (placeOf s k)) s (outputsPlace s (placeOf s k))) ≤ length code₂
+    pub out-room : length (codeAt s k) ≤ length code → r .at + 2 * widths (typesBy 4 n s q) ≤ length code₂
     out-room l =
         let a = size in
         let b : r .at ≡ 12 + length (instructionsCode (list .code)) = e₂ .end ∙ ap (λ (o : Inlined). 12 + length (instructionsCode (o .code))) inlined-is in
         let c : length code₂ ≡ length code =
         ap length (e₂ .written) ∙ length-sets code₁ 12 (instructionsCode (functionInlined s k ins inputs .code)) ∙ ap length e₁ ∙ length-sets code 0 (headerCode inputs outputs count all) in
         let w = out-words in
-        omega arith
+        rw (en, eq) (omega arith)
 
-    pub assembled : code₃ ≡ sets code₂ (r .at)
-        (allBytes 2 (spans (typesBy 4 (outputCount s (placeOf s k)) s (outputsPlace s (placeOf s k))) (addressesIn outs ins inputs (8 * k) (outputCount s (placeOf s k)))))
-        → code₃ ≡ sets code 0 (codeAt s k)
+    pub assembled : {code₃ : List ℕ} → code₃ ≡ sets code₂ (r .at) (allBytes 2 (spans (typesBy 4 n s q) (addressesIn outs ins inputs (8 * k) n))) → code₃ ≡ sets code 0 (codeAt s k)
     unfolding encode
     assembled e₃ =
         let b = boardListOf (before s k) f in
@@ -197,6 +196,7 @@ module _ (s : List ℕ) (k : ℕ) (acc : Accepted s (suc k)) (count inputs outpu
         let ed : code₂ ≡ sets code₁ 12 i = e₂ .written ∙ ap (λ (x : Inlined). sets code₁ 12 (instructionsCode (x .code))) inlined-is in
         let et : r .at ≡ 12 + length i = e₂ .end ∙ ap (λ (x : Inlined). 12 + length (instructionsCode (x .code))) inlined-is in
         e₃
+        ∙ (rw (en, eq))
         ∙ ap (λ (ws : List ℕ). sets code₂ (r .at) (allBytes 2 ws)) spans-are
         ∙ ap (λ (m : ℕ). sets code₂ m o) et
         ∙ ap (λ (l : List ℕ). sets l (12 + length i) o) ed

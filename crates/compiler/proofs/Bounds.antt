@@ -3,7 +3,7 @@ use Prim.Native.Nat.{ℕ, zero, suc, _+_, _≤_, _<_}
 use mathlib.Core.Path.{_≡_, refl, ap, sym, subst}
 use mathlib.Core.Bool.{Bool, true, false, _||_, cond}
 use mathlib.Core.List.{List, [], _∷_, map}
-use mathlib.Core.Option.{none, some}
+use mathlib.Core.Option.{some}
 use mathlib.Core.Logic.{inl, inr, ⊎-elim}
 use native.Mathlib.Omega.{arith}
 use lib.Dec.{eqb}
@@ -61,13 +61,6 @@ all-within ins words [] [] h = tt
 all-within ins words [] (s ∷ ss) h = absurd h
 all-within ins words (t ∷ ts) [] h = absurd h
 all-within ins words (t ∷ ts) (s ∷ ss) (a, h) = (lies-within ins words t s a, all-within ins words ts ss h)
-
--- as many as the types
-pub lie-length : (ins : List ℕ) (words : ℕ) (ts : List ℕ) (ss : List Location) → AllLie ins words ts ss → length ss ≡ length ts
-lie-length ins words [] [] h = refl
-lie-length ins words [] (s ∷ ss) h = absurd h
-lie-length ins words (t ∷ ts) [] h = absurd h
-lie-length ins words (t ∷ ts) (s ∷ ss) (a, h) = ap suc (lie-length ins words ts ss h)
 
 -- more words
 pub lies-more : (ins : List ℕ) (a b t : ℕ) (s : Location) → a ≤ b → Lies ins a t s → Lies ins b t s
@@ -182,11 +175,6 @@ module _ (early : List Function) (f : Function) where
         → AllLie (f .inputs) (d + nodeSummary call ws d n (n .payload) .words) (givesOf early n (n .payload)) (nodeSummary call ws d n (n .payload) .outputs)
     node-lies ws d known n i e = payload-lies ws d known n (n .payload) (sound .resolved .shaped n i) (sound .resolved .wired n i) e
 
-    -- a node at its turn: the locations of what it reads
-    pub turn-lies : (ws : List Located) (d : ℕ) → Known d ws → (n : Node) → Is n (f .nodes) → ready (locatedIds ws) (reads n) ≡ true
-        → AllLie (f .inputs) d (wantsOf early n (n .payload)) (map (locationOf ws) (reads n))
-    turn-lies ws d known n i e = refs-lie d ws known (wantsOf early n (n .payload)) (reads n) e (sound .resolved .wired n i)
-
     -- a node more
     pub known-step : (ws : List Located) (d : ℕ) → Known d ws → (n : Node) → Is n (f .nodes) → ready (locatedIds ws) (reads n) ≡ true
         → Known (d + nodeSummary call ws d n (n .payload) .words) (locating n (nodeSummary call ws d n (n .payload)) ws)
@@ -285,18 +273,7 @@ pub outputs-within : (early : List Function) (f : Function) → AllSound (f ∷ 
     → Each (Within (length (f .inputs)) (functionSummary (summary early) f .words)) (functionSummary (summary early) f .outputs)
 outputs-within early f sound = all-within (f .inputs) _ (outputTypes (f .outputs)) _ (outputs-lie early f sound)
 
--- the same of the function of an id
-pub summary-within : (early : List Function) → AllSound early → (c : ℕ) (g : Function) → findFunction c early ≡ some g
-    → Each (Within (length (g .inputs)) (summary early c .words)) (summary early c .outputs)
-summary-within early sound c g e = all-within (g .inputs) _ (outputTypes (g .outputs)) _ (seated early sound c g e)
-
 -- the same of what a node reads
 pub reads-within : (early : List Function) (f : Function) → AllSound (f ∷ early) → (n : Node) → Is n (f .nodes)
     → Each (Within (length (f .inputs)) (functionSummary (summary early) f .words)) (map (locationOf (allocate (summary early) (schedule (f .nodes)) [] 0 .located)) (reads n))
 reads-within early f sound n i = all-within (f .inputs) _ (wantsOf early n (n .payload)) _ (reads-lie early f sound n i)
-
--- the same of every list on the way
-pub known-within : (early : List Function) (f : Function) (words : ℕ) (ws : List Located) → Known early f words ws → Each (λ w. Each (Within (length (f .inputs)) words) (w .locations)) ws
-known-within early f words [] h = tt
-known-within early f words (w ∷ ws) (x, h) =
-    (all-within (f .inputs) words (givesAt early (findNode (w .id) (f .nodes))) (w .locations) x, known-within early f words ws h)

@@ -96,14 +96,17 @@ module _ (s order locations : List ℕ) (k : ℕ) (ins code₀ : List ℕ) (at n
   abbrev pub State : (code : List ℕ) (cell here word i n : ℕ) → Type 0
   State code cell here word i n = (rest : List Node) × At rest code cell here word i n × (n ≤ nodeLimit)
 
-  -- the function's words are within the limit
-  pub whole-words : whole .next ≡ next₀ + summaryAt s k .words
+  whole-words : whole .next ≡ next₀ + summaryAt s k .words
   unfolding functionInlined
   whole-words = function-next go call (inlined-follows (before s k)) (functionIn s k) ins next₀
 
-  pub start : (begins : List ℕ) → next₀ ≤ wordLimit → Allocated s begins order locations k → (cell n : ℕ) → cell ≡ getD begins k 0 → n ≡ nodeCount s (placeOf s k) → State code₀ cell at next₀ 0 n
+  -- the words before the function, and its own, are within the limit
+  pub words-fit : Room code₀ at whole → (next₀ ≤ wordLimit) × (summaryAt s k .words ≤ wordLimit)
+  words-fit h = let w = whole-words in let l = h .words in (omega arith, omega arith)
+
+  pub start : {begins : List ℕ} {cell n : ℕ} → Room code₀ at whole → Allocated s begins order locations k → cell ≡ getD begins k 0 → n ≡ nodeCount s (placeOf s k) → State code₀ cell at next₀ 0 n
   unfolding functionInlined
-  start begins near l cell n es en =
+  start room l es en =
       let rest = schedule (functionIn s k .nodes) in
       let e : whole .code ≡ emitNodes go table ins next₀ rest next₀ =
       function-table go call (inlined-follows (before s k)) (functionIn s k) table (l .agrees) ins next₀ in
@@ -111,7 +114,7 @@ module _ (s order locations : List ℕ) (k : ℕ) (ins code₀ : List ℕ) (at n
       let v = whole-words in (
         rest,
         record {
-          near = near;
+          near = words-fit room .0;
           count = let z = l .size in omega arith;
           placed = rw (add-zero, es) (l .nodes);
           same = refl;
@@ -191,25 +194,27 @@ module _ (s order locations : List ℕ) (k : ℕ) (ins code₀ : List ℕ) (at n
           words = let z = st .words in omega arith;
         }
 
-  -- ---- the invariant, at the loop's head
+-- ---- the invariant, at the loop's head
 
-  pub node-ready : (code : List ℕ) (cell here word i n p : ℕ) → State code cell here word i n → i < n → p ≡ getD order (nodeLimit * k + i) 0 → Room code₀ at whole
+module _ {s order locations : List ℕ} {k : ℕ} {ins code₀ : List ℕ} {at next₀ : ℕ} {code : List ℕ} {cell here word i n : ℕ} where
+  pub node-ready : {p : ℕ} → State s order locations k ins code₀ at next₀ code cell here word i n → i < n → p ≡ getD order (nodeLimit * k + i) 0 → Room code₀ at (functionInlined s k ins next₀)
       → Room code here (nodeInlined s locations k p cell ins next₀ word) × NodeFit s p × (cell + length (reads (nodeAt s p)) ≤ referenceLimit)
-  node-ready code cell here word i n p ([], st, le) lt ep h = let c = st .count in absurd (omega arith)
-  node-ready code cell here word i n p (x ∷ xs, st, le) lt ep h = ready-one x xs code cell here word i n p st ep h
+  node-ready ([], st, le) lt ep h = let c = st .count in absurd (omega arith)
+  node-ready {p} (x ∷ xs, st, le) lt ep h = ready-one s order locations k ins code₀ at next₀ x xs code cell here word i n p st ep h
 
-  pub advance : (code : List ℕ) (cell here word i n p : ℕ) → State code cell here word i n → i < n → p ≡ getD order (nodeLimit * k + i) 0 → (code' : List ℕ) (r : Reached)
-      → Emits code code' here (nodeInlined s locations k p cell ins next₀ word) r → r .cell ≡ cell + length (reads (nodeAt s p)) → State code' (r .cell) (r .at) (r .next) (i + 1) n
-  advance code cell here word i n p ([], st, le) lt ep code' r e es = let c = st .count in absurd (omega arith)
-  advance code cell here word i n p (x ∷ xs, st, le) lt ep code' r e es = (xs, stepped x xs code cell here word i n p st ep code' r e es, le)
+  pub advance : {p : ℕ} → State s order locations k ins code₀ at next₀ code cell here word i n → i < n → p ≡ getD order (nodeLimit * k + i) 0 → {code' : List ℕ} {r : Reached}
+      → Emits code code' here (nodeInlined s locations k p cell ins next₀ word) r → r .cell ≡ cell + length (reads (nodeAt s p))
+      → State s order locations k ins code₀ at next₀ code' (r .cell) (r .at) (r .next) (i + 1) n
+  advance ([], st, le) lt ep e es = let c = st .count in absurd (omega arith)
+  advance {p} (x ∷ xs, st, le) lt ep {code'} {r} e es = (xs, stepped s order locations k ins code₀ at next₀ x xs code cell here word i n p st ep code' r e es, le)
 
-  pub same-size : (code : List ℕ) (cell here word i n : ℕ) → State code cell here word i n → length code ≡ length code₀
-  same-size code cell here word i n (rest, st, le) = st .same
+  pub same-size : State s order locations k ins code₀ at next₀ code cell here word i n → length code ≡ length code₀
+  same-size (rest, st, le) = st .same
 
-  pub few-nodes : (code : List ℕ) (cell here word i n : ℕ) → State code cell here word i n → n ≤ nodeLimit
-  few-nodes code cell here word i n (rest, st, le) = le
+  pub few-nodes : State s order locations k ins code₀ at next₀ code cell here word i n → n ≤ nodeLimit
+  few-nodes (rest, st, le) = le
 
   -- all nodes are written
-  pub finished : (code : List ℕ) (cell here word i n : ℕ) → State code cell here word i n → n ≤ i → Emits code₀ code at whole (record { at = here; next = word; cell = cell })
-  finished code cell here word i n ([], st, le) ge = record { written = sym (st .text); end = let e = st .end in omega arith; words = let w = st .words in omega arith }
-  finished code cell here word i n (x ∷ xs, st, le) ge = let c = st .count in absurd (omega arith)
+  pub finished : State s order locations k ins code₀ at next₀ code cell here word i n → n ≤ i → Emits code₀ code at (functionInlined s k ins next₀) (record { at = here; next = word; cell = cell })
+  finished ([], st, le) ge = record { written = sym (st .text); end = let e = st .end in omega arith; words = let w = st .words in omega arith }
+  finished (x ∷ xs, st, le) ge = let c = st .count in absurd (omega arith)

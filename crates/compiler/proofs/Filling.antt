@@ -2,77 +2,102 @@
 use Prim.Native.Nat.{ℕ, zero, suc, _+_, _-_, _≤_, _<_}
 use mathlib.Core.Path.{_≡_, refl, sym, ap, _∙_, subst}
 use mathlib.Core.Bool.{Bool, true, false, cond}
-use mathlib.Core.List.{List, [], _∷_}
+use mathlib.Core.List.{List, [], _∷_, _++_}
 use mathlib.Core.Option.{some}
 use native.Mathlib.Omega.{arith}
-use native.Mathlib.Nat.{add-zero}
 use lib.Dec.{eqb}
-use lib.ListN.{length, getD, set, getElem?, length-set}
-use lib.Seq.{sets}
+use lib.ListN.{length, getD, set, length-set, replicate, length-replicate}
+use lib.Seq.{sets, length-sets}
 use Rattle.base.specs.Limits.{nodeLimit, slotLimit}
 use Rattle.base.proofs.Numbers.{one-less}
+use Rattle.base.proofs.Stores.{sets-append}
 use Rattle.base.specs.Bytes.{byte}
+use Rattle.base.specs.Lists.{span}
 use Rattle.graph.specs.Graph.{Node}
 use Rattle.graph.specs.Read.{reference}
-use Rattle.reader.specs.Layout.{nodeAt, nodeEnd, nodesAt, nodePlace}
+use Rattle.reader.specs.Layout.{nodeEnd, nodesAt, nodePlace}
 use Rattle.reader.specs.Find.{nodeFound}
 use Rattle.reader.specs.declared.Found.{Found}
 use Rattle.reader.specs.declared.Found.the-variants.{At, Nothing}
 use Rattle.order.specs.Indices.{slot}
 use Rattle.order.specs.Resolve.{indexOf, target}
 use Rattle.sums.specs.Position.{NodeFit, NodesFit}
+use Rattle.sums.specs.Answers.{typesBy}
+use Rattle.compiler.specs.Emit.{copied, addressOf, addressesIn}
 use Rattle.compiler.specs.Locating.{Places, Slots, portCode, readCodes, rebasedCode, rebasedCodes, resultCodes, outputCodes}
 use Rattle.resolver.specs.Slots.{rowsOf, placesOf}
 use Rattle.resolver.proofs.Rows.{length-nodes, place-at, row-slot, rows-size}
 
--- ---- a run of stores, of which j are done
+-- ---- a run of stores
 
-pub record Run (whole out₀ : List ℕ) (to : ℕ) (out : List ℕ) (j : ℕ) (tail : List ℕ) : Type 0 where
+-- `whole` goes to the place `to`; it is stored up to the place `here`, and `tail` is left
+pub record Run (whole out₀ : List ℕ) (to : ℕ) (out : List ℕ) (here : ℕ) (tail : List ℕ) : Type 0 where
   pub same : length out ≡ length out₀
-  pub rest : sets out₀ to whole ≡ sets out (to + j) tail
+  pub rest : sets out₀ to whole ≡ sets out here tail
 
-pub run-start : (whole out₀ : List ℕ) (to : ℕ) → Run whole out₀ to out₀ 0 whole
-run-start whole out₀ to = record { same = refl; rest = rw add-zero }
+module _ {whole out₀ : List ℕ} {to : ℕ} where
+  pub run-start : {here : ℕ} {tail : List ℕ} → here ≡ to → tail ≡ whole → Run whole out₀ to out₀ here tail
+  run-start {here} {tail} eh et = record { same = refl; rest = sym (ap (λ (q : ℕ). sets out₀ q tail) eh ∙ ap (sets out₀ to) et) }
 
-pub run-step : (whole out₀ : List ℕ) (to : ℕ) (out : List ℕ) (j a : ℕ) (tail tail' : List ℕ) → Run whole out₀ to out j tail → tail ≡ a ∷ tail' → Run whole out₀ to (set out (to + j) a) (j + 1) tail'
-run-step whole out₀ to out j a tail tail' h e =
-    let x : to + (j + 1) ≡ suc (to + j) = omega arith in
-    record { same = length-set out (to + j) a ∙ h .same; rest = h .rest ∙ rw (x, e) }
+  module _ {out : List ℕ} {here : ℕ} {tail : List ℕ} (h : Run whole out₀ to out here tail) where
+    pub run-more : (xs : List ℕ) {out' tail' : List ℕ} {here' : ℕ} → tail ≡ xs ++ tail' → out' ≡ sets out here xs → here' ≡ here + length xs → Run whole out₀ to out' here' tail'
+    run-more xs {out'} {tail'} e eo eh =
+        record {
+          same = ap length eo ∙ length-sets out here xs ∙ h .same;
+          rest = h .rest ∙ ap (sets out here) e ∙ sets-append xs tail' out here ∙ (rw (eo, eh));
+        }
 
-pub run-done : (whole out₀ : List ℕ) (to : ℕ) (out : List ℕ) (j : ℕ) (tail : List ℕ) → Run whole out₀ to out j tail → tail ≡ [] → out ≡ sets out₀ to whole
-run-done whole out₀ to out j tail h e = sym (h .rest ∙ rw e)
+    pub run-step : {a here' : ℕ} {tail' : List ℕ} → tail ≡ a ∷ tail' → here' ≡ here + 1 → Run whole out₀ to (set out here a) here' tail'
+    run-step {a} {here'} e eh = let x : here' ≡ suc here = omega arith in record { same = length-set out here a ∙ h .same; rest = h .rest ∙ (rw (x, e)) }
 
--- ---- what is stored next
+    pub run-done : tail ≡ [] → out ≡ sets out₀ to whole
+    run-done e = sym (h .rest ∙ ap (sets out here) e)
 
-pub reads-next : (s ts allocated : List ℕ) (b n j q : ℕ) → j < n
-    → readCodes s ts allocated (b + j) (n - j) q ≡ portCode allocated (getD ts (b + j) 0) (byte s (q + 2)) ∷ readCodes s ts allocated (b + (j + 1)) (n - (j + 1)) (q + 3)
-unfolding readCodes
-reads-next s ts allocated b n j q h =
+-- a list of as many elements as are left, when none is
+pub none-left : (f : ℕ → List ℕ) {n j : ℕ} → n ≤ j → f 0 ≡ [] → f (n - j) ≡ []
+none-left f {n} {j} h e = let z : n - j ≡ 0 = omega arith in ap f z ∙ e
+
+-- ---- what is stored next, where j of n elements are stored
+
+pub copied-next : (s : List ℕ) (from : ℕ) {n j a : ℕ} → j < n → a ≡ byte s (from + j) → copied (n - j) s (from + j) ≡ a ∷ copied (n - (j + 1)) s (from + (j + 1))
+unfolding copied
+copied-next s from {n} {j} h e = let z : from + (j + 1) ≡ from + j + 1 = omega arith in rw (z, e) (ap (λ (m : ℕ). copied m s (from + j)) (one-less n j h))
+
+pub addresses-next : (locations ins : List ℕ) (first b : ℕ) {n j a : ℕ} → j < n → a ≡ addressOf ins first (getD locations (b + j) 0)
+    → addressesIn locations ins first (b + j) (n - j) ≡ a ∷ addressesIn locations ins first (b + (j + 1)) (n - (j + 1))
+unfolding addressesIn
+addresses-next locations ins first b {n} {j} h e =
     let z : b + (j + 1) ≡ b + j + 1 = omega arith in
-    rw z (ap (λ (m : ℕ). readCodes s ts allocated (b + j) m q) (one-less n j h))
+    rw (z, e) (ap (λ (m : ℕ). addressesIn locations ins first (b + j) m) (one-less n j h))
 
-pub reads-none : (s ts allocated : List ℕ) (b n j q : ℕ) → n ≤ j → readCodes s ts allocated (b + j) (n - j) q ≡ []
+pub span-next : (a : ℕ) {n j : ℕ} → j < n → span (a + j) (n - j) ≡ (a + j) ∷ span (a + (j + 1)) (n - (j + 1))
+span-next a {n} {j} h = let z : a + (j + 1) ≡ suc (a + j) = omega arith in rw z (ap (span (a + j)) (one-less n j h))
+
+pub types-next : (step : ℕ) (s : List ℕ) (q : ℕ) {n j : ℕ} → j < n → typesBy step (n - j) s q ≡ byte s q ∷ typesBy step (n - (j + 1)) s (q + step)
+types-next step s q {n} {j} h = ap (λ (m : ℕ). typesBy step m s q) (one-less n j h)
+
+pub reads-next : (s ts allocated : List ℕ) (b q : ℕ) {n j a : ℕ} → j < n → a ≡ portCode allocated (getD ts (b + j) 0) (byte s (q + 2))
+    → readCodes s ts allocated (b + j) (n - j) q ≡ a ∷ readCodes s ts allocated (b + (j + 1)) (n - (j + 1)) (q + 3)
 unfolding readCodes
-reads-none s ts allocated b n j q h = let z : n - j ≡ 0 = omega arith in ap (λ (m : ℕ). readCodes s ts allocated (b + j) m q) z
-
-pub rebase-next : (outs locations : List ℕ) (cell n d b m j : ℕ) → j < m
-    → rebasedCodes outs locations cell n d (b + j) (m - j) ≡ rebasedCode locations cell n d (getD outs (b + j) 0) ∷ rebasedCodes outs locations cell n d (b + (j + 1)) (m - (j + 1))
-unfolding rebasedCodes
-rebase-next outs locations cell n d b m j h =
+reads-next s ts allocated b q {n} {j} h e =
     let z : b + (j + 1) ≡ b + j + 1 = omega arith in
-    rw z (ap (λ (x : ℕ). rebasedCodes outs locations cell n d (b + j) x) (one-less m j h))
+    rw (z, e) (ap (λ (m : ℕ). readCodes s ts allocated (b + j) m q) (one-less n j h))
 
-pub rebase-none : (outs locations : List ℕ) (cell n d b m j : ℕ) → m ≤ j → rebasedCodes outs locations cell n d (b + j) (m - j) ≡ []
+pub rebase-next : (outs locations : List ℕ) (cell n d b : ℕ) {m j a : ℕ} → j < m → a ≡ rebasedCode locations cell n d (getD outs (b + j) 0)
+    → rebasedCodes outs locations cell n d (b + j) (m - j) ≡ a ∷ rebasedCodes outs locations cell n d (b + (j + 1)) (m - (j + 1))
 unfolding rebasedCodes
-rebase-none outs locations cell n d b m j h = let z : m - j ≡ 0 = omega arith in ap (λ (x : ℕ). rebasedCodes outs locations cell n d (b + j) x) z
+rebase-next outs locations cell n d b {m} {j} h e =
+    let z : b + (j + 1) ≡ b + j + 1 = omega arith in
+    rw (z, e) (ap (λ (x : ℕ). rebasedCodes outs locations cell n d (b + j) x) (one-less m j h))
 
-pub results-next : (e w m j : ℕ) → j < m → resultCodes e w (m - j) ≡ e ∷ resultCodes (e + w) w (m - (j + 1))
+pub results-next : (e w : ℕ) {m j : ℕ} → j < m → resultCodes e w (m - j) ≡ e ∷ resultCodes (e + w) w (m - (j + 1))
 unfolding resultCodes
-results-next e w m j h = ap (resultCodes e w) (one-less m j h)
+results-next e w {m} {j} h = ap (resultCodes e w) (one-less m j h)
 
-pub results-none : (e w m j : ℕ) → m ≤ j → resultCodes e w (m - j) ≡ []
-unfolding resultCodes
-results-none e w m j h = let z : m - j ≡ 0 = omega arith in ap (resultCodes e w) z
+pub outputs-next : (s allocated : List ℕ) (xs : List Node) (q : ℕ) {m j a : ℕ} → j < m → a ≡ portCode allocated (target xs (some (reference s (q + 1)))) (byte s (q + 1 + 2))
+    → outputCodes s allocated xs (m - j) q ≡ a ∷ outputCodes s allocated xs (m - (j + 1)) (q + 4)
+unfolding outputCodes
+outputs-next s allocated xs q {m} {j} h e = rw e (ap (λ (x : ℕ). outputCodes s allocated xs x q) (one-less m j h))
 
 -- ---- nodes by their index
 
@@ -109,24 +134,17 @@ none-index id ns e = subst (Indexed 0 (indexOf id ns) (length ns)) (sym e) (inde
 
 -- ---- what the resolver gives
 
-module _ (s : List ℕ) (at n : ℕ) (few : n ≤ nodeLimit) where
-  pub places-are : (ps₀ ps : List ℕ) → length ps₀ ≡ nodeLimit → ps ≡ sets ps₀ 0 (placesOf (nodesAt n s at)) → Places s at ps n
-  places-are ps₀ ps l e i il = ap (λ (xs : List ℕ). getD xs i 0) e ∙ place-at s at n ps₀ i il (omega arith)
+module _ (s : List ℕ) {at at' n : ℕ} (few : n ≤ nodeLimit) (e : at ≡ at') where
+  pub places-are : {ps : List ℕ} → ps ≡ sets (replicate nodeLimit 0) 0 (placesOf (nodesAt n s at)) → Places s at' ps n
+  places-are {ps} h = subst (λ (q : ℕ). Places s q ps n) e (λ i il. ap (λ (xs : List ℕ). getD xs i 0) h ∙ place-at s at n _ i il (rw length-replicate (omega arith)))
 
-  pub slots-are : (ts₀ ts : List ℕ) → length ts₀ ≡ slotLimit → ts ≡ sets ts₀ 0 (rowsOf (nodesAt n s at) (nodesAt n s at)) → Slots s at n ts
-  slots-are ts₀ ts l e =
-      record {
-        size = ap length e ∙ rows-size (nodesAt n s at) ts₀ ∙ l;
-        slots = λ i j x g jl. ap (λ (xs : List ℕ). slot xs i j) e ∙ row-slot (nodesAt n s at) ts₀ i j x g jl (let z = length-nodes n s at in omega arith) l;
-      }
-
--- ---- the outputs
-
-pub outputs-next : (s allocated : List ℕ) (xs : List Node) (m j q : ℕ) → j < m
-    → outputCodes s allocated xs (m - j) q ≡ portCode allocated (target xs (some (reference s (q + 1)))) (byte s (q + 1 + 2)) ∷ outputCodes s allocated xs (m - (j + 1)) (q + 4)
-unfolding outputCodes
-outputs-next s allocated xs m j q h = ap (λ (x : ℕ). outputCodes s allocated xs x q) (one-less m j h)
-
-pub outputs-none : (s allocated : List ℕ) (xs : List Node) (m j q : ℕ) → m ≤ j → outputCodes s allocated xs (m - j) q ≡ []
-unfolding outputCodes
-outputs-none s allocated xs m j q h = let z : m - j ≡ 0 = omega arith in ap (λ (x : ℕ). outputCodes s allocated xs x q) z
+  pub slots-are : {ts : List ℕ} → ts ≡ sets (replicate slotLimit 0) 0 (rowsOf (nodesAt n s at) (nodesAt n s at)) → Slots s at' n ts
+  slots-are {ts} h =
+      let ns = nodesAt n s at in
+      let z = length-nodes n s at in
+      let l = length-replicate {A = ℕ} slotLimit 0 in
+      subst (λ (q : ℕ). Slots s q n ts) e
+      (record {
+        size = ap length h ∙ rows-size ns (replicate slotLimit 0) ∙ l;
+        slots = λ i j x g jl. ap (λ (xs : List ℕ). slot xs i j) h ∙ row-slot ns (replicate slotLimit 0) i j x g jl (omega arith) l;
+      })

@@ -1,9 +1,9 @@
 -- Inlining goes by addresses alone, and a call opens the function at its callee's position.
-use Prim.Native.Nat.{ℕ, zero, suc, _+_, _≤_, _<_}
+use Prim.Native.Nat.{ℕ, suc, _+_, _≤_, _<_}
 use mathlib.Core.Path.{_≡_, refl, sym, ap, _∙_, subst}
 use mathlib.Core.Bool.{Bool, true, false, cond}
 use mathlib.Core.List.{List, [], _∷_, map}
-use mathlib.Core.Logic.{_⊎_, inl, inr, ⊎-elim}
+use mathlib.Core.Logic.{⊎-elim}
 use native.Mathlib.Omega.{arith}
 use lib.Dec.{eqb}
 use lib.ListN.{length, getD, replicate, length-replicate, getD-replicate, List·getD-eq-default}
@@ -24,16 +24,13 @@ use Rattle.compiler.specs.Emit.{addressesIn, inlineWith, nodeInlined, fu
 use Rattle.base.proofs.Stores.{sets-in, sets-above}
 use Rattle.sums.proofs.Nodes.{call-payload}
 use Rattle.sums.proofs.Positions.{at-position, no-position}
+use Rattle.compiler.proofs.Locations.{map-same}
 use Rattle.compiler.proofs.Single.{addresses-length}
 
 -- ---- addresses that are the same at every port
 
 abbrev pub Same : List ℕ → List ℕ → Type 0
 Same xs ys = (p : ℕ) → getD xs p 0 ≡ getD ys p 0
-
-pub map-same : (f g : Ref → ℕ) → ((r : Ref) → f r ≡ g r) → (rs : List Ref) → map f rs ≡ map g rs
-map-same f g h [] = refl
-map-same f g h (r ∷ rs) = ap (λ (x : ℕ). x ∷ map f rs) (h r) ∙ ap (λ (xs : List ℕ). g r ∷ xs) (map-same f g h rs)
 
 node-same : (go : Inline) (f g : Ref → ℕ) → ((r : Ref) → f r ≡ g r) → (next : ℕ) (n : Node) (p : Payload) → inlineNode go f next n p ≡ inlineNode go g next n p
 node-same go f g h next n (consts ws) = refl
@@ -123,15 +120,16 @@ module _ (s locations : List ℕ) (k p cell : ℕ) (ins : List ℕ) (first next 
       ∙ ap (inlineWith (inlined (before s k)) given next (nodeAt s p)) (call-payload s p kind row ek er f)
       ∙ ap (λ (d : ℕ). inlined (before s k) d given next) (sym ec)
 
-  module _ (args : List ℕ) (ea : args ≡ sets (replicate 8 0) 0 given) (few : n ≤ 8) (g : ℕ) (eg : g ≡ positionOf s k c) where
-    pub callee-is : k ≤ 16 → g < k → nodeInlined s locations k p cell ins first next ≡ functionInlined s g args next
-    unfolding functionInlined
-    callee-is b lt =
-        let l : length given ≡ n = addresses-length locations ins first cell n in
-        inlined-here
-        ∙ inlined-at s given next k c b (subst (λ (q : ℕ). q < k) eg lt)
-        ∙ ap (λ (q : ℕ). functionInlined s q given next) (sym eg)
-        ∙ function-same given args (subst (λ (ys : List ℕ). Same given ys) (sym ea) (padded 8 given (omega arith))) (inlined (before s g)) (functionIn s g) next
-
-    pub callee-none : k ≤ g → nodeInlined s locations k p cell ins first next ≡ nothing next
-    callee-none le = inlined-here ∙ inlined-none s given next k c (subst (λ (q : ℕ). k ≤ q) eg le)
+  -- the call is the function at its callee's position, on these addresses; where there is none, nothing
+  pub callee-is : {args : List ℕ} {g : ℕ} → args ≡ sets (replicate 8 0) 0 given → n ≤ 8 → g ≡ positionOf s k c
+      → (k ≤ 16 → g < k → nodeInlined s locations k p cell ins first next ≡ functionInlined s g args next)
+      × (k ≤ g → nodeInlined s locations k p cell ins first next ≡ nothing next)
+  unfolding functionInlined
+  callee-is {args} {g} ea few eg =
+      let l : length given ≡ n = addresses-length locations ins first cell n in (
+        λ b lt. inlined-here
+            ∙ inlined-at s given next k c b (subst (λ (q : ℕ). q < k) eg lt)
+            ∙ ap (λ (q : ℕ). functionInlined s q given next) (sym eg)
+            ∙ function-same given args (subst (λ (ys : List ℕ). Same given ys) (sym ea) (padded 8 given (omega arith))) (inlined (before s g)) (functionIn s g) next,
+        λ le. inlined-here ∙ inlined-none s given next k c (subst (λ (q : ℕ). k ≤ q) eg le),
+      )

@@ -2,7 +2,6 @@ pub mod Locations
 pub mod Words
 pub mod Bounds
 pub mod References
-pub mod Loops
 pub mod Single
 pub mod Inlining
 pub mod Emission

@@ -1,9 +1,8 @@
 -- The locations found before a function is inlined are where its values stand once it is inlined.
-use Prim.Native.Nat.{ℕ, _+_, _≤_}
+use Prim.Native.Nat.{ℕ, _+_}
 use mathlib.Core.Path.{_≡_, refl, ap, sym, _∙_, subst}
 use mathlib.Core.Bool.{Bool, true, false, _||_, cond}
 use mathlib.Core.List.{List, [], _∷_, _++_, map, map-map, reverse, reverseAux}
-use mathlib.Core.Option.{some}
 use mathlib.Core.Logic.{_⊎_, inl, inr, ⊎-elim}
 use native.Mathlib.Omega.{arith}
 use lib.Dec.{eqb}
@@ -12,7 +11,7 @@ use borrow.Author.Tests.{eqb-true, eq-eqb}
 use Rattle.ports.specs.Kinds.{kindOf}
 use Rattle.ports.specs.Ports.{width, gives}
 use Rattle.graph.specs.Graph.{Ref, Payload, consts, refs, calls, Node, Function}
-use Rattle.base.specs.Lists.{Each, member, Distinct, Is}
+use Rattle.base.specs.Lists.{Each, member, Distinct}
 use Rattle.graph.specs.Look.{readsOf, reads, outputRefs, ids}
 use Rattle.graph.specs.Schedule.{ready, schedule}
 use Rattle.base.specs.Outcome.{ok, _>>_}
@@ -20,14 +19,11 @@ use Rattle.graph.specs.Format.{version1}
 use Rattle.graph.specs.Read.{parse}
 use Rattle.graph.specs.Judge.{judge, judgeAll, table}
 use Rattle.base.specs.Bytes.{Bytes}
-use Rattle.graph.specs.Table.{Chosen, chosen}
-use Rattle.graph.specs.Sums.{sum}
 use Rattle.graph.specs.Sound.{Sound}
-use Rattle.graph.specs.Formed.{AllFormed}
 use Rattle.base.proofs.Bools.{and-inv, or-inv}
 use Rattle.base.proofs.Outcomes.{took, after, ok-is}
 use Rattle.graph.proofs.Fresh.{judged-distinct}
-use Rattle.graph.proofs.Order.{Ordered, scheduled, schedule-within, schedule-distinct}
+use Rattle.graph.proofs.Order.{Ordered, scheduled, schedule-distinct}
 use Rattle.bytecode.specs.Run.{Instruction, places}
 use Rattle.lowering.specs.Compile.{Written, portsAt, address, Inlined, Inline, single, inlineNode, also, inlineNodes, inlineFunction, inlined}
 use Rattle.compiler.specs.Static.{Location, nowhere, input, offset, addressAt, rebase, Located, locationsOf, locationOf, Summary, Callee, nodeSummary, allocate, functionSummary, summary, emitNodes, Agrees}
@@ -35,7 +31,7 @@ use Rattle.compiler.specs.Static.{Location, nowhere, input, offset, addr
 -- ---- lists
 
 -- two functions that agree give the same list
-map-same : {A B : Type 0} (f g : A → B) → ((x : A) → f x ≡ g x) → (xs : List A) → map f xs ≡ map g xs
+pub map-same : {A B : Type 0} (f g : A → B) → ((x : A) → f x ≡ g x) → (xs : List A) → map f xs ≡ map g xs
 map-same f g h [] = refl
 map-same f g h (x ∷ xs) = let a = h x in let b = map-same f g h xs in cc
 
@@ -129,12 +125,6 @@ module _ (go : Inline) (call : Callee) (follows : Follows go call) (ins : List �
       ∙ ap (λ (xs : List ℕ). map (addressAt xs (base + d)) (call c .outputs)) (addresses-locations ins base written located m rs)
       ∙ locations-rebase ins base d (map (locationOf located) rs) (call c .outputs)
 
-  -- a call opens its callee at its own first word, with its arguments' locations
-  pub call-inlined : (written : List Written) (located : List Located) → Matches ins base written located → (next d : ℕ) → next ≡ base + d → (n : Node) (c : ℕ) (rs : List Ref)
-      → inlineNode go (address ins written) next n (calls c rs) ≡ go c (map (addressAt ins base) (map (locationOf located) rs)) (base + d)
-  call-inlined written located m next d e n c rs =
-      ap (λ (xs : List ℕ). go c xs next) (addresses-locations ins base written located m rs) ∙ ap (λ (q : ℕ). go c (map (addressAt ins base) (map (locationOf located) rs)) q) e
-
   -- the first word behind a node
   pub node-next : (from : Ref → ℕ) (located : List Located) (next d : ℕ) → next ≡ base + d → (n : Node) (p : Payload)
       → inlineNode go from next n p .next ≡ base + (d + nodeSummary call located d n p .words)
@@ -205,10 +195,6 @@ inlined-follows (f ∷ early) = both (inlined-follows early)
         behind c ins next true = function-next (inlined early) (summary early) h f ins next
         behind c ins next false = h .next c ins next
 
--- the ports of the function of an id
-pub inlined-ports : (early : List Function) (c : ℕ) (ins : List ℕ) (next : ℕ) → inlined early c ins next .ports ≡ map (addressAt ins next) (summary early c .outputs)
-inlined-ports early c ins next = inlined-follows early .ports c ins next
-
 -- the first word behind the function of an id
 pub inlined-next : (early : List Function) (c : ℕ) (ins : List ℕ) (next : ℕ) → inlined early c ins next .next ≡ next + summary early c .words
 inlined-next early c ins next = inlined-follows early .next c ins next
@@ -218,10 +204,6 @@ inlined-next early c ins next = inlined-follows early .next c ins next
 -- no two nodes have one id
 abbrev pub Single : List Node → Type 0
 Single ns = Distinct (ids ns)
-
--- the schedule of a function whose ids are single has single ids
-pub schedule-single : (early : List Function) (f : Function) → Sound early f → Single (f .nodes) → Single (schedule (f .nodes))
-schedule-single = schedule-distinct
 
 all-single : (early fs : List Function) (u : Unit {0}) → Each (λ f. Single (f .nodes)) early → judgeAll early fs ≡ ok u
     → Each (λ f. Single (f .nodes)) (reverseAux fs early)
@@ -239,28 +221,7 @@ accepted-single s small fs e =
     let q : reverse gs ≡ fs = ok-is e2 in
     subst (λ (hs : List Function). Each (λ f. Single (f .nodes)) hs) q (all-single [] gs u tt j)
 
--- what holds of every function of a table holds of the one of an id, and of those before it
-pub chosen-each : (P : Function → Type 0) (c : ℕ) (fs : List Function) (x : Chosen) → chosen c fs ≡ some x → Each P fs → Each P (x .function ∷ x .early)
-chosen-each P c [] x e h = let z : _≡_ {A = ℕ} 0 1 = cc in absurd (omega arith)
-chosen-each P c (f ∷ early) x e (p, h) = pickOne (eqb (f .id) c) (λ q. chosen-each P c early x q h) e
-  where
-    pickOne : (b : Bool) → (chosen c early ≡ some x → Each P (x .function ∷ x .early))
-        → cond b (some (record { function = f; early = early })) (chosen c early) ≡ some x → Each P (x .function ∷ x .early)
-    pickOne true ih q =
-        let y : Chosen = record { function = f; early = early } in
-        let r : y ≡ x = cc in
-        subst (λ (z : Chosen). Each P (z .function ∷ z .early)) r (p, h)
-    pickOne false ih q = ih q
-
 -- ---- later is the same
-
--- nodes in two parts: the second is allocate behind the first
-pub allocate-append : (call : Callee) (ms ns : List Node) (located : List Located) (d : ℕ)
-    → allocate call (ms ++ ns) located d ≡ allocate call ns (allocate call ms located d .located) (allocate call ms located d .words)
-allocate-append call [] ns located d = refl
-allocate-append call (m ∷ ms) ns located d =
-    let c = nodeSummary call located d m (m .payload) in
-    allocate-append call ms ns (locating m c located) (d + c .words)
 
 -- nodes with other ids leave the locations of an id
 pub locations-later : (call : Callee) (i : ℕ) (ns : List Node) (located : List Located) (d : ℕ) → member i (ids ns) ≡ false
@@ -319,22 +280,10 @@ last-agrees call done (n ∷ ns) located d (s, single) apart (fit, ordered) =
 pub function-agrees : (call : Callee) (early : List Function) (f : Function) → Sound early f → Single (f .nodes)
     → Agrees call (locationOf (allocate call (schedule (f .nodes)) [] 0 .located)) (schedule (f .nodes)) [] 0
 function-agrees call early f sound single =
-    last-agrees call [] (schedule (f .nodes)) [] 0 (schedule-single early f sound single) nothing (scheduled early f sound .ordered)
+    last-agrees call [] (schedule (f .nodes)) [] 0 (schedule-distinct early f sound single) nothing (scheduled early f sound .ordered)
   where
     nothing : Apart [] (schedule (f .nodes))
     nothing i e = let z : _≡_ {A = ℕ} 0 1 = cc in absurd (omega arith)
-
--- a table that has the same locations for what the nodes read
-pub agrees-by : (call : Callee) (table other : Ref → Location) (ns : List Node) (located : List Located) (d : ℕ)
-    → ((n : Node) → Is n ns → Each (λ r. other r ≡ table r) (reads n)) → Agrees call table ns located d → Agrees call other ns located d
-agrees-by call table other [] located d h a = tt
-agrees-by call table other (n ∷ ns) located d h (a, b) =
-    let c = nodeSummary call located d n (n .payload) in
-    (both (reads n) (h n (inl refl)) a, agrees-by call table other ns (locating n c located) (d + c .words) (λ m i. h m (inr i)) b)
-  where
-    both : (rs : List Ref) → Each (λ r. other r ≡ table r) rs → Each (λ r. table r ≡ locationOf located r) rs → Each (λ r. other r ≡ locationOf located r) rs
-    both [] p q = tt
-    both (r ∷ rs) (p, ps) (q, qs) = (p ∙ q, both rs ps qs)
 
 -- ---- the code by a table of locations
 
@@ -376,13 +325,3 @@ pub function-table : (go : Inline) (call : Callee) → Follows go call → (f : 
     → inlineFunction go f ins next .code ≡ emitNodes go table ins next (schedule (f .nodes)) next
 function-table go call follows f table agrees ins next =
     nodes-table go call follows ins next table (schedule (f .nodes)) [] [] (matches-start ins next) next 0 (omega arith) agrees
-
--- the code of a function over those before it, by a table that has the last list's locations for what its nodes read
-pub function-emitted : (early : List Function) (f : Function) → Sound early f → Single (f .nodes) → (table : Ref → Location)
-    → ((n : Node) → Is n (f .nodes) → Each (λ r. table r ≡ locationOf (allocate (summary early) (schedule (f .nodes)) [] 0 .located) r) (reads n)) → (ins : List ℕ) (next : ℕ)
-    → inlineFunction (inlined early) f ins next .code ≡ emitNodes (inlined early) table ins next (schedule (f .nodes)) next
-function-emitted early f sound single table h ins next =
-    let last = locationOf (allocate (summary early) (schedule (f .nodes)) [] 0 .located) in
-    let agrees =
-    agrees-by (summary early) last table (schedule (f .nodes)) [] 0 (λ n i. h n (schedule-within (f .nodes) n i)) (function-agrees (summary early) early f sound single) in
-    function-table (inlined early) (summary early) (inlined-follows early) f table agrees ins next

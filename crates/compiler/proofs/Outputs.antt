@@ -58,8 +58,10 @@ module _ (s : List ℕ) (k c : ℕ) (acc : Accepted s (suc k)) (order₀ order l
       outputs-coded s allocated (functionIn s k .nodes) (allocate (summary (before s k)) (schedule (functionIn s k .nodes)) [] 0 .located) (omega arith) (h .known) (outputCount s p) (outputsPlace s p)
       (wired-inside (before s k) (functionIn s k) (outputTypes (functionIn s k .outputs)) (outputRefs (functionIn s k .outputs)) (sound .resolved .answers))
 
-  pub function-allocated : NodesAllocated s k c order₀ order locations₀ locations allocated r → outs ≡ sets outs₀ (8 * k) codes → length outs₀ ≡ outputLimit → FunctionAllocated s k c order₀ order locations₀ locations outs₀ outs r
-  function-allocated h e l =
+  pub function-allocated : NodesAllocated s k c order₀ order locations₀ locations allocated r → {q n at : ℕ} → q ≡ p → n ≡ nodeCount s p → at ≡ nodesPlace s p
+      → outs ≡ sets outs₀ (8 * k) (outputCodes s allocated (nodesAt n s at) (outputCount s q) (outputsPlace s q)) → length outs₀ ≡ outputLimit → FunctionAllocated s k c order₀ order locations₀ locations outs₀ outs r
+  function-allocated h eq en ea eo l =
+      let e : outs ≡ sets outs₀ (8 * k) codes = eo ∙ rw (eq, en, ea) in
       let a : length codes ≡ length (summaryAt s k .outputs) = codes-length codes (summaryAt s k .outputs) (codes-are h) in
       let b : length (summaryAt s k .outputs) ≡ outputCount s p = summary-size s k in
       let f = fit-below s (suc k) acc k (omega arith) .outputs in

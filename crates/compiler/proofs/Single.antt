@@ -23,7 +23,7 @@ use Rattle.reader.specs.Layout.{kindAt, payloadAt, nodeAt}
 use Rattle.lowering.specs.Compile.{Inlined, Inline, inlined}
 use Rattle.bytecode.specs.Code.{instructionsCode}
 use Rattle.sums.specs.Position.{before}
-use Rattle.compiler.specs.Emit.{copied, addressesIn, inlineWith, nodeInlined}
+use Rattle.compiler.specs.Emit.{copied, addressesIn, inlineWith, nodeInlined, Emits}
 use Rattle.base.proofs.Stores.{sets-append}
 use Rattle.sums.proofs.Rows.{operandsBy}
 use Rattle.sums.proofs.Nodes.{row-is, row-narrow, form-is}
@@ -89,6 +89,14 @@ module _ (s : List ℕ) (small : (q : ℕ) → byte s q < 256) where
 
 -- ---- the node at p
 
+-- its code and its words, by what was read: kind and type bytes, n operands, v constant words, w words of results
+pub record Taken (s locations : List ℕ) (k p c : ℕ) (ins : List ℕ) (first next kind ty n v w : ℕ) : Type 0 where
+  pub count : length (reads (nodeAt s p)) ≡ n
+  pub few : n ≤ 16
+  pub text : instructionsCode (nodeInlined s locations k p c ins first next .code) ≡ kind ∷ ty ∷ allBytes 2 (addressesIn locations ins first c n) ++ copied (8 * v) s (p + 4)
+  pub size : length (instructionsCode (nodeInlined s locations k p c ins first next .code)) ≡ 2 + 2 * n + 8 * v
+  pub words : nodeInlined s locations k p c ins first next .next ≡ next + w
+
 module _ (s locations : List ℕ) (k p c : ℕ) (ins : List ℕ) (first next : ℕ) (small : (q : ℕ) → byte s q < 256) where
   abbrev go : Inline
   go = inlined (before s k)
@@ -127,16 +135,8 @@ module _ (s locations : List ℕ) (k p c : ℕ) (ins : List ℕ) (first next : �
 
   module _ (kind ty : ℕ) (row : Ports) (ek : kind ≡ byte s (p + 2)) (et : ty ≡ byte s (p + 3)) (er : row ≡ portsOf (kindOf kind)) (plain : calling (formOf word) ≡ false)
       (n v w : ℕ) (en : n ≡ row .operands) (ev : v ≡ constantIn (row .form) (row .words)) (ew : w ≡ PortList.resultWords row ty) where
-    -- the code of the node, as it was read
-    pub record Taken : Type 0 where
-      pub count : length (reads (nodeAt s p)) ≡ n
-      pub few : n ≤ 16
-      pub text : instructionsCode (nodeInlined s locations k p c ins first next .code) ≡ kind ∷ ty ∷ allBytes 2 (addressesIn locations ins first c n) ++ copied (8 * v) s (p + 4)
-      pub size : length (instructionsCode (nodeInlined s locations k p c ins first next .code)) ≡ 2 + 2 * n + 8 * v
-      pub words : nodeInlined s locations k p c ins first next .next ≡ next + w
-
-    pub taken : Taken
-    taken =
+    read : Taken s locations k p c ins first next kind ty n v w
+    read =
         let r : row ≡ portsOf word = row-is s p kind row ek er in
         let f : calling (row .form) ≡ false = ap calling (form-is s p kind row ek er) ∙ plain in
         let count : length (reads (nodeAt s p)) ≡ n = ap length (plain-reads s p kind row ek er f n en .refs) ∙ refs-length n s (p + 4) in
@@ -170,22 +170,31 @@ module _ (s locations : List ℕ) (k p c : ℕ) (ins : List ℕ) (first next : �
           words = ap (λ (o : Inlined). o .next) same ∙ next-by (formOf word) plain xs ∙ ap (λ (x : ℕ). next + x) (sym fw);
         }
 
--- ---- the stores, one after another
+module _ {s locations : List ℕ} {k p c : ℕ} {ins : List ℕ} {first next kind ty n v w : ℕ} where
+  pub taken : {row : Ports} → ((q : ℕ) → byte s q < 256) → kind ≡ byte s (p + 2) → ty ≡ byte s (p + 3) → row ≡ portsOf (kindOf kind) → calling (formOf (kindAt s p)) ≡ false
+      → n ≡ row .operands → v ≡ constantIn (row .form) (row .words) → w ≡ PortList.resultWords row ty → Taken s locations k p c ins first next kind ty n v w
+  taken {row} small ek et er plain en ev ew = read s locations k p c ins first next small kind ty row ek et er plain n v w en ev ew
+
+  -- the stores, one after another
+  pub emitted : Taken s locations k p c ins first next kind ty n v w → {code code₁ code₂ : List ℕ} {at cell : ℕ}
+      → code₁ ≡ sets (set (set code at kind) (at + 1) ty) (at + 2) (allBytes 2 (addressesIn locations ins first c n)) → code₂ ≡ sets code₁ (at + 2 + 2 * n) (copied (8 * v) s (p + 4))
+      → Emits code code₂ at (nodeInlined s locations k p c ins first next) (record { at = at + 2 + 2 * n + 8 * v; next = next + w; cell = cell })
+  emitted h {code} {code₁} {code₂} {at} e₁ e₂ =
+      let xs = allBytes 2 (addressesIn locations ins first c n) in
+      let ys = copied (8 * v) s (p + 4) in
+      let l : length xs ≡ 2 * n = all-length 2 (addressesIn locations ins first c n) ∙ ap (λ (m : ℕ). 2 * m) (addresses-length locations ins first c n) in
+      let a : at + 1 ≡ suc at = omega arith in
+      let b : at + 2 ≡ suc (suc at) = omega arith in
+      record {
+        written =
+            e₂
+            ∙ ap (λ (l : List ℕ). sets l (at + 2 + 2 * n) ys) e₁
+            ∙ ap (λ (m : ℕ). sets (sets (set (set code at kind) (at + 1) ty) (at + 2) xs) (at + 2 + m) ys) (sym l)
+            ∙ sym (sets-append xs ys (set (set code at kind) (at + 1) ty) (at + 2))
+            ∙ rw (a, b) (ap (λ (l : List ℕ). sets code at l) (sym (h .text)));
+        end = let x = h .size in omega arith;
+        words = sym (h .words);
+      }
 
 pub head-length : (code : List ℕ) (at k t : ℕ) → length (set (set code at k) (at + 1) t) ≡ length code
 head-length code at k t = length-set (set code at k) (at + 1) t ∙ length-set code at k
-
-pub head-then : (code : List ℕ) (at k t n : ℕ) (xs ys : List ℕ) → length xs ≡ n
-    → sets (sets (set (set code at k) (at + 1) t) (at + 2) xs) (at + 2 + n) ys ≡ sets code at (k ∷ t ∷ xs ++ ys)
-head-then code at k t n xs ys e =
-    let a : at + 1 ≡ suc at = omega arith in
-    let b : at + 2 ≡ suc (suc at) = omega arith in
-    ap (λ (m : ℕ). sets (sets (set (set code at k) (at + 1) t) (at + 2) xs) (at + 2 + m) ys) (sym e)
-    ∙ sym (sets-append xs ys (set (set code at k) (at + 1) t) (at + 2))
-    ∙ rw (a, b)
-
-pub operands-length : (locations ins : List ℕ) (first c n : ℕ) → length (allBytes 2 (addressesIn locations ins first c n)) ≡ 2 * n
-operands-length locations ins first c n =
-    let a : length (allBytes 2 (addressesIn locations ins first c n)) ≡ 2 * length (addressesIn locations ins first c n) = all-length 2 (addressesIn locations ins first c n) in
-    let b : length (addressesIn locations ins first c n) ≡ n = addresses-length locations ins first c n in
-    omega arith

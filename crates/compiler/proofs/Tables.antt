@@ -3,7 +3,7 @@ use Prim.Native.Nat.{ℕ, zero, suc, _+_, _-_, _*_, _≤_, _<_}
 use mathlib.Core.Path.{_≡_, refl, sym, ap, _∙_, subst}
 use mathlib.Core.Bool.{Bool, true, false}
 use mathlib.Core.List.{List, [], _∷_}
-use mathlib.Core.Logic.{_⊎_, inl, inr, ⊎-elim}
+use mathlib.Core.Logic.{⊎-elim}
 use native.Mathlib.Omega.{arith}
 use lib.ListN.{length, getD, set, length-set}
 use lib.Seq.{getD-set-same, getD-set-other}
@@ -110,7 +110,7 @@ module _ (s : List ℕ) (j : ℕ) (acc : Accepted s (suc j)) where
       let right = scheduled (before s j) (functionIn s j) (sound-below s (suc j) acc j (omega arith) .0) in
       (right .size ∙ length-nodes (nodeCount s (placeOf s j)) s (nodesPlace s (placeOf s j)), right .total sizeOf)
 
-module _ (s : List ℕ) (j : ℕ) (acc : Accepted s (suc j)) (outs order locations begins : List ℕ) (cell : ℕ) (st : AllocatedTo s j outs order locations begins cell) where
+module _ {s : List ℕ} {j : ℕ} (acc : Accepted s (suc j)) {outs order locations begins : List ℕ} {cell : ℕ} (st : AllocatedTo s j outs order locations begins cell) where
   -- there is room for one function more
   pub room-here : (cell + readCount s j ≤ referenceLimit) × (cell < 65536) × (j < 16)
   room-here =
@@ -133,7 +133,7 @@ module _ (s : List ℕ) (j : ℕ) (acc : Accepted s (suc j)) (outs order locatio
         sizes = st .sizes;
       }
 
-  module _ (outs' order' locations' begins' : List ℕ) (r : ℕ) (f : FunctionAllocated s j cell order order' locations locations' outs outs' r) (eb : begins' ≡ set begins j cell) where
+  module _ {outs' order' locations' begins' : List ℕ} {r : ℕ} (f : FunctionAllocated s j cell order order' locations locations' outs outs' r) (eb : begins' ≡ set begins j cell) where
     begin-here : getD begins' j 0 ≡ cell
     begin-here = ap (λ (ys : List ℕ). getD ys j 0) eb ∙ getD-set-same begins j cell 0 (let a = st .sizes .3 in let b = few s (suc j) acc in omega arith)
 
@@ -185,6 +185,6 @@ module _ (s : List ℕ) (j : ℕ) (acc : Accepted s (suc j)) (outs order locatio
         }
 
 -- at the start nothing is allocated
-pub allocated-none : (s outs order locations begins : List ℕ) → (length outs ≡ outputLimit) × (length order ≡ orderLimit) × (length locations ≡ referenceLimit) × (length begins ≡ 16) → AllocatedTo s 0 outs order locations begins 0
-allocated-none s outs order locations begins h =
+pub allocated-none : {s outs order locations begins : List ℕ} → (length outs ≡ outputLimit) × (length order ≡ orderLimit) × (length locations ≡ referenceLimit) × (length begins ≡ 16) → AllocatedTo s 0 outs order locations begins 0
+allocated-none h =
     record { allocated = λ g l w. absurd (omega arith); ports = λ g l w. absurd (omega arith); room = omega arith; ends = λ g l w. absurd (omega arith); sizes = h }

@@ -7,12 +7,12 @@ use lib.ListN.{length, replicate, length-replicate}
 use lib.Seq.{sets}
 use Rattle.compiler.specs.Sizes.{outputLimit, orderLimit}
 use Rattle.base.specs.Limits.{functionLimit, referenceLimit}
-use Rattle.base.specs.Bytes.{byte, allBytes}
+use Rattle.base.specs.Bytes.{byte}
 use Rattle.reader.specs.Layout.{inputCount, outputCount, outputsPlace, functionAt}
-use Rattle.bytecode.specs.Run.{places, spans}
+use Rattle.bytecode.specs.Run.{places}
 use Rattle.sums.specs.Position.{placeOf, functionIn}
 use Rattle.sums.specs.Capped.{wordsAt}
-use Rattle.compiler.specs.Emit.{addressesIn, summaryAt}
+use Rattle.compiler.specs.Emit.{summaryAt}
 use Rattle.compiler.specs.Locating.{PortsCoded}
 use Rattle.sums.specs.Answers.{typesBy}
 use Rattle.sums.proofs.Widths.{inputs-are}
@@ -21,314 +21,204 @@ use Rattle.compiler.proofs.Assembly.{emit-room, outs-low, out-room, ass
 use Rattle.compiler.proofs.compile.Statement.{statement}
 use Rattle.compiler.proofs.compile.Tie as tie
 
--- ---- places: from one back to another
+-- ---- places: from each stage back to the one before it
 
-abbrev wide16-to-start : tie.After-wide16 → tie.Start
-wide16-to-start c = let d = c .before .before .before in d .before
+abbrev entry-of-element : tie.After-wide16-arg → tie.Start
+entry-of-element c = c .before .before .before
 
-abbrev wide2-to-wide16 : tie.After-wide2 → tie.After-wide16
-wide2-to-wide16 c = let d = c .before .before .before in d .before
+abbrev entry-of-place : tie.After-wide16 → tie.Start
+entry-of-place c = entry-of-element (c .before)
 
-abbrev begins2-to-allocate-functions : tie.After-begins2 → tie.After-allocate-functions
-begins2-to-allocate-functions c = let d = c .before .before .before in d .before
+abbrev place-of-inputs : tie.After-wide → tie.After-wide16
+place-of-inputs c = c .before .before
 
-abbrev put-outputs-arg-to-emit : tie.After-put-outputs-arg → tie.After-emit
-put-outputs-arg-to-emit c = let d = c .before .before .before in d .before .before
+abbrev entry-of-inputs : tie.After-wide → tie.Start
+entry-of-inputs c = entry-of-place (place-of-inputs c)
 
-abbrev wide-to-start : tie.After-wide → tie.Start
-wide-to-start c = wide16-to-start (c .before .before)
+abbrev inputs-of-outputs : tie.After-wide2 → tie.After-wide
+inputs-of-outputs c = c .before .before
 
-abbrev code-to-put-header : tie.After-code → tie.After-put-header
-code-to-put-header c = c .before
+abbrev entry-of-outputs : tie.After-wide2 → tie.Start
+entry-of-outputs c = entry-of-inputs (inputs-of-outputs c)
 
-abbrev emit-arg-to-put-header : tie.After-emit-arg → tie.After-put-header
-emit-arg-to-put-header c = let d = c .before .before .before in code-to-put-header (d .before .before .before)
+abbrev outputs-of-words : tie.After-wide32 → tie.After-wide2
+outputs-of-words c = c .before .before
 
-abbrev wide2-to-start : tie.After-wide2 → tie.Start
-wide2-to-start c = wide-to-start (c .before .before)
+abbrev entry-of-words : tie.After-wide32 → tie.Start
+entry-of-words c = entry-of-outputs (outputs-of-words c)
 
-abbrev slice-known4-to-emit : tie.After-slice-known4 → tie.After-emit
-slice-known4-to-emit c = put-outputs-arg-to-emit (c .before .before .before)
+abbrev words-of-order : tie.After-order → tie.After-wide32
+words-of-order c = c .before .before
 
-abbrev emit-arg-to-input-places : tie.After-emit-arg → tie.After-input-places
-emit-arg-to-input-places c = emit-arg-to-put-header c .before .before
+abbrev words-of-begins : tie.After-begins → tie.After-wide32
+words-of-begins c = words-of-order (c .before .before)
 
-abbrev wide32-to-start : tie.After-wide32 → tie.Start
-wide32-to-start c = wide2-to-start (c .before .before)
+abbrev functions-of-order : tie.After-order2 → tie.After-allocate-functions
+functions-of-order c = c .before .before
 
-abbrev emit-arg-to-allocate-next : tie.After-emit-arg → tie.After-allocate-next
-emit-arg-to-allocate-next c = emit-arg-to-input-places c .before .before
+abbrev functions-of-begins : tie.After-begins2 → tie.After-allocate-functions
+functions-of-begins c = functions-of-order (c .before .before)
 
-abbrev outs-to-wide32 : tie.After-outs → tie.After-wide32
-outs-to-wide32 c = c .before
+abbrev words-of-next : tie.After-allocate-next → tie.After-wide32
+words-of-next c = words-of-begins (functions-of-begins (c .before) .before)
 
-abbrev order2-to-wide32 : tie.After-order2 → tie.After-wide32
-order2-to-wide32 c = let d = c .before .before .before in outs-to-wide32 (d .before .before .before)
+abbrev entry-of-next : tie.After-allocate-next → tie.Start
+entry-of-next c = entry-of-words (words-of-next c)
 
-abbrev put-header-arg-to-wide32 : tie.After-put-header-arg → tie.After-wide32
-put-header-arg-to-wide32 c = let d = c .before .before .before in order2-to-wide32 (d .before .before .before)
+abbrev next-of-places : tie.After-input-places → tie.After-allocate-next
+next-of-places c = c .before .before
 
-abbrev put-outputs-arg-to-put-header : tie.After-put-outputs-arg → tie.After-put-header
-put-outputs-arg-to-put-header c = let d = c .before .before .before in emit-arg-to-put-header (d .before .before .before)
+abbrev entry-of-places : tie.After-input-places → tie.Start
+entry-of-places c = entry-of-next (next-of-places c)
 
-abbrev begins-to-start : tie.After-begins → tie.Start
-begins-to-start c = let d = c .before .before .before in wide32-to-start (d .before)
+abbrev places-of-header : tie.After-put-header → tie.After-input-places
+places-of-header c = c .before .before
 
-abbrev wide32-arg-to-wide : tie.After-wide32-arg → tie.After-wide
-wide32-arg-to-wide c = c .before .before .before
+abbrev header-of-begins : tie.After-begins3 → tie.After-put-header
+header-of-begins c = c .before .before .before
 
-abbrev allocate-functions-to-wide : tie.After-allocate-functions → tie.After-wide
-allocate-functions-to-wide c = let d = c .before .before .before in wide32-arg-to-wide (d .before .before .before)
+abbrev header-of-emit : tie.After-emit-arg → tie.After-put-header
+header-of-emit c = let d = c .before .before .before in header-of-begins (d .before)
 
-abbrev ins-to-wide : tie.After-ins → tie.After-wide
-ins-to-wide c = let d = c .before .before .before in allocate-functions-to-wide (d .before .before .before)
+abbrev emit-of-code : tie.After-slice-known3 → tie.After-emit
+emit-of-code c = c .before .before
 
-abbrev put-outputs-arg-to-input-places : tie.After-put-outputs-arg → tie.After-input-places
-put-outputs-arg-to-input-places c = let d = c .before .before .before in emit-arg-to-input-places (d .before .before .before)
+abbrev words-of-emit : tie.After-emit → tie.After-wide32
+words-of-emit c = words-of-next (next-of-places (places-of-header (header-of-emit (c .before))))
 
-abbrev input-places-to-wide : tie.After-input-places → tie.After-wide
-input-places-to-wide c = ins-to-wide (c .before)
+abbrev emit-of-outputs : tie.After-put-outputs-arg → tie.After-emit
+emit-of-outputs c = emit-of-code (c .before .before .before)
 
-abbrev slice-known4-to-put-header : tie.After-slice-known4 → tie.After-put-header
-slice-known4-to-put-header c = put-outputs-arg-to-put-header (c .before .before .before)
-
-abbrev ins-to-wide16 : tie.After-ins → tie.After-wide16
-ins-to-wide16 c = ins-to-wide c .before .before
-
-abbrev put-outputs-arg-to-allocate-next : tie.After-put-outputs-arg → tie.After-allocate-next
-put-outputs-arg-to-allocate-next c = let d = c .before .before .before in emit-arg-to-allocate-next (d .before .before .before)
-
-abbrev input-places-to-wide16 : tie.After-input-places → tie.After-wide16
-input-places-to-wide16 c = ins-to-wide16 (c .before)
-
-abbrev slice-known4-to-input-places : tie.After-slice-known4 → tie.After-input-places
-slice-known4-to-input-places c = put-outputs-arg-to-input-places (c .before .before .before)
-
-abbrev begins2-to-start : tie.After-begins2 → tie.Start
-begins2-to-start c = let d = c .before .before .before in begins-to-start (d .before .before)
-
-abbrev allocate-next-to-start : tie.After-allocate-next → tie.Start
-allocate-next-to-start c = begins2-to-start (c .before)
-
-abbrev slice-known4-to-allocate-next : tie.After-slice-known4 → tie.After-allocate-next
-slice-known4-to-allocate-next c = put-outputs-arg-to-allocate-next (c .before .before .before)
-
-abbrev input-places-to-start : tie.After-input-places → tie.Start
-input-places-to-start c = allocate-next-to-start (c .before .before)
-
-abbrev put-header-arg-to-start : tie.After-put-header-arg → tie.Start
-put-header-arg-to-start c = input-places-to-start (c .before)
-
-abbrev put-header-to-start : tie.After-put-header → tie.Start
-put-header-to-start c = put-header-arg-to-start (c .before)
-
-abbrev code-to-wide32 : tie.After-code → tie.After-wide32
-code-to-wide32 c = put-header-arg-to-wide32 (c .before .before)
-
-abbrev emit-arg-to-wide32 : tie.After-emit-arg → tie.After-wide32
-emit-arg-to-wide32 c = let d = c .before .before .before in code-to-wide32 (d .before .before .before)
-
-abbrev put-outputs-arg-to-wide32 : tie.After-put-outputs-arg → tie.After-wide32
-put-outputs-arg-to-wide32 c = let d = c .before .before .before in emit-arg-to-wide32 (d .before .before .before)
-
-abbrev order3-to-wide : tie.After-order3 → tie.After-wide
-order3-to-wide c = let d = c .before .before .before in input-places-to-wide (d .before .before .before)
-
-abbrev slice-known3-to-wide : tie.After-slice-known3 → tie.After-wide
-slice-known3-to-wide c = let d = c .before .before .before in order3-to-wide (d .before .before .before)
-
-abbrev put-outputs-arg-to-wide2 : tie.After-put-outputs-arg → tie.After-wide2
-put-outputs-arg-to-wide2 c = put-outputs-arg-to-wide32 c .before .before
-
-abbrev slice-known3-to-wide16 : tie.After-slice-known3 → tie.After-wide16
-slice-known3-to-wide16 c = slice-known3-to-wide c .before .before
-
-abbrev slice-known4-to-wide32 : tie.After-slice-known4 → tie.After-wide32
-slice-known4-to-wide32 c = put-outputs-arg-to-wide32 (c .before .before .before)
-
-abbrev code-to-start : tie.After-code → tie.Start
-code-to-start c = put-header-to-start (c .before)
-
-abbrev emit-arg-to-start : tie.After-emit-arg → tie.Start
-emit-arg-to-start c = let d = c .before .before .before in code-to-start (d .before .before .before)
-
-abbrev put-outputs-arg-to-wide : tie.After-put-outputs-arg → tie.After-wide
-put-outputs-arg-to-wide c = slice-known3-to-wide (c .before .before .before)
-
-abbrev slice-known4-to-wide2 : tie.After-slice-known4 → tie.After-wide2
-slice-known4-to-wide2 c = put-outputs-arg-to-wide2 (c .before .before .before)
-
-abbrev put-outputs-arg-to-wide16 : tie.After-put-outputs-arg → tie.After-wide16
-put-outputs-arg-to-wide16 c = slice-known3-to-wide16 (c .before .before .before)
-
-abbrev slice-known4-to-wide : tie.After-slice-known4 → tie.After-wide
-slice-known4-to-wide c = put-outputs-arg-to-wide (c .before .before .before)
-
-abbrev slice-known4-to-wide16 : tie.After-slice-known4 → tie.After-wide16
-slice-known4-to-wide16 c = put-outputs-arg-to-wide16 (c .before .before .before)
-
-abbrev put-outputs-arg-to-start : tie.After-put-outputs-arg → tie.Start
-put-outputs-arg-to-start c = let d = c .before .before .before in emit-arg-to-start (d .before .before .before)
-
-abbrev slice-known4-to-start : tie.After-slice-known4 → tie.Start
-slice-known4-to-start c = put-outputs-arg-to-start (c .before .before .before)
+-- ---- what was read
 
 low : (c : tie.Start) → c .args .k < 16
-low c = let l = few (c .args .t .now) (suc (c .args .k)) (c .pre .0 .0) in omega arith
-
-mul-wide16 : tie.Need-mul-wide16
-mul-wide16 c = let l = low (c .before .before) in omega arith
-
-element-copy-out-wide16 : tie.Need-element-copy-out-wide16
-element-copy-out-wide16 c = let l = low (c .before .before) in omega arith
-
-mul-wide32 : tie.Need-mul-wide32
-mul-wide32 c = let l = low (wide2-to-start c) in omega arith
-
-element-copy-out-wide32 : tie.Need-element-copy-out-wide32
-element-copy-out-wide32 c = let l = low (wide2-to-start c) in omega arith
+low c = let l = few (c .args .table .now) (suc (c .args .k)) (c .pre .0 .0) in omega arith
 
 -- the function's place and counts
-place : (c : tie.After-wide16) → c .wide16 .result ≡ placeOf (wide16-to-start c .args .t .now) (wide16-to-start c .args .k)
-place c = c .wide16 .ensures .0 ∙ wide16-to-start c .pre .0 .1 (wide16-to-start c .args .k) (omega arith)
+place : (c : tie.After-wide16) → let a = entry-of-place c .args in c .wide16 .result ≡ placeOf (a .table .now) (a .k)
+place c = let e = entry-of-place c in c .wide16 .ensures .0 ∙ e .pre .0 .1 (e .args .k) (omega arith)
 
-nin : (c : tie.After-wide) → (c .wide .result ≡ inputCount (wide-to-start c .args .t .now) (placeOf (wide-to-start c .args .t .now) (wide-to-start c .args .k))) × (c .wide .result ≤ 8)
-nin c =
-    let e = c .wide .ensures .0 ∙ c .before .padded-byte .ensures ∙ ap (λ (q : ℕ). byte (wide-to-start c .args .t .now) (q + 2)) (place (c .before .before)) in
-    let f = fit-below (wide-to-start c .args .t .now) (suc (wide-to-start c .args .k)) (wide-to-start c .pre .0 .0) (wide-to-start c .args .k) (omega arith) .inputs in
+input-count : (c : tie.After-wide) → let a = entry-of-inputs c .args in (c .wide .result ≡ inputCount (a .table .now) (placeOf (a .table .now) (a .k))) × (c .wide .result ≤ 8)
+input-count c =
+    let b = entry-of-inputs c in
+    let s = b .args .table .now in
+    let e = c .wide .ensures .0 ∙ c .before .padded-byte .ensures ∙ ap (λ (q : ℕ). byte s (q + 2)) (place (place-of-inputs c)) in
+    let f = fit-below s (suc (b .args .k)) (b .pre .0 .0) (b .args .k) (omega arith) .inputs in
     (e, omega arith)
 
-nout : (c : tie.After-wide2) → (c .wide2 .result ≡ outputCount (wide2-to-start c .args .t .now) (placeOf (wide2-to-start c .args .t .now) (wide2-to-start c .args .k))) × (c .wide2 .result ≤ 8)
-nout c =
-    let e = c .wide2 .ensures .0 ∙ c .before .padded-byte2 .ensures ∙ ap (λ (q : ℕ). byte (wide2-to-start c .args .t .now) (q + 3)) (place (wide2-to-wide16 c)) in
-    let f = fit-below (wide2-to-start c .args .t .now) (suc (wide2-to-start c .args .k)) (wide2-to-start c .pre .0 .0) (wide2-to-start c .args .k) (omega arith) .outputs in
+output-count : (c : tie.After-wide2) → let a = entry-of-outputs c .args in (c .wide2 .result ≡ outputCount (a .table .now) (placeOf (a .table .now) (a .k))) × (c .wide2 .result ≤ 8)
+output-count c =
+    let b = entry-of-outputs c in
+    let s = b .args .table .now in
+    let e = c .wide2 .ensures .0 ∙ c .before .padded-byte2 .ensures ∙ ap (λ (q : ℕ). byte s (q + 3)) (place (place-of-inputs (inputs-of-outputs c))) in
+    let f = fit-below s (suc (b .args .k)) (b .pre .0 .0) (b .args .k) (omega arith) .outputs in
     (e, omega arith)
+
+-- where the output entries begin
+entries : (c : tie.After-wide) → let a = entry-of-inputs c .args in c .before .before .wide16 .result + 6 + c .wide .result ≡ outputsPlace (a .table .now) (placeOf (a .table .now) (a .k))
+entries c = let p = place (place-of-inputs c) in let n = input-count c .0 in omega arith
 
 -- the words of its results
-words : (c : tie.After-wide32) → c .wide32 .result ≡ wordsAt (wide32-to-start c .args .t .now) (wide32-to-start c .args .k)
+words : (c : tie.After-wide32) → let a = entry-of-words c .args in c .wide32 .result ≡ wordsAt (a .table .now) (a .k)
 words c =
-    let e = c .wide32 .ensures .0 ∙ wide32-to-start c .pre .0 .2 (wide32-to-start c .args .k) (omega arith) in
-    let w = wide32-to-start c .pre .1 .0 .words in
+    let b = entry-of-words c in
+    let e = c .wide32 .ensures .0 ∙ b .pre .0 .2 (b .args .k) (omega arith) in
+    let w = b .pre .1 .0 .words in
     omega arith
+
+-- ---- allocating
 
 allocate-functions-requires : tie.Need-allocate-functions-requires
 allocate-functions-requires c κs =
-    let a = begins-to-start c .args in (
-      (fewer (a .t .now) (suc (a .k)) (a .k) (begins-to-start c .pre .0 .0) (omega arith), (λ j l. begins-to-start c .pre .0 .1 j (omega arith)), (λ j l. begins-to-start c .pre .0 .2 j (omega arith))),
+    let b = entry-of-words (words-of-begins c) in
+    let k = b .args .k in (
+      (fewer (b .args .table .now) (suc k) k (b .pre .0 .0) (omega arith), (λ j l. b .pre .0 .1 j (omega arith)), (λ j l. b .pre .0 .2 j (omega arith))),
       (length-replicate {A = ℕ} outputLimit 0, length-replicate {A = ℕ} orderLimit 0, length-replicate {A = ℕ} referenceLimit 0, length-replicate {A = ℕ} functionLimit 0),
     )
 
-allocate-next-requires : tie.Need-allocate-next-requires
-allocate-next-requires c κs = (begins2-to-start c .pre .0, begins2-to-allocate-functions c .allocate-functions .ensures)
-
-input-places-requires : tie.Need-input-places-requires
-input-places-requires c κs = let (x, y) = nin (ins-to-wide c) in let p = ins-to-wide16 c .wide16 .ensures .1 in (omega arith, y)
-
--- what was allocated
-allocated : (c : tie.After-allocate-next) → PortsCoded (summaryAt (allocate-next-to-start c .args .t .now) (allocate-next-to-start c .args .k) .outputs) (c .allocate-next .last .1 .1 .1 .1 .0) (8 * allocate-next-to-start c .args .k)
+allocated : (c : tie.After-allocate-next) → let a = entry-of-next c .args in PortsCoded (summaryAt (a .table .now) (a .k) .outputs) (c .allocate-next .last .1 .1 .1 .1 .0) (8 * a .k)
 allocated c =
-    let a = allocate-next-to-start c .args in
-    let w = allocate-next-to-start c .pre .1 .0 .words in
-    c .allocate-next .ensures .ports (a .k) (omega arith) (omega arith)
+    let b = entry-of-next c in
+    let w = b .pre .1 .0 .words in
+    c .allocate-next .ensures .ports (b .args .k) (omega arith) (omega arith)
 
 -- the addresses of the arguments
-ins-are : (c : tie.After-input-places) → (c .input-places .last .1 .1 .1 .0) ≡ sets (replicate 8 0) 0 (places 0 (functionIn (input-places-to-start c .args .t .now) (input-places-to-start c .args .k) .inputs))
+ins-are : (c : tie.After-input-places) → let a = entry-of-places c .args in (c .input-places .last .1 .1 .1 .0) ≡ sets (replicate 8 0) 0 (places 0 (functionIn (a .table .now) (a .k) .inputs))
 unfolding functionAt
 ins-are c =
-    let a = input-places-to-start c .args in
-    let s = a .t .now in
-    let (e, l) = nin (input-places-to-wide c) in
+    let a = entry-of-places c .args in
+    let s = a .table .now in
+    let p = placeOf s (a .k) in
+    let i = inputs-of-outputs (outputs-of-words (words-of-next (next-of-places c))) in
     c .input-places .ensures
-    ∙ ap (λ (q : ℕ). sets (replicate 8 0) 0 (places 0 (typesBy 1 (input-places-to-wide c .wide .result) s (q + 6)))) (place (input-places-to-wide16 c))
-    ∙ ap (λ (n : ℕ). sets (replicate 8 0) 0 (places 0 (typesBy 1 n s (placeOf s (a .k) + 6)))) e
-    ∙ ap (λ (ts : List ℕ). sets (replicate 8 0) 0 (places 0 ts)) (inputs-are (inputCount s (placeOf s (a .k))) s (placeOf s (a .k) + 6))
+    ∙ ap (λ (q : ℕ). sets (replicate 8 0) 0 (places 0 (typesBy 1 (i .wide .result) s (q + 6)))) (place (place-of-inputs i))
+    ∙ ap (λ (n : ℕ). sets (replicate 8 0) 0 (places 0 (typesBy 1 n s (p + 6)))) (input-count i .0)
+    ∙ ap (λ (ts : List ℕ). sets (replicate 8 0) 0 (places 0 ts)) (inputs-are (inputCount s p) s (p + 6))
 
-cast-put-header : tie.Need-cast-put-header
-cast-put-header c = let (x, y) = put-header-arg-to-start c .pre .1 .0 .narrow in omega arith
+-- ---- writing
 
-cast-put-header-2 : tie.Need-cast-put-header-2
-cast-put-header-2 c = let (x, y) = put-header-arg-to-start c .pre .1 .0 .narrow in omega arith
-
-cast-put-header-3 : tie.Need-cast-put-header-3
-cast-put-header-3 c = let x = put-header-arg-to-start c .pre .1 .0 .few in omega arith
-
-cast-put-header-4 : tie.Need-cast-put-header-4
-cast-put-header-4 c = let w = words (put-header-arg-to-wide32 c) in let x = put-header-arg-to-start c .pre .1 .0 .words in omega arith
-
-room : (c : tie.After-input-places) → 12 ≤ length (input-places-to-start c .args .code .now)
+room : (c : tie.After-input-places) → 12 ≤ length (entry-of-places c .args .code .now)
 room c =
-    let a = input-places-to-start c .args in
-    let r = emit-room (a .t .now) (a .k) (input-places-to-start c .pre .0 .0) (a .sizes .instructions) (a .sizes .arguments) (a .sizes .outputs) (input-places-to-start c .pre .1 .0) (c .before .before .allocate-next .last .1 .1 .1 .1 .0) (c .input-places .last .1 .1 .1 .0) (allocated (c .before .before)) (ins-are c) (a .code .now) (input-places-to-start c .pre .1 .1) .room in
+    let b = entry-of-places c in
+    let r = emit-room (b .pre .0 .0) (b .pre .1 .0) (allocated (next-of-places c)) (ins-are c) {code = b .args .code .now} (b .pre .1 .1) .room in
     omega arith
-
-put-header-requires : tie.Need-put-header-requires
-put-header-requires c κs = room (c .before)
-
-same-header : (c : tie.After-put-header) → length (c .put-header .last .0) ≡ length (put-header-to-start c .args .code .now)
-same-header c = c .put-header .kept .0
 
 emit-requires : tie.Need-emit-requires
 emit-requires c κs =
-    let a = emit-arg-to-start c .args in (
-      (low (emit-arg-to-start c), emit-arg-to-start c .pre .0 .1),
-      (
-        emit-arg-to-allocate-next c .allocate-next .ensures .allocated,
-        emit-room (a .t .now) (a .k) (emit-arg-to-start c .pre .0 .0) (a .sizes .instructions) (a .sizes .arguments) (a .sizes .outputs) (emit-arg-to-start c .pre .1 .0) (emit-arg-to-allocate-next c .allocate-next .last .1 .1 .1 .1 .0) (emit-arg-to-input-places c .input-places .last .1 .1 .1 .0) (allocated (emit-arg-to-allocate-next c)) (ins-are (emit-arg-to-input-places c)) (emit-arg-to-put-header c .put-header .last .0)
-            (let e = same-header (emit-arg-to-put-header c) in let l = emit-arg-to-start c .pre .1 .1 in omega arith),
-      ),
-    )
-
-add-put-outputs : tie.Need-add-put-outputs
-add-put-outputs c = let p = slice-known3-to-wide16 c .wide16 .ensures .1 in omega arith
-
-add-put-outputs-2 : tie.Need-add-put-outputs-2
-add-put-outputs-2 c = let p = slice-known3-to-wide16 c .wide16 .ensures .1 in let (x, y) = nin (slice-known3-to-wide c) in omega arith
-
--- where the output entries begin
-entries : (c : tie.After-wide) → c .before .before .wide16 .result + 6 + c .wide .result ≡ outputsPlace (wide-to-start c .args .t .now) (placeOf (wide-to-start c .args .t .now) (wide-to-start c .args .k))
-entries c = ap (λ (q : ℕ). q + 6 + c .wide .result) (place (c .before .before)) ∙ ap (λ (n : ℕ). placeOf (wide-to-start c .args .t .now) (wide-to-start c .args .k) + 6 + n) (nin c .0)
+    let h = header-of-emit c in
+    let i = places-of-header h in
+    let n = next-of-places i in
+    let b = entry-of-next n in
+    let e = h .put-header .kept .0 in
+    let l = b .pre .1 .1 in
+    ((low b, b .pre .0 .1), (n .allocate-next .ensures .allocated, emit-room (b .pre .0 .0) (b .pre .1 .0) (allocated n) (ins-are i) (omega arith)))
 
 put-outputs-requires : tie.Need-put-outputs-requires
 put-outputs-requires c κs =
-    let a = put-outputs-arg-to-start c .args in
-    let s = a .t .now in
-    let (e, l) = nout (put-outputs-arg-to-wide2 c) in
-    let q = entries (put-outputs-arg-to-wide c) in
-    let p = put-outputs-arg-to-wide16 c .wide16 .ensures .1 in
-    let (x, y) = nin (put-outputs-arg-to-wide c) in
-    let w = put-outputs-arg-to-start c .pre .1 .0 .words in (
-      (
-        omega arith,
-        l,
-        low (put-outputs-arg-to-start c),
-        omega arith,
-        λ j jl. outs-low s (a .k) (put-outputs-arg-to-start c .pre .0 .0) (a .sizes .instructions) (a .sizes .arguments) (a .sizes .outputs) (put-outputs-arg-to-start c .pre .1 .0) (put-outputs-arg-to-allocate-next c .allocate-next .last .1 .1 .1 .1 .0) (put-outputs-arg-to-input-places c .input-places .last .1 .1 .1 .0) (allocated (put-outputs-arg-to-allocate-next c)) (ins-are (put-outputs-arg-to-input-places c)) j (omega arith),
-      ),
-      rw (e, q)
-          (out-room s (a .k) (put-outputs-arg-to-start c .pre .0 .0) (a .sizes .instructions) (a .sizes .arguments) (a .sizes .outputs) (put-outputs-arg-to-start c .pre .1 .0) (put-outputs-arg-to-allocate-next c .allocate-next .last .1 .1 .1 .1 .0) (put-outputs-arg-to-input-places c .input-places .last .1 .1 .1 .0) (allocated (put-outputs-arg-to-allocate-next c)) (ins-are (put-outputs-arg-to-input-places c)) (a .code .now) (put-outputs-arg-to-put-header c .put-header .last .0) (put-outputs-arg-to-emit c .emit .last .1 .1 .1 .1 .1 .1 .1 .0) (put-outputs-arg-to-emit c .emit .last .1 .1 .1 .1 .1 .1 .1 .0)
-          (put-outputs-arg-to-emit c .emit .result) (a .sizes .arguments + put-outputs-arg-to-wide32 c .wide32 .result) (ap (λ (n : ℕ). a .sizes .arguments + n) (words (put-outputs-arg-to-wide32 c))) (put-outputs-arg-to-put-header c .put-header .ensures) (put-outputs-arg-to-emit c .emit .ensures) (put-outputs-arg-to-start c .pre .1 .1)),
+    let m = emit-of-outputs c in
+    let h = header-of-emit (m .before) in
+    let i = places-of-header h in
+    let n = next-of-places i in
+    let w = words-of-next n in
+    let o = outputs-of-words w in
+    let b = entry-of-outputs o in
+    let (e, l) = output-count o in
+    let (x, y) = input-count (inputs-of-outputs o) in
+    let p = place-of-inputs (inputs-of-outputs o) .wide16 .ensures .1 in
+    let v = b .pre .1 .0 .words in (
+      (omega arith, l, low b, omega arith, λ j jl. outs-low (b .pre .0 .0) (b .pre .1 .0) (allocated n) (ins-are i) j (omega arith)),
+      out-room (b .pre .0 .0) (b .pre .1 .0) (allocated n) (ins-are i) (b .args .code .now) e (entries (inputs-of-outputs o)) (ap (λ (m : ℕ). b .args .sizes .arguments + m) (words w)) (h .put-header .ensures) (m .emit .ensures) (b .pre .1 .1),
     )
 
 same-length : tie.Need-same-length
-same-length c = c .before .before .put-outputs .kept .1 .1 .1 .1 .1 .1 .1 .0 ∙ slice-known4-to-emit c .emit .kept .1 .1 .1 .1 .1 .1 .1 .0 ∙ same-header (slice-known4-to-put-header c)
+same-length c =
+    let v = c .before .before in
+    let m = emit-of-outputs (v .before) in
+    v .put-outputs .kept .1 .1 .1 .1 .1 .1 .1 .0 ∙ m .emit .kept .1 .1 .1 .1 .1 .1 .1 .0 ∙ header-of-emit (m .before) .put-header .kept .0
 
 returns : tie.Need-returns
 returns c =
-    let a = slice-known4-to-start c .args in
-    let s = a .t .now in
-    let (e, l) = nout (slice-known4-to-wide2 c) in
-    let q = entries (slice-known4-to-wide c) in
-    assembled s (a .k) (slice-known4-to-start c .pre .0 .0) (a .sizes .instructions) (a .sizes .arguments) (a .sizes .outputs) (slice-known4-to-start c .pre .1 .0) (slice-known4-to-allocate-next c .allocate-next .last .1 .1 .1 .1 .0) (slice-known4-to-input-places c .input-places .last .1 .1 .1 .0) (allocated (slice-known4-to-allocate-next c)) (ins-are (slice-known4-to-input-places c)) (a .code .now) (slice-known4-to-put-header c .put-header .last .0) (slice-known4-to-emit c .emit .last .1 .1 .1 .1 .1 .1 .1 .0) (c .before .before .put-outputs .last .1 .1 .1 .1 .1 .1 .1 .0)
-    (slice-known4-to-emit c .emit .result) (a .sizes .arguments + slice-known4-to-wide32 c .wide32 .result) (ap (λ (n : ℕ). a .sizes .arguments + n) (words (slice-known4-to-wide32 c))) (slice-known4-to-put-header c .put-header .ensures) (slice-known4-to-emit c .emit .ensures)
-    (c .before .before .put-outputs .ensures
-    ∙ ap (λ (n : ℕ). sets (slice-known4-to-emit c .emit .last .1 .1 .1 .1 .1 .1 .1 .0) (slice-known4-to-emit c .emit .result .at) (allBytes 2 (spans (typesBy 4 n s (slice-known4-to-wide16 c .wide16 .result + 6 + slice-known4-to-wide c .wide .result)) (addressesIn (slice-known4-to-allocate-next c .allocate-next .last .1 .1 .1 .1 .0) (slice-known4-to-input-places c .input-places .last .1 .1 .1 .0) (a .sizes .arguments) (8 * a .k) n)))) e
-    ∙ ap (λ (m : ℕ). sets (slice-known4-to-emit c .emit .last .1 .1 .1 .1 .1 .1 .1 .0) (slice-known4-to-emit c .emit .result .at) (allBytes 2 (spans (typesBy 4 (outputCount s (placeOf s (a .k))) s m) (addressesIn (slice-known4-to-allocate-next c .allocate-next .last .1 .1 .1 .1 .0) (slice-known4-to-input-places c .input-places .last .1 .1 .1 .0) (a .sizes .arguments) (8 * a .k) (outputCount s (placeOf s (a .k))))))) q)
+    let v = c .before .before in
+    let m = emit-of-outputs (v .before) in
+    let h = header-of-emit (m .before) in
+    let i = places-of-header h in
+    let n = next-of-places i in
+    let w = words-of-next n in
+    let o = outputs-of-words w in
+    let b = entry-of-outputs o in
+    assembled (b .pre .0 .0) (b .pre .1 .0) (allocated n) (ins-are i) (b .args .code .now) (output-count o .0) (entries (inputs-of-outputs o)) (ap (λ (m : ℕ). b .args .sizes .arguments + m) (words w)) (h .put-header .ensures) (m .emit .ensures) (v .put-outputs .ensures)
 
 pub compile-spec : {M : Type 1} → statement M
 compile-spec =
     tie.close
-    (tie.spec mul-wide16 element-copy-out-wide16 (λ c κs. search needs) (λ c. search needs) (λ c κs. search needs) (λ c κs. search needs)
-    (λ c. search needs) (λ c κs. search needs) (λ c κs. search needs) mul-wide32 element-copy-out-wide32 (λ c κs. search needs)
-    (λ c. search needs) allocate-functions-requires allocate-next-requires (λ c. search needs) input-places-requires cast-put-header cast-put-header-2
-    cast-put-header-3 cast-put-header-4 put-header-requires emit-requires add-put-outputs add-put-outputs-2 put-outputs-requires same-length
-    returns)
+    (tie.spec (λ c. let l = low (c .before .before) in omega arith) (λ c. let l = low (c .before .before) in omega arith) (λ c κs. search needs) (λ c. search needs) (λ c κs. search needs) (λ c κs. search needs)
+    (λ c. search needs) (λ c κs. search needs) (λ c κs. search needs) (λ c. let l = low (entry-of-outputs c) in omega arith) (λ c. let l = low (entry-of-outputs c) in omega arith) (λ c κs. search needs)
+    (λ c. search needs) allocate-functions-requires (λ c κs. (entry-of-words (words-of-begins (functions-of-begins c .before)) .pre .0, functions-of-begins c .allocate-functions .ensures)) (λ c. search needs)
+    (λ c κs. let i = inputs-of-outputs (outputs-of-words (words-of-next (c .before))) in let l = input-count i .1 in let p = place-of-inputs i .wide16 .ensures .1 in (omega arith, l))
+    (λ c. let (x, y) = entry-of-places (c .before) .pre .1 .0 .narrow in omega arith) (λ c. let (x, y) = entry-of-places (c .before) .pre .1 .0 .narrow in omega arith)
+    (λ c. let x = entry-of-places (c .before) .pre .1 .0 .few in omega arith)
+    (λ c. let w = words (words-of-next (next-of-places (c .before))) in let x = entry-of-places (c .before) .pre .1 .0 .words in omega arith)
+    (λ c κs. room (c .before)) emit-requires
+    (λ c. let p = place-of-inputs (inputs-of-outputs (outputs-of-words (words-of-emit (emit-of-code c)))) .wide16 .ensures .1 in omega arith)
+    (λ c. let i = inputs-of-outputs (outputs-of-words (words-of-emit (emit-of-code c))) in let p = place-of-inputs i .wide16 .ensures .1 in let l = input-count i .1 in omega arith)
+    put-outputs-requires same-length returns)

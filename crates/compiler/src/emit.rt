@@ -1,0 +1,240 @@
+// The instructions of a function, each call opened where it stands.
+ghost use mathlib.Core.Path.{_≡_};
+ghost use mathlib.Core.Bool.{false};
+ghost use Prim.Native.Nat.{suc, _+_, _*_, _<_, _≤_};
+ghost use lib.ListN.{length};
+ghost use lib.Seq.{sets};
+ghost use Rattle.base.specs.Limits.{functionLimit, portLimit, referenceLimit, wordLimit};
+ghost use Rattle.ports.specs.Ports.{formOf, calling};
+ghost use Rattle.base.specs.Bytes.{allBytes};
+ghost use Rattle.graph.specs.Look.{reads};
+ghost use Rattle.reader.specs.Layout.{kindAt, nodeAt, nodeEnd};
+ghost use Rattle.sums.specs.Position.{Starts, NodeFit};
+ghost use Rattle.compiler.specs.Emit.{copied, addressOf, addressesIn, nodeInlined, functionInlined, Room, Emits, AllAllocated};
+use super::ORDER_LIMIT;
+use super::Reached;
+use base::FUNCTION_LIMIT;
+use base::NODE_LIMIT;
+use base::PORT_LIMIT;
+use base::REFERENCE_LIMIT;
+use base::padded_byte;
+use base::padded_u16;
+use base::put16;
+use base::wide;
+use base::wide16;
+
+// The address of a location.
+pub fn address(ins: &[u16; PORT_LIMIT], first: usize, e: usize) -> u16
+    requires { ⌜ (first ≤ wordLimit) × (e < 65536) ⌝ }
+    ensures { λ r. ⌜ r ≡ addressOf (now (ins .entry)) first e ⌝ }
+{
+    if e < PORT_LIMIT {
+        ins[e]
+    } else {
+        ((first + (e - PORT_LIMIT)) % 65536) as u16
+    }
+}
+
+// The bytes of the addresses of n operands.
+fn operands(
+    locations: &[u16; REFERENCE_LIMIT],
+    cell: usize,
+    n: usize,
+    ins: &[u16; PORT_LIMIT],
+    first: usize,
+    code: &mut [u8],
+    at: usize,
+)
+    requires { ⌜ (first ≤ wordLimit) × (cell + n ≤ referenceLimit) × (at + 2 * n ≤ length (now code)) ⌝ }
+    ensures { λ _. ⌜ now (code .exit) ≡ sets (now (code .entry)) at (allBytes 2 (addressesIn (now (locations .entry)) (now (ins .entry)) first cell n)) ⌝ }
+{
+    let mut j = 0;
+    while j < n {
+        let a = address(ins, first, wide16(locations[cell + j]));
+        put16(code, at + 2 * j, a);
+        j += 1;
+    }
+}
+
+// The addresses of n arguments.
+fn arguments(
+    locations: &[u16; REFERENCE_LIMIT],
+    cell: usize,
+    n: usize,
+    ins: &[u16; PORT_LIMIT],
+    first: usize,
+    args: &mut [u16; PORT_LIMIT],
+)
+    requires { ⌜ (first ≤ wordLimit) × (cell + n ≤ referenceLimit) × (n ≤ portLimit) ⌝ }
+    ensures { λ _. ⌜ now (args .exit) ≡ sets (now (args .entry)) 0 (addressesIn (now (locations .entry)) (now (ins .entry)) first cell n) ⌝ }
+{
+    let mut j = 0;
+    while j < n {
+        args[j] = address(ins, first, wide16(locations[cell + j]));
+        j += 1;
+    }
+}
+
+// n bytes of the table.
+fn copy(table: &[u8], from: usize, n: usize, code: &mut [u8], at: usize)
+    requires { ⌜ (from + n ≤ length (now table)) × (at + n ≤ length (now code)) ⌝ }
+    ensures { λ _. ⌜ now (code .exit) ≡ sets (now (code .entry)) at (copied n (now (table .entry)) from) ⌝ }
+{
+    let mut j = 0;
+    while j < n {
+        code[at + j] = table[from + j];
+        j += 1;
+    }
+}
+
+// The node at p, which is no call.
+fn emit_single(
+    table: &[u8],
+    locations: &[u16; REFERENCE_LIMIT],
+    k: usize,
+    p: usize,
+    cell: usize,
+    ins: &[u16; PORT_LIMIT],
+    first: usize,
+    code: &mut [u8],
+    at: usize,
+    next: usize,
+) -> Reached
+    requires { ⌜ (p < 65536) × (calling (formOf (kindAt (now table) p)) ≡ false) × (nodeEnd (now table) p ≤ length (now table)) ⌝ }
+    requires { ⌜ (first ≤ wordLimit) × (cell + length (reads (nodeAt (now table) p)) ≤ referenceLimit) ⌝ }
+    requires { ⌜ Room (now code) at (nodeInlined (now table) (now locations) k p cell (now ins) first next) ⌝ }
+    ensures { λ r. ⌜ Emits (now (code .entry)) (now (code .exit)) at
+        (nodeInlined (now (table .entry)) (now (locations .entry)) k p cell (now (ins .entry)) first next) r ⌝ }
+    ensures { λ r. ⌜ r .cell ≡ cell + length (reads (nodeAt (now (table .entry)) p)) ⌝ }
+{
+    let kind = padded_byte(table, p + 2);
+    let ty = padded_byte(table, p + 3);
+    let row = ports::ports_of(kind);
+    let form = row.form;
+    let n = wide(row.operands);
+    let m = 8 * ports::constant_words(row);
+    let w = ports::result_words(row, ty);
+    code[at] = kind;
+    code[at + 1] = ty;
+    operands(locations, cell, n, ins, first, code, at + 2);
+    copy(table, p + 4, m, code, at + 2 + 2 * n);
+    Reached {
+        at: at + 2 + 2 * n + m,
+        next: next + w,
+        cell: cell + n,
+    }
+}
+
+// The node at p of the function at position k, whose results begin at `first`.
+fn emit_node(
+    table: &[u8],
+    starts: &[u16; FUNCTION_LIMIT],
+    begins: &[u16; FUNCTION_LIMIT],
+    order: &[u16; ORDER_LIMIT],
+    locations: &[u16; REFERENCE_LIMIT],
+    k: usize,
+    p: usize,
+    cell: usize,
+    ins: &[u16; PORT_LIMIT],
+    first: usize,
+    code: &mut [u8],
+    at: usize,
+    next: usize,
+) -> Reached
+    requires { ⌜ (k < functionLimit) × Starts (now table) (now starts) k × NodeFit (now table) p ⌝ }
+    requires { ⌜ (first ≤ wordLimit) × (cell + length (reads (nodeAt (now table) p)) ≤ referenceLimit) ⌝ }
+    requires { ⌜ AllAllocated (now table) (now begins) (now order) (now locations) k ⌝ }
+    requires { ⌜ Room (now code) at (nodeInlined (now table) (now locations) k p cell (now ins) first next) ⌝ }
+    ensures { λ r. ⌜ Emits (now (code .entry)) (now (code .exit)) at
+        (nodeInlined (now (table .entry)) (now (locations .entry)) k p cell (now (ins .entry)) first next) r ⌝ }
+    ensures { λ r. ⌜ r .cell ≡ cell + length (reads (nodeAt (now (table .entry)) p)) ⌝ }
+{
+    let row = ports::ports_of(padded_byte(table, p + 2));
+    let form = row.form;
+    if ports::is_call(form) {
+        let n = wide(padded_byte(table, p + 4 + 2));
+        let c = padded_u16(table, p + 4);
+        let mut args = [0u16; PORT_LIMIT];
+        arguments(locations, cell, n, ins, first, &mut args);
+        let g = sums::position_of(table, starts, k, c);
+        if g < k {
+            let r = emit(
+                table,
+                starts,
+                begins,
+                order,
+                locations,
+                g,
+                &args,
+                code,
+                at,
+                next,
+            );
+            Reached {
+                at: r.at,
+                next: r.next,
+                cell: cell + n,
+            }
+        } else {
+            Reached {
+                at,
+                next,
+                cell: cell + n,
+            }
+        }
+    } else {
+        emit_single(table, locations, k, p, cell, ins, first, code, at, next)
+    }
+}
+
+// The function at position k, with the addresses of its arguments.
+pub fn emit(
+    table: &[u8],
+    starts: &[u16; FUNCTION_LIMIT],
+    begins: &[u16; FUNCTION_LIMIT],
+    order: &[u16; ORDER_LIMIT],
+    locations: &[u16; REFERENCE_LIMIT],
+    k: usize,
+    ins: &[u16; PORT_LIMIT],
+    code: &mut [u8],
+    at: usize,
+    next: usize,
+) -> Reached
+    requires { ⌜ (k < functionLimit) × Starts (now table) (now starts) (suc k) ⌝ }
+    requires { ⌜ AllAllocated (now table) (now begins) (now order) (now locations) (suc k) ⌝ }
+    requires { ⌜ Room (now code) at (functionInlined (now table) k (now ins) next) ⌝ }
+    ensures { λ r. ⌜ Emits (now (code .entry)) (now (code .exit)) at (functionInlined (now (table .entry)) k (now (ins .entry)) next) r ⌝ }
+{
+    let n = padded_u16(table, wide16(starts[k]) + 4);
+    let mut cell = wide16(begins[k]);
+    let mut here = at;
+    let mut word = next;
+    let mut i = 0;
+    while i < n {
+        let p = wide16(order[NODE_LIMIT * k + i]);
+        let r = emit_node(
+            table,
+            starts,
+            begins,
+            order,
+            locations,
+            k,
+            p,
+            cell,
+            ins,
+            next,
+            code,
+            here,
+            word,
+        );
+        here = r.at;
+        word = r.next;
+        cell = r.cell;
+        i += 1;
+    }
+    Reached {
+        at: here,
+        next: word,
+        cell,
+    }
+}
