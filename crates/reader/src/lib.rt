@@ -14,6 +14,7 @@ pub use lookup::find_node;
 pub use lookup::node_end;
 pub use lookup::node_place;
 pub use lookup::node_sizes;
+pub use lookup::nodes_place;
 pub use lookup::operand_counts;
 pub use nodes::arguments_at;
 pub use nodes::callee_at;

@@ -5,9 +5,9 @@ ghost use lib.ListN.{getD};
 ghost use Rattle.ports.specs.Ports.{portsOf};
 ghost use Rattle.base.specs.Limits.{functionLimit};
 ghost use Rattle.graph.specs.Format.{version1};
-ghost use Rattle.reader.specs.Layout.{kindAt, nodeEnd, nodesAt, nodePlace, earlier};
+ghost use Rattle.reader.specs.Layout.{kindAt, nodeEnd, nodesAt, nodePlace, nodesPlace, earlier};
 ghost use Rattle.reader.specs.Sizes.{nodeSize, nodeSizes, operandCounts};
-ghost use Rattle.reader.specs.Find.{ReadsNode, ReadsNodes, Started, nodeFound, functionFound};
+ghost use Rattle.reader.specs.Find.{ReadsNode, ReadsNodes, ReadsFunction, Started, nodeFound, functionFound};
 use super::Found;
 use base::FUNCTION_LIMIT;
 use base::u16_at;
@@ -112,6 +112,14 @@ pub fn node_end(s: &[u8], at: usize) -> usize
     ensures { λ r. ⌜ r ≡ nodeEnd (now (s .entry)) at ⌝ }
 {
     end_by(s, at, node_size(s[at + 2]))
+}
+
+// Where the nodes of the function at `at` begin.
+pub fn nodes_place(s: &[u8], at: usize) -> usize
+    requires { ⌜ ReadsFunction (now s) at ⌝ }
+    ensures { λ r. ⌜ r ≡ nodesPlace (now (s .entry)) at ⌝ }
+{
+    at + 6 + wide(s[at + 2]) + 4 * wide(s[at + 3])
 }
 
 // The first with the id among the `count` nodes from the place `first` on. It walks the table's bytes.

@@ -5,7 +5,7 @@ ghost use lib.ListN.{length, getD, set};
 ghost use lib.Seq.{sets};
 ghost use Rattle.base.specs.Limits.{functionLimit, portLimit, portWordLimit};
 ghost use Rattle.ports.specs.Ports.{widths};
-ghost use Rattle.reader.specs.Layout.{nodeAt, nodesAt, nodesPlace};
+ghost use Rattle.reader.specs.Layout.{nodeAt, nodesAt};
 ghost use Rattle.reader.specs.Find.{ReadsNode, ReadsNodes, ReadsFunction, Started};
 ghost use Rattle.sums.specs.Position.{tabulate, placeOf, positionOf, AllRead, Accepted};
 ghost use Rattle.sums.specs.Capped.{Small, both, capSums, sumsAt, plainSums, nodesSums, Caps, Summed, AllSummed, WordsHeld, cappedOperations, cappedWords, cappedInstructions, cappedBytes};
@@ -38,14 +38,6 @@ fn capped(x: usize, cap: usize) -> usize
 
 // ---- places
 
-// Where the nodes of the function at p begin.
-pub fn nodes_place(t: &[u8], p: usize) -> usize
-    requires { ⌜ ReadsFunction (now t) p ⌝ }
-    ensures { λ r. ⌜ r ≡ nodesPlace (now (t .entry)) p ⌝ }
-{
-    p + 6 + wide(t[p + 2]) + 4 * wide(t[p + 3])
-}
-
 // The places of n functions.
 pub fn find_starts(t: &[u8], n: usize, starts: &mut [usize; FUNCTION_LIMIT])
     requires { ⌜ (n ≤ functionLimit) × AllRead (now t) n × (length (now starts) ≡ functionLimit) ⌝ }
@@ -57,7 +49,7 @@ pub fn find_starts(t: &[u8], n: usize, starts: &mut [usize; FUNCTION_LIMIT])
     while k < n {
         starts[k] = p;
         let count = u16_at(t, p + 4);
-        p = reader::node_place(t, nodes_place(t, p), count, count);
+        p = reader::node_place(t, reader::nodes_place(t, p), count, count);
         k += 1;
     }
 }
@@ -147,7 +139,7 @@ fn node_sums(
     let row = ports::ports_of(t[p + 2]);
     let form = row.form;
     if ports::is_call(form) {
-        let g = position_of(t, starts, k, u16_at(t, p + 4));
+        let g = position_of(t, starts, k, reader::callee_at(t, p));
         if g < k {
             let callee = sums_at(ops, words, counts, sizes, g);
             Sums {
@@ -221,7 +213,7 @@ fn function_sums(
 {
     let p = starts[k];
     let n = u16_at(t, p + 4);
-    let first = nodes_place(t, p);
+    let first = reader::nodes_place(t, p);
     let total = nodes_sums(t, starts, k, ops, words, counts, sizes, first, n);
     ops[k] = total.operations as u32;
     words[k] = total.words as u32;

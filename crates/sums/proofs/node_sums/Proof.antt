@@ -5,9 +5,11 @@ use mathlib.Core.Bool.{true}
 use native.Mathlib.Omega.{arith}
 use lib.ListN.{length}
 use Rattle.base.specs.Bytes.{byte}
-use Rattle.ports.specs.Ports.{calling}
-use Rattle.reader.proofs.Passed.{head-fits, callee-fits}
-use Rattle.sums.proofs.Nodes.{called}
+use Rattle.ports.specs.Ports.{formOf, calling}
+use Rattle.ports.specs.declared.Form.the-variants.{Call}
+use Rattle.reader.specs.Layout.{kindAt}
+use Rattle.reader.proofs.Passed.{head-fits}
+use Rattle.reader.proofs.AsRead.{calling-call}
 use Rattle.sums.proofs.Summing.{called-sums, no-callee-sums, plain-sums}
 use Rattle.sums.proofs.node_sums.Statement.{statement}
 use Rattle.sums.proofs.node_sums.Tie as tie
@@ -31,13 +33,8 @@ head b = head-fits (b .args .t .now) (b .args .p) (b .pre .0 .1)
 calls : (c : tie.Then1) → calling (row-read c .ports-of .result .form) ≡ true
 calls c = sym (c .before .is-call .ensures) ∙ c .if1 .taken
 
-callee : (c : tie.Then1) → let a = start (row-read c) .args in a .p + 4 + 3 ≤ length (a .t .now)
-callee c =
-    let r = row-read c in
-    let b = start r in
-    let s = b .args .t .now in
-    let p = b .args .p in
-    callee-fits s p (b .pre .0 .1) (called s p (byte s (p + 2)) (r .ports-of .result) refl (r .ports-of .ensures) (calls c)) .0
+is-call : (c : tie.Then1) → let a = start (row-read c) .args in formOf (kindAt (a .t .now) (a .p)) ≡ Call
+is-call c = let r = row-read c in let a = start r .args in calling-call (a .t .now) (a .p) (r .ports-of .result) (r .ports-of .ensures) (calls c)
 
 returns : tie.Need-returns
 returns c =
@@ -48,7 +45,7 @@ returns c =
     let b = start r in
     let a = b .args in
     let s = a .t .now in
-    called-sums s (a .k) (a .p) (byte s (a .p + 2)) (r .ports-of .result) refl (r .ports-of .ensures) (calls h) (f .before .u16-at .result) (f .position-of .result) (f .before .u16-at .ensures .0)
+    called-sums s (a .k) (a .p) (byte s (a .p + 2)) (r .ports-of .result) refl (r .ports-of .ensures) (calls h) (f .before .callee-at .result) (f .position-of .result) (f .before .callee-at .ensures)
     (f .position-of .ensures) (b .pre .0 .0) (a .ops .now) (a .words .now) (a .counts .now) (a .sizes .now) (b .pre .1) (x .before .if2 .taken) (x .sums-at .result) (x .sums-at .ensures .0)
 
 returns-2 : tie.Need-returns-2
@@ -58,7 +55,7 @@ returns-2 c =
     let r = row-read h in
     let a = start r .args in
     let s = a .t .now in
-    no-callee-sums s (a .k) (a .p) (byte s (a .p + 2)) (r .ports-of .result) refl (r .ports-of .ensures) (calls h) (f .before .u16-at .result) (f .position-of .result) (f .before .u16-at .ensures .0)
+    no-callee-sums s (a .k) (a .p) (byte s (a .p + 2)) (r .ports-of .result) refl (r .ports-of .ensures) (calls h) (f .before .callee-at .result) (f .position-of .result) (f .before .callee-at .ensures)
     (f .position-of .ensures) (c .if2 .left)
 
 returns-3 : tie.Need-returns-3
@@ -79,8 +76,7 @@ node-sums-spec =
     (λ c. omega (arith, head (c .before .before)))
     (λ c κs. search needs)
     (λ c κs. search needs)
-    (λ c. omega (arith, callee c))
-    (λ c κs. omega (arith, callee c))
+    (λ c κs. (start (row-read c) .pre .0 .1, is-call c))
     (λ c κs. search needs)
     (λ c κs. search needs)
     (λ c. omega (arith, c .before .sums-at .ensures .1 .0))

@@ -2,10 +2,10 @@ use borrow.Author.Needs.{needs}
 use Prim.Native.Nat.{ℕ, _+_, _*_}
 use mathlib.Core.Path.{ap, _∙_}
 use native.Mathlib.Omega.{arith}
 use Rattle.reader.specs.Layout.{inputCount}
 use Rattle.reader.proofs.Passed.{Holds, function-holds}
-use Rattle.sums.proofs.nodes_place.Statement.{statement}
-use Rattle.sums.proofs.nodes_place.Tie as tie
+use Rattle.reader.proofs.lookup.nodes_place.Statement.{statement}
+use Rattle.reader.proofs.lookup.nodes_place.Tie as tie
 
 -- ---- places
 
@@ -15,14 +15,14 @@ start-of-inputs c = c .before .before .before
 abbrev inputs-of-outputs : tie.After-wide2 → tie.After-wide
 inputs-of-outputs c = c .before .before
 
-holds : (b : tie.Start) → Holds (b .args .t .now) (b .args .p)
-holds b = function-holds (b .args .t .now) (b .args .p) (b .pre)
+holds : (b : tie.Start) → Holds (b .args .s .now) (b .args .at)
+holds b = function-holds (b .args .s .now) (b .args .at) (b .pre)
 
 returns : tie.Need-returns
 returns c =
     let i = inputs-of-outputs c in
     let a = start-of-inputs i .args in
-    ap (λ (n : ℕ). a .p + 6 + n + 4 * c .wide2 .result) (i .wide .ensures .0) ∙ ap (λ (n : ℕ). a .p + 6 + inputCount (a .t .now) (a .p) + 4 * n) (c .wide2 .ensures .0)
+    ap (λ (n : ℕ). a .at + 6 + n + 4 * c .wide2 .result) (i .wide .ensures .0) ∙ ap (λ (n : ℕ). a .at + 6 + inputCount (a .s .now) (a .at) + 4 * n) (c .wide2 .ensures .0)
 
 pub nodes-place-spec : {M : Type 1} → statement M
 nodes-place-spec =
