@@ -1,4 +1,6 @@
--- The loop that lays the nodes of a function in their order.
+-- The loop that allocates the nodes of a function in their order. Its invariant says that what is left of the schedule, laid
+-- out from here on, gives the whole function's allocation; so a step is one node of `allocate`, and the end needs no
+-- induction. A node's locations are stored as numbers; Coding.antt says what these mean.
 use Prim.Native.Nat.{ℕ, zero, suc, _+_, _*_, _≤_, _<_}
 use mathlib.Core.Path.{_≡_, refl, sym, ap, _∙_, subst}
 use mathlib.Core.Bool.{Bool, true, false, cond}

@@ -1,4 +1,5 @@
--- Header, instructions and output words make the whole code.
+-- Header, instructions and output words make the whole code. The arguments' addresses in `ins`, padded with zeros, are the
+-- same at every port as those of the definition, and each output's location stands for the address that it has there.
 use Prim.Native.Nat.{ℕ, zero, suc, _+_, _*_, _≤_, _<_}
 use mathlib.Core.Path.{_≡_, refl, sym, ap, _∙_, subst}
 use mathlib.Core.List.{List, [], _∷_, _++_, map}

@@ -1,4 +1,5 @@
--- The locations of a sound function: inputs that it has, and offsets within its words.
+-- The locations of a sound function: inputs that it has, and offsets within its words. Types carry the argument: a value of
+-- a type lies at an input of that type, or with all its words among the function's; the bounds without types follow.
 use Prim.Native.Nat.{ℕ, zero, suc, _+_, _≤_, _<_}
 use mathlib.Core.Path.{_≡_, refl, ap, sym, subst}
 use mathlib.Core.Bool.{Bool, true, false, _||_, cond}

@@ -1,4 +1,5 @@
--- What the numbers of locations mean.
+-- What the numbers of locations mean. Below the port limit a number is an input, from it on an offset; each array the
+-- allocation fills is related to the list of locations it stands for, element by element, through `Codes`.
 use Prim.Native.Nat.{ℕ, zero, suc, _+_, _*_, _%_, _≤_, _<_}
 use mathlib.Core.Path.{_≡_, refl, sym, ap, _∙_, subst}
 use mathlib.Core.Bool.{Bool, true, false, cond}

@@ -1,4 +1,5 @@
--- The emitter's loop over the nodes of a function in their order.
+-- The emitter's loop over the nodes of a function in their order. The invariant holds the nodes that are left: their code,
+-- stored from here on, completes the whole function's. A step writes the code of the first of them.
 use Prim.Native.Nat.{ℕ, _+_, _-_, _*_, _%_, _≤_, _<_}
 use mathlib.Core.Path.{_≡_, refl, sym, ap, _∙_, subst}
 use mathlib.Core.List.{List, [], _∷_, _++_, map}

@@ -1,4 +1,6 @@
--- The locations found before a function is inlined are where its values stand once it is inlined.
+-- The locations found before a function is inlined are where its values stand once it is inlined. `Matches` relates what is
+-- written to what is located and is kept by every node; a callee's locations, rebased, are its caller's. So one table of
+-- locations serves a function however often it is called.
 use Prim.Native.Nat.{ℕ, _+_}
 use mathlib.Core.Path.{_≡_, refl, ap, sym, _∙_, subst}
 use mathlib.Core.Bool.{Bool, true, false, _||_, cond}

@@ -1,4 +1,5 @@
--- The code of a node that is no call.
+-- The code of a node that is no call: its kind and type bytes, the addresses of its operands, and its constants, which are
+-- the table's own bytes.
 use Prim.Native.Nat.{ℕ, zero, suc, _+_, _*_, _%_, _/_, _≤_, _<_}
 use mathlib.Core.Path.{_≡_, refl, sym, ap, _∙_}
 use mathlib.Core.Bool.{true, false}

@@ -1,4 +1,6 @@
--- The functions of a table are allocated one after another.
+-- The functions of a table are allocated one after another. A later function leaves what earlier ones stored, since each has
+-- its own stretch of every array. All references fit: one takes three bytes of the table, and a node has at most sixteen and
+-- four bytes besides.
 use Prim.Native.Nat.{ℕ, zero, suc, _+_, _-_, _*_, _≤_, _<_}
 use mathlib.Core.Path.{_≡_, refl, sym, ap, _∙_, subst}
 use mathlib.Core.Bool.{Bool, true, false}
