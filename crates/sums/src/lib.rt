@@ -237,6 +237,7 @@ pub fn all_sums(
         × (now (words .exit) ≡ sets (now (words .entry)) 0 (tabulate (cappedWords (now (t .entry))) n))
         × (now (counts .exit) ≡ sets (now (counts .entry)) 0 (tabulate (cappedInstructions (now (t .entry))) n))
         × (now (sizes .exit) ≡ sets (now (sizes .entry)) 0 (tabulate (cappedBytes (now (t .entry))) n)) ⌝ }
+    ensures { λ _. ⌜ AllSummed (now (t .entry)) (now (ops .exit)) (now (words .exit)) (now (counts .exit)) (now (sizes .exit)) n ⌝ }
 {
     let mut k = 0;
     while k < n {

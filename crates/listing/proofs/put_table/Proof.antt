@@ -6,7 +6,6 @@ use lib.ListN.{length-replicate}
 use Rattle.base.specs.Limits.{functionLimit}
 use Rattle.base.specs.Bytes.{Bytes}
 use Rattle.sums.proofs.Accepted.{few-functions, all-read}
-use Rattle.sums.proofs.Tabulate.{summed-in}
 use Rattle.listing.proofs.put_table.Statement.{statement}
 use Rattle.listing.proofs.put_table.Tie as tie
 
@@ -55,9 +54,7 @@ put-functions-requires c κs =
         record { functions = b .args .count; judged = b .pre .0; most = omega arith; small = small (lent f) },
         f .find-starts .ensures .1,
       ),
-      summed-in (b .args .table .now) _ _ _ _ _ _ _ _ (b .args .count) (x .all-sums .ensures)
-          (length-replicate {A = ℕ} functionLimit 0, length-replicate {A = ℕ} functionLimit 0, length-replicate {A = ℕ} functionLimit 0, length-replicate {A = ℕ} functionLimit 0)
-          (few (lent f)),
+      x .all-sums .ensures .1,
     )
 
 pub put-table-spec : {M : Type 1} → statement M

@@ -45,11 +45,14 @@ loop-again c =
 
 returns : tie.Need-returns Inv-loop μ-loop
 returns c =
-    let b = c .before .before in
-    let i = c .before .loop .inv .0 in
+    let l = c .before .loop in
+    let b = start (c .before) in
+    let a = b .args in
+    let i = l .inv .0 in
     let e = c .loop-test .left in
-    let z : c .before .loop .k ≡ b .before .args .n = omega arith in
-    rw z at (c .before .loop .inv .1)
+    let z : l .k ≡ a .n = omega arith in
+    let h = rw z at (l .inv .1) in
+    (h, summed-in (a .t .now) (a .ops .now) (a .words .now) (a .counts .now) (a .sizes .now) (l .ops) (l .words) (l .counts) (l .sizes) (a .n) h (b .pre .1) (b .pre .0 .0))
 
 pub all-sums-spec : {M : Type 1} → statement M
 all-sums-spec =

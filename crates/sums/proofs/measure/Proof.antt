@@ -4,9 +4,8 @@ use native.Mathlib.Omega.{arith}
 use lib.ListN.{length-replicate}
 use Rattle.base.specs.Limits.{functionLimit}
 use Rattle.sums.specs.declared.Sums.{Sums}
-use Rattle.sums.specs.Capped.{AllSummed}
 use Rattle.sums.proofs.Accepted.{few}
-use Rattle.sums.proofs.Tabulate.{summed-in, fewer-starts}
+use Rattle.sums.proofs.Tabulate.{fewer-starts}
 use Rattle.sums.proofs.measure.Statement.{statement}
 use Rattle.sums.proofs.measure.Tie as tie
 
@@ -36,25 +35,16 @@ all-sums-requires c κs =
       (length-replicate {A = ℕ} functionLimit 0, b .pre .2, length-replicate {A = ℕ} functionLimit 0, length-replicate {A = ℕ} functionLimit 0),
     )
 
--- the sums of the functions up to k
-sums : (c : tie.After-all-sums) → let b = start (c .before) in
-    AllSummed (b .args .t .now) (c .all-sums .last .1 .1 .1 .0) (c .all-sums .last .1 .1 .1 .1 .0) (c .all-sums .last .1 .1 .1 .1 .1 .0) (c .all-sums .last .1 .1 .1 .1 .1 .1 .0) (b .args .k + 1)
-sums c =
-    let b = start (c .before) in
-    let l = below b in
-    summed-in (b .args .t .now) _ _ _ _ _ _ _ _ (b .args .k + 1) (c .all-sums .ensures)
-    (length-replicate {A = ℕ} functionLimit 0, b .pre .2, length-replicate {A = ℕ} functionLimit 0, length-replicate {A = ℕ} functionLimit 0) (omega arith)
-
 sizes-at-requires : tie.Need-sizes-at-requires
 sizes-at-requires c κs =
     let x = summed c in
     let b = start (x .before) in
-    (b .pre .0, b .pre .1 .places (b .args .k) (omega arith), sums x (b .args .k) (omega arith))
+    (b .pre .0, b .pre .1 .places (b .args .k) (omega arith), x .all-sums .ensures .1 (b .args .k) (omega arith))
 
 returns : tie.Need-returns
 returns c =
     let x = summed (c .before) in
-    (c .sizes-at .ensures, (λ g h. ap (λ (y : Sums). y .words) (sums x g (omega arith))))
+    (c .sizes-at .ensures, (λ g h. ap (λ (y : Sums). y .words) (x .all-sums .ensures .1 g (omega arith))))
 
 pub measure-spec : {M : Type 1} → statement M
 measure-spec = tie.close (tie.spec add-all-sums all-sums-requires sizes-at-requires returns)
