@@ -21,6 +21,15 @@ pub then : (l : List ℕ) {m n : List ℕ} (at : ℕ) (xs ys : List ℕ) → m �
 then l {m} at xs ys p q =
     q ∙ ap (λ (k : List ℕ). sets k (at + length xs) ys) p ∙ sym (sets-append xs ys l at)
 
+-- so are three, and four
+pub then-three : (l : List ℕ) {m n o : List ℕ} (at : ℕ) (xs ys zs : List ℕ) → m ≡ sets l at xs → n ≡ sets m (at + length xs) ys
+    → o ≡ sets n (at + length (xs ++ ys)) zs → o ≡ sets l at (xs ++ ys ++ zs)
+then-three l at xs ys zs p q r = then l at (xs ++ ys) zs (then l at xs ys p q) r
+
+pub then-four : (l : List ℕ) {m n o k : List ℕ} (at : ℕ) (ws xs ys zs : List ℕ) → m ≡ sets l at ws → n ≡ sets m (at + length ws) xs
+    → o ≡ sets n (at + length (ws ++ xs)) ys → k ≡ sets o (at + length (ws ++ xs ++ ys)) zs → k ≡ sets l at (ws ++ xs ++ ys ++ zs)
+then-four l at ws xs ys zs p q r s = then l at (ws ++ xs ++ ys) zs (then-three l at ws xs ys p q r) s
+
 -- what stands outside a run stays
 pub sets-below : (xs l : List ℕ) (i q : ℕ) → q < i → getD (sets l i xs) q 0 ≡ getD l q 0
 sets-below [] l i q h = refl

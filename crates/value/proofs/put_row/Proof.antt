@@ -1,19 +1,24 @@
 -- `value::put_row`, word by word.
 use borrow.Author.Needs.{needs}
-use mathlib.Core.List.{[], _∷_, _++_}
+use mathlib.Core.List.{[], _∷_}
 use denote.Ref.{now}
 use Rattle.value.specs.Values.{word}
-use Rattle.base.proofs.Stores.{then}
+use Rattle.base.proofs.Stores.{then-four}
 use Rattle.value.proofs.put_row.Statement.{statement}
 use Rattle.value.proofs.put_row.Tie as tie
 
 returns : tie.Need-returns
 returns c =
-    let a = c .before .before .before .before .before .before .before .before .before .before .before .before .before .before .before .before .before .args in
-    let l = now (a .m) in
-    let p1 = then l (a .at) ((word (a .v .c0) ∷ [])) ((word (a .v .c1) ∷ [])) (c .before .before .before .before .before .before .before .before .before .before .before .before .before .before .put .ensures) (c .before .before .before .before .before .before .before .before .before .before .put2 .ensures) in
-    let p2 = then l (a .at) ((word (a .v .c0) ∷ []) ++ (word (a .v .c1) ∷ [])) ((word (a .v .c2) ∷ [])) (p1) (c .before .before .before .before .before .before .put3 .ensures) in
-    then l (a .at) ((word (a .v .c0) ∷ []) ++ (word (a .v .c1) ∷ []) ++ (word (a .v .c2) ∷ [])) ((word (a .v .c3) ∷ [])) (p2) (c .before .before .put4 .ensures)
+    let fourth = c .before .before in
+    let before-fourth = fourth .before .before in
+    let third = before-fourth .before .before in
+    let before-third = third .before .before in
+    let second = before-third .before .before in
+    let before-second = second .before .before in
+    let first = before-second .before .before in
+    let a = first .before .before .before .args in
+    then-four (now (a .m)) (a .at) (word (a .v .c0) ∷ []) (word (a .v .c1) ∷ []) (word (a .v .c2) ∷ []) (word (a .v .c3) ∷ [])
+    (first .put .ensures) (second .put2 .ensures) (third .put3 .ensures) (fourth .put4 .ensures)
 
 pub put-row-spec : {M : Type 1} → statement M
 put-row-spec =

@@ -16,13 +16,13 @@ put-mat-requires : tie.Need-put-mat-requires
 put-mat-requires c κs = omega (arith, ap size (c .before .before .v3 .given .1))
 
 returns : tie.Need-returns
-returns c = rw (c .before .before .before .before .before .v .given .1) (c .before .before .put .ensures)
+returns c = let stored = c .before .before in rw (stored .before .before .before .v .given .1) (stored .put .ensures)
 
 returns-2 : tie.Need-returns-2
-returns-2 c = rw (c .before .before .before .before .before .v2 .given .1) (c .before .before .put-vec .ensures)
+returns-2 c = let stored = c .before .before in rw (stored .before .before .before .v2 .given .1) (stored .put-vec .ensures)
 
 returns-3 : tie.Need-returns-3
-returns-3 c = rw (c .before .before .before .before .before .v3 .given .1) (c .before .before .put-mat .ensures)
+returns-3 c = let stored = c .before .before in rw (stored .before .before .before .v3 .given .1) (stored .put-mat .ensures)
 
 pub put-value-spec : {M : Type 1} → statement M
 put-value-spec =

@@ -1,18 +1,22 @@
 -- `value::put_vec`, word by word.
 use borrow.Author.Needs.{needs}
-use mathlib.Core.List.{[], _∷_, _++_}
+use mathlib.Core.List.{[], _∷_}
 use denote.Ref.{now}
 use Rattle.value.specs.Values.{word}
-use Rattle.base.proofs.Stores.{then}
+use Rattle.base.proofs.Stores.{then-three}
 use Rattle.value.proofs.put_vec.Statement.{statement}
 use Rattle.value.proofs.put_vec.Tie as tie
 
 returns : tie.Need-returns
 returns c =
-    let a = c .before .before .before .before .before .before .before .before .before .before .before .before .before .args in
-    let l = now (a .m) in
-    let p1 = then l (a .at) ((word (a .v .x) ∷ [])) ((word (a .v .y) ∷ [])) (c .before .before .before .before .before .before .before .before .before .before .put .ensures) (c .before .before .before .before .before .before .put2 .ensures) in
-    then l (a .at) ((word (a .v .x) ∷ []) ++ (word (a .v .y) ∷ [])) ((word (a .v .z) ∷ [])) (p1) (c .before .before .put3 .ensures)
+    let third = c .before .before in
+    let before-third = third .before .before in
+    let second = before-third .before .before in
+    let before-second = second .before .before in
+    let first = before-second .before .before in
+    let a = first .before .before .before .args in
+    then-three (now (a .m)) (a .at) (word (a .v .x) ∷ []) (word (a .v .y) ∷ []) (word (a .v .z) ∷ [])
+    (first .put .ensures) (second .put2 .ensures) (third .put3 .ensures)
 
 pub put-vec-spec : {M : Type 1} → statement M
 put-vec-spec =
