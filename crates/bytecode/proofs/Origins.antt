@@ -1,7 +1,7 @@
 -- Two lists whose instructions read words of the same origins give the same outputs.
 use Prim.Native.Nat.{ℕ, zero, suc, _+_, _-_, _≤_, _<_}
 use mathlib.Core.Path.{_≡_, refl, ap, ap₂, sym, _∙_, subst}
-use mathlib.Core.Bool.{Bool, true, false, _&&_, cond}
+use mathlib.Core.Bool.{Bool, true, false, _&&_, _||_, cond}
 use mathlib.Core.List.{List, [], _∷_, _++_, map}
 use mathlib.Core.Option.{Option, none, some}
 use mathlib.Core.Logic.{_⊎_, inl, inr, ⊎-elim}
@@ -10,17 +10,18 @@ use native.Mathlib.Nat.{add-zero, add-suc, suc-add}
 use lib.Dec.{eqb, leb, ltb}
 use lib.ListN.{length, getD, set, getElem?, replicate, take, drop, length-append, length-set, length-replicate, getD-replicate, length-map, List·getD-append}
 use lib.Seq.{sets, length-sets, getD-set-same, getD-set-other, take-at, drop-at, getD-append-add}
-use borrow.Author.Tests.{ltb-true, ltb-false, leb-true}
+use borrow.Author.Tests.{eqb-true, ne-eqb, ltb-true, ltb-false, leb-true}
 use Rattle.value.specs.declared.Value.{Value}
-use Rattle.ports.specs.Kinds.{Kind, unknown, addition, subtraction, multiplication, division, constant, constvec, constmat, composevector, vectorfromscalar, decomposevector, composematrix, matrixfromcolumns, matrixfromrows, dot, cross, matvecmultiplication, transpose, min, max, abs, fmod, select, clamp, call, kindOf}
-use Rattle.ports.specs.Ports.{width, widths, portsOf, takes, gives, formOf, executable, typeFits, legalInstruction}
+use Rattle.ports.specs.Kinds.{Kind, kindOf}
+use Rattle.ports.specs.Ports.{width, widths, isType, portsOf, own, types, takes, gives, formOf, executable, typeFits, legalInstruction}
+use Rattle.ports.proofs.Table.{every-kind}
 use Rattle.value.specs.Values.{allWords, valueAt, valueOf, valuesOf}
 use Rattle.base.specs.Lists.{wordAt, span, wordsAt, Each}
 use Rattle.value.specs.Typed.{TypeCode, Typed}
 use Rattle.value.specs.Results.{results}
 use Rattle.value.proofs.Laws as Laws
 use Rattle.value.proofs.Laws.{values-typed, typed-widths, results-typed}
-use Rattle.base.proofs.Bools.{and-inv}
+use Rattle.base.proofs.Bools.{and-inv, or-inv}
 use Rattle.bytecode.specs.Run.{Instruction, BoardList, valuesAt, given, execute, executeAll, Ran, run, spans}
 use Rattle.bytecode.specs.Origin.{Origin, unwritten, argument, result, Known, originAt, operandPlaces, resultWidth, made, origins, after, start, Reading, readings, final, Numbered, finalOf, Carry, Carries, Roomy}
 
@@ -85,44 +86,41 @@ given-words i m l = ap (results (kindOf (i .kind)) (i .constants)) (values-cut m
 
 -- ---- how many words an instruction gives
 
-one-code : TypeCode 1
-one-code = (omega arith, omega arith)
-
-two-code : TypeCode 2
-two-code = (omega arith, omega arith)
-
-three-code : TypeCode 3
-three-code = (omega arith, omega arith)
-
-code : (t : ℕ) → leb 1 t && leb t 3 ≡ true → TypeCode t
+code : (t : ℕ) → isType t ≡ true → TypeCode t
 code t e = let (a, b) = and-inv (leb 1 t) (leb t 3) e in (leb-true 1 t a, leb-true t 3 b)
 
+-- the types of a kind's operands: T, T, .. where it has T, and types otherwise
+abbrev operandTypes : Bool → ℕ → ℕ → ℕ → Bool
+operandTypes true n p q = eqb p 0 && eqb q 0
+operandTypes false n p q = eqb n 0 || (isType p && isType q)
+
+each-type : (n a b : ℕ) → TypeCode a → TypeCode b → Each TypeCode (types n a b)
+each-type zero a b p q = tt
+each-type (suc n) a b p q = (p, each-same n)
+  where
+    each-same : (n : ℕ) → Each TypeCode (replicate n b)
+    each-same zero = tt
+    each-same (suc n) = (q, each-same n)
+
+own-type : (t p : ℕ) → isType p ≡ true → TypeCode (own t p)
+own-type t p e =
+    let c = code p e in
+    let some : p ≡ 0 → ⊥ = λ q. omega arith in
+    rw (ne-eqb p 0 some) c
+
+codes-by : (b : Bool) (n p q t : ℕ) → operandTypes b n p q ≡ true → cond b (isType t) (eqb t 0) ≡ true → Each TypeCode (types n (own t p) (own t q))
+codes-by true n p q t e h =
+    let (x, y) = and-inv (eqb p 0) (eqb q 0) e in
+    rw (eqb-true p 0 x, eqb-true q 0 y) (each-type n t t (code t h) (code t h))
+codes-by false n p q t e h = ⊎-elim
+    (λ z. rw (eqb-true n 0 z) tt)
+    (λ z. let (x, y) = and-inv (isType p) (isType q) z in each-type n (own t p) (own t q) (own-type t p x) (own-type t q y))
+    (or-inv (eqb n 0) (isType p && isType q) e)
+
 pub takes-codes : (k : Kind) (t : ℕ) → typeFits (portsOf k) t ≡ true → Each TypeCode (takes k t)
-takes-codes unknown t e = tt
-takes-codes addition t e = let c = code t e in (c, (c, tt))
-takes-codes subtraction t e = let c = code t e in (c, (c, tt))
-takes-codes multiplication t e = let c = code t e in (c, (c, tt))
-takes-codes division t e = let c = code t e in (c, (c, tt))
-takes-codes constant t e = tt
-takes-codes constvec t e = tt
-takes-codes constmat t e = tt
-takes-codes composevector t e = (one-code, (one-code, (one-code, tt)))
-takes-codes vectorfromscalar t e = (one-code, tt)
-takes-codes decomposevector t e = (two-code, tt)
-takes-codes composematrix t e = (one-code, (one-code, (one-code, (one-code, (one-code, (one-code, (one-code, (one-code, (one-code, (one-code, (one-code, (one-code, (one-code, (one-code, (one-code, (one-code, tt))))))))))))))))
-takes-codes matrixfromcolumns t e = (two-code, (two-code, (two-code, (two-code, tt))))
-takes-codes matrixfromrows t e = (two-code, (two-code, (two-code, (two-code, tt))))
-takes-codes dot t e = (two-code, (two-code, tt))
-takes-codes cross t e = (two-code, (two-code, tt))
-takes-codes matvecmultiplication t e = (three-code, (two-code, tt))
-takes-codes transpose t e = (three-code, tt)
-takes-codes min t e = let c = code t e in (c, (c, tt))
-takes-codes max t e = let c = code t e in (c, (c, tt))
-takes-codes abs t e = let c = code t e in (c, tt)
-takes-codes fmod t e = let c = code t e in (c, (c, tt))
-takes-codes select t e = let c = code t e in (c, (c, (c, (c, tt))))
-takes-codes clamp t e = let c = code t e in (c, (c, (c, tt)))
-takes-codes call t e = tt
+takes-codes k t e =
+    let r = portsOf k in
+    codes-by (r .typed) (r .operands) (r .first) (r .rest) t (every-kind (λ k. let r = portsOf k in operandTypes (r .typed) (r .operands) (r .first) (r .rest)) refl k) e
 
 given-width : (words : ℕ) (i : Instruction) (ws : List ℕ) → Roomy words i → length (allWords (fromWords i ws)) ≡ resultWidth i
 given-width words i ws r =
