@@ -1,13 +1,13 @@
 -- The check of all instructions, and of the whole code.
 use Prim.Native.Nat.{ℕ, zero, suc, _+_, _-_, _*_, _≤_, _<_}
-use mathlib.Core.Path.{_≡_, refl, ap, sym, _∙_, subst}
-use mathlib.Core.Bool.{Bool, true, false, _&&_, cond}
-use mathlib.Core.List.{List, [], _∷_}
+use mathlib.Core.Path.{_≡_, refl, ap, sym, _∙_}
+use mathlib.Core.Bool.{Bool, true, false, _&&_}
+use mathlib.Core.List.{List, _∷_}
 use mathlib.Core.Option.{Option, none, some}
 use native.Mathlib.Omega.{arith}
 use native.Mathlib.Numerals.{sub-one}
 use borrow.Author.Tests.{le-leb, lt-leb, eq-eqb, ne-eqb}
-use lib.Dec.{leb, ltb, eqb}
+use lib.Dec.{leb, eqb}
 use lib.ListN.{length}
 use Rattle.ports.specs.declared.Ports.{Ports}
 use Rattle.ports.specs.Kinds.{kindOf}
@@ -16,16 +16,13 @@ use Rattle.ports.proofs.Laws.{no-kind, words-few}
 use Rattle.base.specs.Bytes.{byte, u16}
 use Rattle.base.specs.Outcome.{Part}
 use Rattle.bytecode.specs.Run.{Instruction, BoardList}
-use Rattle.bytecode.specs.Code.{guard, then, addresses, allLess, readInstruction, nextWord, Listed, readInstructions, readOutputs, withinLimits, readCounts, marked, decode}
+use Rattle.bytecode.specs.Code.{guard, then, addresses, allLess, readInstruction, nextWord, Listed, readInstructions, readOutputs, countsFit, readCounts, marked, decode}
 use Rattle.base.proofs.Lists.{some-is}
 use Rattle.bytecode.proofs.Decoded.{then-inv, addresses-length}
 use Rattle.runner.specs.declared.Next.{Next}
 use Rattle.executor.specs.Execution.{endOf, wordsGiven}
-use Rattle.executor.proofs.Loop.{Read, read-inv}
-use Rattle.runner.specs.declared.Progress.{Progress}
+use Rattle.executor.proofs.Loop.{read-inv}
 use Rattle.runner.specs.declared.Progress.the-variants.{Passed, Refused}
-use Rattle.runner.specs.declared.Counts.{Counts}
-use Rattle.runner.specs.declared.Checked.{Checked}
 use Rattle.runner.specs.declared.Checked.the-variants.{Formed, Malformed}
 use Rattle.runner.specs.Checks.{passedOf, endedOf, checkedOf, headerCounts}
 
@@ -178,10 +175,10 @@ module _ (s : List ℕ) where
       unfolding decode
       read = on-check _ (le-leb 12 (length s) long) ∙ on-check _ mark
 
-      pub over-limits : withinLimits (byte s 5) (byte s 6) (u16 s 8) (u16 s 10) ≡ false → Malformed ≡ checkedOf (decode s)
+      pub over-limits : countsFit (byte s 5) (byte s 6) (u16 s 8) (u16 s 10) ≡ false → Malformed ≡ checkedOf (decode s)
       over-limits e = sym (read ∙ off-check _ e)
 
-      module _ (limits : withinLimits (byte s 5) (byte s 6) (u16 s 8) (u16 s 10) ≡ true) where
+      module _ (limits : countsFit (byte s 5) (byte s 6) (u16 s 8) (u16 s 10) ≡ true) where
         opened : checkedOf (decode s) ≡ checkedOf (then (readInstructions (u16 s 8) s 12 (byte s 5)) (readOutputs s (byte s 5) (byte s 6) (u16 s 10)))
         opened = read ∙ on-check _ limits
 
