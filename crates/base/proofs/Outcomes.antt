@@ -101,11 +101,6 @@ module _ {B : Type 0} where
   pub no-fault : (b : B) (n p : ℕ) → ok b ≡ fault n p → ⊥
   no-fault b n p e = let z : _≡_ {A = ℕ} 0 1 = cc in omega arith
 
-pub needed-fault : (t : Bool) (m q n p : ℕ) → need t m q ≡ fault n p → (t ≡ false) × (m ≡ n) × (q ≡ p)
-unfolding need
-needed-fault true m q n p e = let z : _≡_ {A = ℕ} 0 1 = cc in absurd (omega arith)
-needed-fault false m q n p e = (refl, cc, cc)
-
 module _ {A B C : Type 0} where
   pub then-then : (g : Outcome A) (h : Outcome B) (k : Outcome C) → (g >> h >> k) ≡ (g >> (h >> k))
   unfolding _>>_

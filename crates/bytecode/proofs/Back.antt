@@ -141,9 +141,6 @@ module _ (s : List ℕ) where
 
 -- ---- the whole
 
-header-length : (a o c w : ℕ) → length (headerCode a o c w) ≡ 12
-header-length a o c w = refl
-
 outputs-read : (s : List ℕ) (b : BoardList) (at : ℕ) → FitList b → Here s at (allBytes 2 (b .outputs)) → at + 2 * length (b .outputs) ≡ length s
     → readOutputs s (b .arguments) (length (b .outputs)) (b .words) (record { instructions = b .instructions; at = at; words = b .words }) ≡ some b
 outputs-read s b at f h e =

@@ -15,7 +15,7 @@ use Rattle.ports.proofs.Laws.{length-takes}
 use Rattle.ports.proofs.Table.{every-kind}
 use Rattle.bytecode.specs.Run.{Instruction, BoardList}
 use Rattle.bytecode.specs.Code.{instructionCode, instructionsCode, headerCode, nextWord, encode}
-use Rattle.bytecode.specs.WellFormed.{Fit, AllFit, FitList}
+use Rattle.bytecode.specs.WellFormed.{AllFit, FitList}
 use Rattle.bytecode.proofs.Back.{below-length, instruction-length}
 
 -- composematrix has the most references, constmat the longest constant

@@ -1,29 +1,22 @@
 -- The arms of a `match` on the kind: what the code of a kind asks and gives, and which kind the last arm has.
-use Prim.Native.Nat.{ℕ, zero, suc, _+_, _*_, _≤_, _<_}
-use mathlib.Core.Path.{_≡_, refl, ap, sym, _∙_, subst}
+use Prim.Native.Nat.{ℕ, _+_, _≤_, _<_}
+use mathlib.Core.Path.{_≡_, refl, ap, sym, subst}
 use mathlib.Core.Bool.{Bool, true, false, not, _&&_, _||_, cond}
 use mathlib.Core.List.{List, [], _∷_}
 use native.Mathlib.Omega.{arith}
 use borrow.Author.Tests.{eqb-true, leb-true, leb-false}
 use lib.Dec.{eqb, leb}
 use lib.ListN.{length, replicate}
-use lib.Seq.{sets}
 use Rattle.ports.specs.Kinds.{kindOf}
 use Rattle.ports.specs.declared.Ports.{Ports}
-use Rattle.ports.specs.Ports.{width, takes, arity, constantWords, isType, typeFits, portsOf, executable, legalInstruction}
+use Rattle.ports.specs.Ports.{width, takes, arity, isType, typeFits, portsOf, executable, legalInstruction}
 use Rattle.ports.proofs.Laws.{no-kind}
 use Rattle.ports.proofs.Table.{upto, upto-at, NoneOf, anyOf, last-of}
-use Rattle.value.specs.declared.Value.{Value}
 use Rattle.value.specs.declared.Operator.{Operator}
-use Rattle.value.specs.Values.{allWords}
-use Rattle.value.specs.Results.{each, results}
-use Rattle.base.specs.Bytes.{constants}
 use Rattle.base.specs.Limits.{kindLimit}
 use Rattle.base.proofs.Bools.{and-inv}
-use Rattle.bytecode.specs.Run.{valuesAt, execute}
+use Rattle.bytecode.specs.Run.{execute}
 use Rattle.bytecode.specs.Code.{addresses}
-use Rattle.bytecode.specs.WellFormed.{Below}
-use Rattle.bytecode.proofs.Decoded.{addresses-length}
 use Rattle.executor.specs.declared.Extent.{Extent}
 use Rattle.executor.specs.Execution.{instructionAt, endOf, codeBytes, wordsGiven, kindFor, AllLoadable, Ready, Executable, Operands, Executed}
 use Rattle.executor.proofs.Stored.{carried}
