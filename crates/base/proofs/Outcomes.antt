@@ -1,11 +1,12 @@
 -- Steps that were taken, tests that passed.
-use Prim.Native.Nat.{ℕ, zero, suc}
-use mathlib.Core.Path.{_≡_, refl, ap, sym, _∙_, subst}
+use Prim.Native.Nat.{ℕ}
+use mathlib.Core.Path.{_≡_, refl, ap, sym, subst}
 use mathlib.Core.Bool.{Bool, true, false}
 use mathlib.Core.List.{List, [], _∷_}
+use mathlib.Core.Option.{Option, none, some}
 use mathlib.Core.Logic.{_⊎_, inl, inr}
 use native.Mathlib.Omega.{arith}
-use Rattle.base.specs.Outcome.{Outcome, ok, fault, _>>=_, _>>_, need, each}
+use Rattle.base.specs.Outcome.{Outcome, ok, fault, _>>=_, _>>_, need, each, orElse}
 use Rattle.base.specs.Lists.{Is, Each}
 
 module _ {A B : Type 0} where
@@ -100,13 +101,18 @@ module _ {B : Type 0} where
   pub no-fault : (b : B) (n p : ℕ) → ok b ≡ fault n p → ⊥
   no-fault b n p e = let z : _≡_ {A = ℕ} 0 1 = cc in omega arith
 
-pub needed-fault : (t : Bool) (m q n p : ℕ) → need t m q ≡ fault n p → (t ≡ false) × (m ≡ n) × (q ≡ p)
-unfolding need
-needed-fault true m q n p e = let z : _≡_ {A = ℕ} 0 1 = cc in absurd (omega arith)
-needed-fault false m q n p e = (refl, cc, cc)
-
 module _ {A B C : Type 0} where
   pub then-then : (g : Outcome A) (h : Outcome B) (k : Outcome C) → (g >> h >> k) ≡ (g >> (h >> k))
   unfolding _>>_
   then-then (ok a) h k = refl
   then-then (fault n p) h k = refl
+
+-- ---- what is there, or a fault
+
+module _ {A : Type 0} where
+  pub some-else : {o : Option A} {a : A} (n p : ℕ) → o ≡ some a → orElse o n p ≡ ok a
+  some-else n p e = ap (λ o. orElse o n p) e
+
+  pub else-some : (o : Option A) (n p : ℕ) (a : A) → orElse o n p ≡ ok a → o ≡ some a
+  else-some none n p a e = let z : _≡_ {A = ℕ} 0 1 = cc in absurd (omega arith)
+  else-some (some b) n p a e = (cc)

@@ -1,12 +1,12 @@
 -- Bytes that stand in a list at a place, and the numbers that they are.
-use Prim.Native.Nat.{ℕ, zero, suc, _+_, _*_, _/_, _%_, _^_, _≤_, _<_}
+use Prim.Native.Nat.{ℕ, zero, suc, _+_, _*_, _/_, _%_, _^_, _<_}
 use mathlib.Core.Path.{_≡_, refl, ap, sym, _∙_, subst}
 use mathlib.Core.List.{List, [], _∷_, _++_}
 use native.Mathlib.Omega.{arith}
 use native.Mathlib.Nat.{pow-succ', mul-suc, add-zero, add-suc, suc-add}
 use native.Mathlib.Numerals.{add-one}
 use lib.ListN.{length, length-append}
-use Rattle.base.specs.Lists.{wordAt, wordsAt, Word, Each}
+use Rattle.base.specs.Lists.{wordsAt, Word, Each}
 use Rattle.base.proofs.Lists.{whole}
 use Rattle.base.specs.Bytes.{byte, u16, u64, Bytes, bytesOf, allBytes, constants}
 

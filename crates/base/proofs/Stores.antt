@@ -3,9 +3,9 @@ use Prim.Native.Nat.{ℕ, zero, suc, _+_, _≤_, _<_}
 use mathlib.Core.Path.{_≡_, refl, sym, ap, _∙_}
 use mathlib.Core.List.{List, [], _∷_, _++_}
 use native.Mathlib.Omega.{arith}
-use native.Mathlib.Nat.{add-zero}
-use lib.ListN.{length, getD, set, length-set}
-use lib.Seq.{sets, set-comm, getD-set-same, getD-set-other}
+use native.Mathlib.Nat.{add-zero, add-suc, suc-add}
+use lib.ListN.{length, getD, set, take, drop, length-set}
+use lib.Seq.{sets, sets-eq, set-comm, take-at, getD-set-same, getD-set-other}
 use Rattle.base.specs.Lists.{wordsAt}
 use Rattle.base.proofs.Stands.{cons}
 
@@ -21,23 +21,44 @@ pub then : (l : List ℕ) {m n : List ℕ} (at : ℕ) (xs ys : List ℕ) → m �
 then l {m} at xs ys p q =
     q ∙ ap (λ (k : List ℕ). sets k (at + length xs) ys) p ∙ sym (sets-append xs ys l at)
 
--- what stands outside a run stays
+-- so are three, and four
+pub then-three : (l : List ℕ) {m n o : List ℕ} (at : ℕ) (xs ys zs : List ℕ) → m ≡ sets l at xs → n ≡ sets m (at + length xs) ys
+    → o ≡ sets n (at + length (xs ++ ys)) zs → o ≡ sets l at (xs ++ ys ++ zs)
+then-three l at xs ys zs p q r = then l at (xs ++ ys) zs (then l at xs ys p q) r
+
+pub then-four : (l : List ℕ) {m n o k : List ℕ} (at : ℕ) (ws xs ys zs : List ℕ) → m ≡ sets l at ws → n ≡ sets m (at + length ws) xs
+    → o ≡ sets n (at + length (ws ++ xs)) ys → k ≡ sets o (at + length (ws ++ xs ++ ys)) zs → k ≡ sets l at (ws ++ xs ++ ys ++ zs)
+then-four l at ws xs ys zs p q r s = then l at (ws ++ xs ++ ys) zs (then-three l at ws xs ys p q r) s
+
+module _ {A : Type 0} (d : A) where
+  -- what stands outside a run stays
+  pub stored-below : (ws m : List A) (at i : ℕ) → i < at → getD (sets m at ws) i d ≡ getD m i d
+  stored-below [] m at i h = refl
+  stored-below (w ∷ ws) m at i h = stored-below ws (set m at w) (suc at) i (omega arith) ∙ getD-set-other m at i w d (λ e. omega arith)
+
+  pub stored-above : (ws m : List A) (at i : ℕ) → at + length ws ≤ i → getD (sets m at ws) i d ≡ getD m i d
+  stored-above [] m at i h = refl
+  stored-above (w ∷ ws) m at i h = stored-above ws (set m at w) (suc at) i (omega arith) ∙ getD-set-other m at i w d (λ e. omega arith)
+
+  -- and in it stands the run
+  pub stored-in : (ws m : List A) (at j : ℕ) → at + length ws ≤ length m → j < length ws → getD (sets m at ws) (at + j) d ≡ getD ws j d
+  stored-in [] m at j r h = absurd (omega arith)
+  stored-in (w ∷ ws) m at zero r h =
+      ap (λ (i : ℕ). getD (sets (set m at w) (suc at) ws) i d) (add-zero at)
+      ∙ stored-below ws (set m at w) (suc at) at (omega arith)
+      ∙ getD-set-same m at w d (omega arith)
+  stored-in (w ∷ ws) m at (suc j) r h =
+      let l : length (set m at w) ≡ length m = length-set m at w in
+      ap (λ (i : ℕ). getD (sets (set m at w) (suc at) ws) i d) (add-suc at j ∙ sym (suc-add at j)) ∙ stored-in ws (set m at w) (suc at) j (omega arith) (omega arith)
+
 pub sets-below : (xs l : List ℕ) (i q : ℕ) → q < i → getD (sets l i xs) q 0 ≡ getD l q 0
-sets-below [] l i q h = refl
-sets-below (a ∷ xs) l i q h = sets-below xs (set l i a) (suc i) q (omega arith) ∙ getD-set-other l i q a 0 (λ e. omega arith)
+sets-below = stored-below 0
 
 pub sets-above : (xs l : List ℕ) (i q : ℕ) → i + length xs ≤ q → getD (sets l i xs) q 0 ≡ getD l q 0
-sets-above [] l i q h = refl
-sets-above (a ∷ xs) l i q h = sets-above xs (set l i a) (suc i) q (omega arith) ∙ getD-set-other l i q a 0 (λ e. omega arith)
+sets-above = stored-above 0
 
--- and in it stands the run
 pub sets-in : (xs l : List ℕ) (i j : ℕ) → j < length xs → i + length xs ≤ length l → getD (sets l i xs) (i + j) 0 ≡ getD xs j 0
-sets-in [] l i j h k = absurd (omega arith)
-sets-in (a ∷ xs) l i zero h k = rw add-zero (sets-below xs (set l i a) (suc i) i (omega arith) ∙ getD-set-same l i a 0 (omega arith))
-sets-in (a ∷ xs) l i (suc j) h k =
-    let e : i + suc j ≡ suc i + j = omega arith in
-    let m : length (set l i a) ≡ length l = length-set l i a in
-    rw e (sets-in xs (set l i a) (suc i) j (omega arith) (omega arith))
+sets-in xs l i j h k = stored-in 0 xs l i j k h
 
 -- the words of a run that was stored are the run
 pub sets-words : (ws m : List ℕ) (at : ℕ) → at + length ws ≤ length m → wordsAt (sets m at ws) at (length ws) ≡ ws
@@ -52,3 +73,7 @@ pub set-before : (ys l : List ℕ) (i j x : ℕ) → i < j → set (sets l j ys)
 set-before [] l i j x h = refl
 set-before (y ∷ ys) l i j x h =
     set-before ys (set l j y) i (suc j) x (omega arith) ∙ ap (λ (k : List ℕ). sets k (suc j) ys) (set-comm l j i y x (λ e. omega arith))
+
+-- what was stored at the front is the front
+pub front : (xs ys : List ℕ) → length ys ≤ length xs → take (length ys) (sets xs 0 ys) ≡ ys
+front xs ys h = ap (take (length ys)) (sets-eq ys xs 0 (omega arith)) ∙ take-at ys (drop (0 + length ys) xs) (length ys) refl

@@ -15,6 +15,10 @@ portLimit = 8
 abbrev pub nodeLimit : ℕ
 nodeLimit = 256
 
+-- kinds of nodes, with the 0 that is none
+abbrev pub kindLimit : ℕ
+kindLimit = 25
+
 -- operands of a node
 abbrev pub operandLimit : ℕ
 operandLimit = 16

@@ -14,6 +14,8 @@ pub const FUNCTION_LIMIT: usize = 16;
 pub const PORT_LIMIT: usize = 8;
 // Nodes of a function.
 pub const NODE_LIMIT: usize = 256;
+// Kinds of nodes, with the 0 that is none.
+pub const KIND_LIMIT: usize = 25;
 // Operands of a node.
 pub const OPERAND_LIMIT: usize = 16;
 // References of a function's nodes, with room for the most operands at each.

@@ -1,25 +1,25 @@
 -- The code of a board list is read back as the board list.
-use Prim.Native.Nat.{ℕ, zero, suc, _+_, _-_, _*_, _/_, _%_, _^_, _≤_, _<_}
+use Prim.Native.Nat.{ℕ, suc, _+_, _-_, _*_, _≤_, _<_}
 use mathlib.Core.Path.{_≡_, refl, ap, ap₂, sym, _∙_, subst}
-use mathlib.Core.Bool.{Bool, true, false, _&&_}
-use mathlib.Core.List.{List, [], _∷_, _++_, map}
-use mathlib.Core.Option.{Option, none, some}
+use mathlib.Core.Bool.{Bool, true}
+use mathlib.Core.List.{List, [], _∷_, _++_}
+use mathlib.Core.Option.{Option, some}
 use native.Mathlib.Omega.{arith}
 use native.Mathlib.Numerals.{add-one}
 use lib.Dec.{leb, ltb, eqb}
 use lib.ListN.{length, length-append}
 use borrow.Author.Tests.{le-leb, lt-ltb, eq-eqb}
 use Rattle.ports.specs.Kinds.{kindOf}
-use Rattle.ports.specs.Ports.{width, widths, takes, gives, arity, constantWords, legalInstruction}
+use Rattle.ports.specs.Ports.{width, takes, arity, constantWords, legalInstruction}
 use Rattle.ports.proofs.Laws.{length-takes}
-use Rattle.base.specs.Lists.{wordAt, wordsAt, every, Word, Each}
+use Rattle.base.specs.Lists.{wordsAt, every, Each}
 use Rattle.value.specs.Values.{constantWord}
-use Rattle.base.proofs.Lists.{whole}
-use Rattle.base.specs.Bytes.{byte, u16, u64, constants, bytesOf, allBytes}
+use Rattle.base.proofs.Lists.{whole, each-less}
+use Rattle.base.specs.Bytes.{byte, u16, constants, bytesOf, allBytes}
 use Rattle.base.specs.Outcome.{Part}
 use Rattle.base.proofs.Bools.{and-both}
 use Rattle.bytecode.specs.Run.{Instruction, BoardList}
-use Rattle.bytecode.specs.Code.{instructionCode, instructionsCode, headerCode, encode, guard, then, addresses, allBelow, allLess, readOperands, readKind, readInstruction, nextWord, Listed, readInstructions, readOutputs, withinLimits, readCounts, marked, decode}
+use Rattle.bytecode.specs.Code.{instructionCode, instructionsCode, headerCode, encode, guard, then, addresses, allBelow, allLess, readOperands, readKind, readInstruction, nextWord, readInstructions, readOutputs, countsFit, readCounts, marked, decode}
 use Rattle.bytecode.specs.WellFormed.{Below, Fit, AllFit, FitList}
 use Rattle.base.proofs.Stands.{cons, cons-head, cons-tail, split, all-length, Here, u16-read, constants-read}
 
@@ -59,10 +59,6 @@ below-small next (t ∷ ts) (x ∷ xs) l (p, h) = (omega arith, below-small next
 all-less : (n : ℕ) (xs : List ℕ) → Each (λ a. a < n) xs → allLess n xs ≡ true
 all-less n [] h = refl
 all-less n (x ∷ xs) (p, h) = and-both (ltb x n) (allLess n xs) (lt-ltb x n p) (all-less n xs h)
-
-less-small : (n : ℕ) (xs : List ℕ) → n ≤ 8192 → Each (λ a. a < n) xs → Each (λ a. a < 65536) xs
-less-small n [] l h = tt
-less-small n (x ∷ xs) l (p, h) = (omega arith, less-small n xs l h)
 
 pub fit-up : (is : List Instruction) (next stop : ℕ) → AllFit next is stop → next ≤ stop
 fit-up [] next stop f = omega arith
@@ -145,14 +141,11 @@ module _ (s : List ℕ) where
 
 -- ---- the whole
 
-header-length : (a o c w : ℕ) → length (headerCode a o c w) ≡ 12
-header-length a o c w = refl
-
 outputs-read : (s : List ℕ) (b : BoardList) (at : ℕ) → FitList b → Here s at (allBytes 2 (b .outputs)) → at + 2 * length (b .outputs) ≡ length s
     → readOutputs s (b .arguments) (length (b .outputs)) (b .words) (record { instructions = b .instructions; at = at; words = b .words }) ≡ some b
 outputs-read s b at f h e =
     let n = length (b .outputs) in
-    let xs : addresses n s at ≡ b .outputs = addresses-read s (b .outputs) at (less-small (b .words) (b .outputs) (f .words) (f .below)) h in
+    let xs : addresses n s at ≡ b .outputs = addresses-read s (b .outputs) at (each-less (b .outputs) (b .words) 65536 (let w = f .words in omega arith) (f .below)) h in
     guarded (eqb (b .words) (b .words)) _ (eq-eqb (b .words) (b .words) refl)
     ∙ guarded (eqb (at + 2 * n) (length s)) _ (eq-eqb _ _ e)
     ∙ ap
@@ -199,13 +192,13 @@ module _ (b : BoardList) (f : FitList b) where
       let version : u16 s 3 ≡ 1 = omega arith in
       let mark : marked s ≡ true = rw (b0, b1, b2, version, b7) refl in
       let lo = f .some-output in
-      let limits : withinLimits (b .arguments) outs count (b .words) ≡ true =
+      let limits : countsFit (b .arguments) outs count (b .words) ≡ true =
       rw (le-leb (b .arguments) 128 (f .arguments), le-leb 1 outs lo, le-leb outs 128 (f .outputs), le-leb count 4096 lc, le-leb (b .words) 8192 lw) refl in
       guarded (leb 12 (length s)) _ (le-leb 12 (length s) (omega arith))
       ∙ guarded (marked s) _ mark
       ∙ ap₂ (λ (x y : ℕ). readCounts s x y (u16 s 8) (u16 s 10)) b5 b6
       ∙ ap₂ (λ (x y : ℕ). readCounts s (b .arguments) outs x y) b8 b10
-      ∙ guarded (withinLimits (b .arguments) outs count (b .words)) _ limits
+      ∙ guarded (countsFit (b .arguments) outs count (b .words)) _ limits
       ∙ then-some (readInstructions count s 12 (b .arguments)) _ _
       (instructions-read s (b .instructions) (b .arguments) (b .words) 12 (12 + length mid) (f .instructions) lw m refl (omega arith))
       ∙ outputs-read s b (12 + length mid) f o (omega arith)

@@ -2,7 +2,7 @@
 use Prim.Native.Nat.{ℕ, zero, suc, _+_, _*_, _≤_, _<_}
 use mathlib.Core.Path.{_≡_, refl, ap, sym, _∙_, subst}
 use mathlib.Core.Bool.{Bool, true, false, _&&_}
-use mathlib.Core.List.{List, [], _∷_, _++_, map}
+use mathlib.Core.List.{List, [], _∷_, _++_}
 use mathlib.Core.Option.{Option, none, some}
 use mathlib.Core.Logic.{_↔_, ⊎-elim}
 use native.Mathlib.Omega.{arith}
@@ -11,21 +11,22 @@ use lib.ListN.{length, length-append}
 use lib.Seq.{sets}
 use borrow.Author.Tests.{leb-true, ltb-true, eqb-true}
 use Rattle.ports.specs.Kinds.{kindOf}
-use Rattle.ports.specs.Ports.{width, widths, takes, gives, arity, constantWords, legalInstruction}
+use Rattle.ports.specs.Ports.{width, takes, arity, constantWords, legalInstruction}
 use Rattle.ports.proofs.Laws.{length-takes}
 use Rattle.value.specs.Values.{constantWord, argumentWord}
-use Rattle.base.specs.Lists.{every, Word, Each}
+use Rattle.base.specs.Lists.{every, Each}
 use Rattle.base.specs.Outcome.{Outcome, ok, fault, _>>=_, _>>_, need, orElse, Part}
 use Rattle.base.specs.Bytes.{byte, u16, constants, Bytes, bytesOf, allBytes}
 use Rattle.base.proofs.Bools.{and-inv}
 use Rattle.base.proofs.Stands.{constants-length, constants-words, all-length, Here, join, moved, onto, whole-is, u16-here, constants-here}
 use Rattle.base.proofs.Outcomes.{passed-fault, no-fault}
 use Rattle.bytecode.specs.Run.{Instruction, BoardList, run}
-use Rattle.bytecode.specs.Code.{instructionCode, instructionsCode, headerCode, encode, guard, then, addresses, allBelow, allLess, readInstruction, nextWord, Listed, readInstructions, withinLimits, marked, decode}
-use Rattle.bytecode.specs.WellFormed.{Below, Fit, AllFit, FitList, Codes}
+use Rattle.bytecode.specs.Code.{instructionCode, instructionsCode, headerCode, encode, guard, then, addresses, allBelow, allLess, readInstruction, nextWord, Listed, readInstructions, countsFit, marked, decode}
+use Rattle.bytecode.specs.WellFormed.{Below, Fit, AllFit, Codes}
 use Rattle.bytecode.specs.Answers.{Buffers, ran}
 use Rattle.bytecode.proofs.Back.{decode-encode}
 use Rattle.base.proofs.Lists.{some-is}
+use Rattle.base.specs.Limits.{withinLimits}
 
 module _ {A : Type 0} where
   pub guard-inv : (t : Bool) (o : Option A) (a : A) → guard t o ≡ some a → (t ≡ true) × (o ≡ some a)
@@ -144,14 +145,14 @@ module _ (s : List ℕ) (small : Bytes s) where
       let words = u16 s 10 in
       let (t1, e1) = guard-inv (leb 12 (length s)) _ b e in
       let (t2, e2) = guard-inv (marked s) _ b e1 in
-      let (t3, e3) = guard-inv (withinLimits arguments outputs count words) _ b e2 in
+      let (t3, e3) = guard-inv (countsFit arguments outputs count words) _ b e2 in
       let (l, el, e4) = then-inv (readInstructions count s 12 arguments) _ b e3 in
       let xs = addresses outputs s (l .at) in
       let (t5, e5) = guard-inv (eqb (l .words) words) _ b e4 in
       let (t6, e6) = guard-inv (eqb (l .at + 2 * outputs) (length s)) _ b e5 in
       let (t7, e7) = guard-inv (allLess words xs) _ b e6 in
-      let (m1, l5) = and-inv (leb arguments 128 && leb 1 outputs && leb outputs 128 && leb count 4096) (leb words 8192) t3 in
-      let (m2, l4) = and-inv (leb arguments 128 && leb 1 outputs && leb outputs 128) (leb count 4096) m1 in
+      let (m2, m1) = and-inv (leb arguments 128 && leb 1 outputs && leb outputs 128) (withinLimits count words) t3 in
+      let (l4, l5) = and-inv (leb count 4096) (leb words 8192) m1 in
       let (m3, l3) = and-inv (leb arguments 128 && leb 1 outputs) (leb outputs 128) m2 in
       let (l1, l2) = and-inv (leb arguments 128) (leb 1 outputs) m3 in
       let h2 : 1 ≤ outputs = leb-true 1 outputs l2 in

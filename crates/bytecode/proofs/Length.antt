@@ -1,47 +1,26 @@
 -- How long a code is at most: that many instructions of the most bytes that a kind has.
 use Prim.Native.Nat.{ℕ, _+_, _*_, _≤_}
-use mathlib.Core.Path.{_≡_, ap, _∙_}
+use mathlib.Core.Path.{_≡_, refl, ap, _∙_}
 use mathlib.Core.List.{List, [], _∷_, _++_}
 use native.Mathlib.Omega.{arith}
+use borrow.Author.Tests.{leb-true}
+use lib.Dec.{leb}
 use lib.ListN.{length, length-append}
 use Rattle.base.proofs.Stands.{all-length}
 use Rattle.base.specs.Bytes.{allBytes}
 use Rattle.base.specs.Limits.{operationLimit, portWordLimit}
-use Rattle.ports.specs.Kinds.{Kind, unknown, addition, subtraction, multiplication, division, constant, constvec, constmat, composevector, vectorfromscalar, decomposevector, composematrix, matrixfromcolumns, matrixfromrows, dot, cross, matvecmultiplication, transpose, min, max, abs, fmod, select, clamp, call, kindOf}
+use Rattle.ports.specs.Kinds.{Kind, kindOf}
 use Rattle.ports.specs.Ports.{takes, arity, constantWords}
 use Rattle.ports.proofs.Laws.{length-takes}
+use Rattle.ports.proofs.Table.{every-kind}
 use Rattle.bytecode.specs.Run.{Instruction, BoardList}
 use Rattle.bytecode.specs.Code.{instructionCode, instructionsCode, headerCode, nextWord, encode}
-use Rattle.bytecode.specs.WellFormed.{Fit, AllFit, FitList}
+use Rattle.bytecode.specs.WellFormed.{AllFit, FitList}
 use Rattle.bytecode.proofs.Back.{below-length, instruction-length}
 
 -- composematrix has the most references, constmat the longest constant
 kind-length : (k : Kind) → 2 + 2 * arity k + 8 * constantWords k ≤ 130
-kind-length unknown = omega arith
-kind-length addition = omega arith
-kind-length subtraction = omega arith
-kind-length multiplication = omega arith
-kind-length division = omega arith
-kind-length constant = omega arith
-kind-length constvec = omega arith
-kind-length constmat = omega arith
-kind-length composevector = omega arith
-kind-length vectorfromscalar = omega arith
-kind-length decomposevector = omega arith
-kind-length composematrix = omega arith
-kind-length matrixfromcolumns = omega arith
-kind-length matrixfromrows = omega arith
-kind-length dot = omega arith
-kind-length cross = omega arith
-kind-length matvecmultiplication = omega arith
-kind-length transpose = omega arith
-kind-length min = omega arith
-kind-length max = omega arith
-kind-length abs = omega arith
-kind-length fmod = omega arith
-kind-length select = omega arith
-kind-length clamp = omega arith
-kind-length call = omega arith
+kind-length k = leb-true _ _ (every-kind (λ k. leb (2 + 2 * arity k + 8 * constantWords k) 130) refl k)
 
 instructions-length : (is : List Instruction) (next end : ℕ) → AllFit next is end → length (instructionsCode is) ≤ 130 * length is
 instructions-length [] next end f = omega arith

@@ -1,18 +1,17 @@
 -- Memory: what stands in it, and what an overwriting leaves.
 use Prim.Native.Nat.{ℕ, zero, suc, _+_, _≤_, _<_}
 use mathlib.Core.Path.{_≡_, refl, ap, sym, _∙_, subst}
-use mathlib.Core.List.{List, [], _∷_, _++_, map}
-use mathlib.Core.Logic.{_⊎_, inl, inr, ⊎-elim}
+use mathlib.Core.List.{List, [], _∷_, _++_}
+use mathlib.Core.Logic.{_⊎_, inl, inr}
 use native.Mathlib.Omega.{arith}
-use native.Mathlib.Nat.{add-zero, add-suc, suc-add}
-use lib.ListN.{length, getD, set, length-set, length-append}
-use lib.Seq.{sets, length-sets, getD-set-same, getD-set-other}
+use lib.ListN.{length}
+use lib.Seq.{sets, length-sets}
 use Rattle.value.specs.declared.Value.{Value}
 use Rattle.ports.specs.Ports.{width, widths}
 use Rattle.value.specs.Values.{wordsOf, allWords, valueAt, valueOf}
-use Rattle.base.specs.Lists.{wordAt, span, wordsAt}
+use Rattle.base.specs.Lists.{wordAt, wordsAt}
 use Rattle.value.specs.Typed.{Of, Typed}
-use Rattle.value.proofs.Laws.{back-of, of-width, typed-widths}
+use Rattle.value.proofs.Laws.{back-of, of-width}
 use Rattle.value.proofs.Laws as Laws
 use Rattle.base.proofs.Stands.{cons, split}
 use Rattle.bytecode.specs.Run.{Instruction, valuesAt, execute, executeAll, places}

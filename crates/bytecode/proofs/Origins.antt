@@ -1,70 +1,37 @@
 -- Two lists whose instructions read words of the same origins give the same outputs.
 use Prim.Native.Nat.{ℕ, zero, suc, _+_, _-_, _≤_, _<_}
 use mathlib.Core.Path.{_≡_, refl, ap, ap₂, sym, _∙_, subst}
-use mathlib.Core.Bool.{Bool, true, false, _&&_, cond}
-use mathlib.Core.List.{List, [], _∷_, _++_, map}
-use mathlib.Core.Option.{Option, none, some}
-use mathlib.Core.Logic.{_⊎_, inl, inr, ⊎-elim}
+use mathlib.Core.Bool.{Bool, true, false, _&&_, _||_, cond}
+use mathlib.Core.List.{List, [], _∷_, _++_, map, map-append}
+use mathlib.Core.Option.{some}
+use mathlib.Core.Logic.{_⊎_, ⊎-elim}
 use native.Mathlib.Omega.{arith}
 use native.Mathlib.Nat.{add-zero, add-suc, suc-add}
-use lib.Dec.{eqb, leb, ltb}
-use lib.ListN.{length, getD, set, getElem?, replicate, take, drop, length-append, length-set, length-replicate, getD-replicate, length-map, List·getD-append}
-use lib.Seq.{sets, length-sets, getD-set-same, getD-set-other, take-at, drop-at, getD-append-add}
-use borrow.Author.Tests.{ltb-true, ltb-false, leb-true}
+use lib.Dec.{eqb, ltb}
+use lib.ListN.{length, getD, getElem?, replicate, take, drop, length-append, length-replicate, List·getD-append}
+use lib.Seq.{sets, length-sets, take-at, drop-at, getD-append-add}
+use borrow.Author.Tests.{eqb-true, ne-eqb, ltb-true, ltb-false}
 use Rattle.value.specs.declared.Value.{Value}
-use Rattle.ports.specs.Kinds.{Kind, unknown, addition, subtraction, multiplication, division, constant, constvec, constmat, composevector, vectorfromscalar, decomposevector, composematrix, matrixfromcolumns, matrixfromrows, dot, cross, matvecmultiplication, transpose, min, max, abs, fmod, select, clamp, call, kindOf}
-use Rattle.ports.specs.Ports.{width, widths, portsOf, takes, gives, formOf, executable, typeFits, legalInstruction}
-use Rattle.value.specs.Values.{allWords, valueAt, valueOf, valuesOf}
+use Rattle.ports.specs.Kinds.{Kind, kindOf}
+use Rattle.ports.specs.Ports.{width, isType, portsOf, own, types, takes, gives, formOf, executable, typeFits}
+use Rattle.ports.proofs.Table.{every-kind}
+use Rattle.value.specs.Values.{allWords, valueOf, valuesOf}
 use Rattle.base.specs.Lists.{wordAt, span, wordsAt, Each}
-use Rattle.value.specs.Typed.{TypeCode, Typed}
+use Rattle.value.specs.Typed.{TypeCode}
 use Rattle.value.specs.Results.{results}
 use Rattle.value.proofs.Laws as Laws
 use Rattle.value.proofs.Laws.{values-typed, typed-widths, results-typed}
-use Rattle.base.proofs.Bools.{and-inv}
-use Rattle.bytecode.specs.Run.{Instruction, BoardList, valuesAt, given, execute, executeAll, Ran, run, spans}
-use Rattle.bytecode.specs.Origin.{Origin, unwritten, argument, result, Known, originAt, operandPlaces, resultWidth, made, origins, after, start, Reading, readings, final, Numbered, finalOf, Carry, Carries, Roomy}
-
--- ---- one store of many words
-
-module _ {A : Type 0} (d : A) where
-  pub stored-below : (ws m : List A) (at i : ℕ) → i < at → getD (sets m at ws) i d ≡ getD m i d
-  stored-below [] m at i h = refl
-  stored-below (w ∷ ws) m at i h = stored-below ws (set m at w) (suc at) i (omega arith) ∙ getD-set-other m at i w d (λ e. omega arith)
-
-  stored-above : (ws m : List A) (at i : ℕ) → at + length ws ≤ i → getD (sets m at ws) i d ≡ getD m i d
-  stored-above [] m at i h = refl
-  stored-above (w ∷ ws) m at i h = stored-above ws (set m at w) (suc at) i (omega arith) ∙ getD-set-other m at i w d (λ e. omega arith)
-
-  pub stored-in : (ws m : List A) (at j : ℕ) → at + length ws ≤ length m → j < length ws → getD (sets m at ws) (at + j) d ≡ getD ws j d
-  stored-in [] m at j r h = absurd (omega arith)
-  stored-in (w ∷ ws) m at zero r h =
-      ap (λ (i : ℕ). getD (sets (set m at w) (suc at) ws) i d) (add-zero at)
-      ∙ stored-below ws (set m at w) (suc at) at (omega arith)
-      ∙ getD-set-same m at w d (omega arith)
-  stored-in (w ∷ ws) m at (suc j) r h =
-      let l : length (set m at w) ≡ length m = length-set m at w in
-      ap (λ (i : ℕ). getD (sets (set m at w) (suc at) ws) i d) (add-suc at j ∙ sym (suc-add at j)) ∙ stored-in ws (set m at w) (suc at) j (omega arith) (omega arith)
-
-pub made-at : (A : Type 0) (d : A) (g : ℕ → A) (n a j : ℕ) → j < n → getD (map g (span a n)) j d ≡ g (a + j)
-made-at A d g zero a j h = absurd (omega arith)
-made-at A d g (suc n) a zero h = ap g (sym (add-zero a))
-made-at A d g (suc n) a (suc j) h = made-at A d g n (suc a) j (omega arith) ∙ ap g (suc-add a j ∙ sym (add-suc a j))
-
-span-length : (a n : ℕ) → length (span a n) ≡ n
-span-length a zero = refl
-span-length a (suc n) = ap suc (span-length (suc a) n)
-
-pub made-length : (A : Type 0) (g : ℕ → A) (n a : ℕ) → length (map g (span a n)) ≡ n
-made-length A g n a = length-map (span a n) g ∙ span-length a n
+use Rattle.base.proofs.Bools.{and-inv, or-inv}
+use Rattle.base.proofs.Numbers.{between}
+use Rattle.base.proofs.Lists.{made-at, made-length}
+use Rattle.base.proofs.Stores.{stored-below, stored-above, stored-in}
+use Rattle.bytecode.specs.Run.{Instruction, BoardList, valuesAt, given, execute, executeAll, run, spans}
+use Rattle.bytecode.specs.Origin.{Origin, unwritten, argument, result, Known, originAt, operandPlaces, resultWidth, made, origins, after, start, Reading, readings, final, Numbered, finalOf, Carries, Roomy}
 
 -- ---- what an instruction gives hangs on the words that it reads
 
 abbrev fromWords : Instruction → List ℕ → List Value
 fromWords i ws = results (kindOf (i .kind)) (i .constants) (valuesOf (takes (kindOf (i .kind)) (i .type)) ws)
-
-map-append : (g : ℕ → ℕ) (xs ys : List ℕ) → map g (xs ++ ys) ≡ map g xs ++ map g ys
-map-append g [] ys = refl
-map-append g (x ∷ xs) ys = ap {B = List ℕ} (λ r. g x ∷ r) (map-append g xs ys)
 
 values-cut : (m ts at : List ℕ) → length at ≡ length ts → valuesAt m ts at ≡ valuesOf ts (map (wordAt m) (spans ts at))
 values-cut m [] at l = refl
@@ -85,44 +52,38 @@ given-words i m l = ap (results (kindOf (i .kind)) (i .constants)) (values-cut m
 
 -- ---- how many words an instruction gives
 
-one-code : TypeCode 1
-one-code = (omega arith, omega arith)
+-- the types of a kind's operands: T, T, .. where it has T, and types otherwise
+abbrev operandTypes : Bool → ℕ → ℕ → ℕ → Bool
+operandTypes true n p q = eqb p 0 && eqb q 0
+operandTypes false n p q = eqb n 0 || (isType p && isType q)
 
-two-code : TypeCode 2
-two-code = (omega arith, omega arith)
+each-type : (n a b : ℕ) → TypeCode a → TypeCode b → Each TypeCode (types n a b)
+each-type zero a b p q = tt
+each-type (suc n) a b p q = (p, each-same n)
+  where
+    each-same : (n : ℕ) → Each TypeCode (replicate n b)
+    each-same zero = tt
+    each-same (suc n) = (q, each-same n)
 
-three-code : TypeCode 3
-three-code = (omega arith, omega arith)
+own-type : (t p : ℕ) → isType p ≡ true → TypeCode (own t p)
+own-type t p e =
+    let c = between p 3 e in
+    let some : p ≡ 0 → ⊥ = λ q. omega arith in
+    rw (ne-eqb p 0 some) c
 
-code : (t : ℕ) → leb 1 t && leb t 3 ≡ true → TypeCode t
-code t e = let (a, b) = and-inv (leb 1 t) (leb t 3) e in (leb-true 1 t a, leb-true t 3 b)
+codes-by : (b : Bool) (n p q t : ℕ) → operandTypes b n p q ≡ true → cond b (isType t) (eqb t 0) ≡ true → Each TypeCode (types n (own t p) (own t q))
+codes-by true n p q t e h =
+    let (x, y) = and-inv (eqb p 0) (eqb q 0) e in
+    rw (eqb-true p 0 x, eqb-true q 0 y) (each-type n t t (between t 3 h) (between t 3 h))
+codes-by false n p q t e h = ⊎-elim
+    (λ z. rw (eqb-true n 0 z) tt)
+    (λ z. let (x, y) = and-inv (isType p) (isType q) z in each-type n (own t p) (own t q) (own-type t p x) (own-type t q y))
+    (or-inv (eqb n 0) (isType p && isType q) e)
 
 pub takes-codes : (k : Kind) (t : ℕ) → typeFits (portsOf k) t ≡ true → Each TypeCode (takes k t)
-takes-codes unknown t e = tt
-takes-codes addition t e = let c = code t e in (c, (c, tt))
-takes-codes subtraction t e = let c = code t e in (c, (c, tt))
-takes-codes multiplication t e = let c = code t e in (c, (c, tt))
-takes-codes division t e = let c = code t e in (c, (c, tt))
-takes-codes constant t e = tt
-takes-codes constvec t e = tt
-takes-codes constmat t e = tt
-takes-codes composevector t e = (one-code, (one-code, (one-code, tt)))
-takes-codes vectorfromscalar t e = (one-code, tt)
-takes-codes decomposevector t e = (two-code, tt)
-takes-codes composematrix t e = (one-code, (one-code, (one-code, (one-code, (one-code, (one-code, (one-code, (one-code, (one-code, (one-code, (one-code, (one-code, (one-code, (one-code, (one-code, (one-code, tt))))))))))))))))
-takes-codes matrixfromcolumns t e = (two-code, (two-code, (two-code, (two-code, tt))))
-takes-codes matrixfromrows t e = (two-code, (two-code, (two-code, (two-code, tt))))
-takes-codes dot t e = (two-code, (two-code, tt))
-takes-codes cross t e = (two-code, (two-code, tt))
-takes-codes matvecmultiplication t e = (three-code, (two-code, tt))
-takes-codes transpose t e = (three-code, tt)
-takes-codes min t e = let c = code t e in (c, (c, tt))
-takes-codes max t e = let c = code t e in (c, (c, tt))
-takes-codes abs t e = let c = code t e in (c, tt)
-takes-codes fmod t e = let c = code t e in (c, (c, tt))
-takes-codes select t e = let c = code t e in (c, (c, (c, (c, tt))))
-takes-codes clamp t e = let c = code t e in (c, (c, (c, tt)))
-takes-codes call t e = tt
+takes-codes k t e =
+    let r = portsOf k in
+    codes-by (r .typed) (r .operands) (r .first) (r .rest) t (every-kind (λ k. let r = portsOf k in operandTypes (r .typed) (r .operands) (r .first) (r .rest)) refl k) e
 
 given-width : (words : ℕ) (i : Instruction) (ws : List ℕ) → Roomy words i → length (allWords (fromWords i ws)) ≡ resultWidth i
 given-width words i ws r =
@@ -180,6 +141,10 @@ agrees-store v o m k at n ws g l ro rm w a = pickOne (ltb a at) (ltb a (at + n))
 abbrev Fact : (Origin → ℕ) → ℕ → Reading → Type 0
 Fact v k r = (j : ℕ) → v (result k j) ≡ wordAt (allWords (fromWords (r .instruction) (map v (r .reads)))) j
 
+pub execute-length : (i : Instruction) (m : List ℕ) → length (execute i m) ≡ length m
+unfolding execute
+execute-length i m = length-sets m (i .result) (allWords (given i m))
+
 module _ (words : ℕ) where
   -- one instruction, whose result is worth what it gives
   agrees-execute : (v : Origin → ℕ) (o : List Origin) (m : List ℕ) (k : ℕ) (i : Instruction) → Agrees v o m → Roomy words i → length o ≡ words → words ≤ length m
@@ -196,10 +161,6 @@ module _ (words : ℕ) where
 
   after-length : (k : ℕ) (i : Instruction) (o : List Origin) → length (after k i o) ≡ length o
   after-length k i o = length-sets o (i .result) (made k (resultWidth i))
-
-  execute-length : (i : Instruction) (m : List ℕ) → length (execute i m) ≡ length m
-  unfolding execute
-  execute-length i m = length-sets m (i .result) (allWords (given i m))
 
   -- a list that carries out instructions whose worth is known
   agrees-carried :
@@ -257,7 +218,7 @@ module _ (words : ℕ) (v : Origin → ℕ) where
       λ l. ap (λ (n : ℕ). v (result n l)) (sym (add-zero k)) ∙ w 0 l ∙ ap (λ (us : List Value). wordAt (allWords us) l) e in
       let g′ : Agrees v (after k i o) (execute i m) = agrees-execute words v o m k i g room lo lm kn here in
       let lo′ = after-length words k i o in
-      let lm′ = execute-length words i m in
+      let lm′ = execute-length i m in
       let later : (j l : ℕ) → v (result (suc k + j) l) ≡ wordAt (getD (products is (execute i m)) j []) l =
       λ j l. ap (λ (n : ℕ). v (result n l)) (suc-add k j ∙ sym (add-suc k j)) ∙ w (suc j) l in
       let h = own-run is (suc k) (after k i o) (execute i m) g′ (omega arith) (omega arith) rooms known later in

@@ -5,10 +5,10 @@ use mathlib.Core.List.{List}
 use lib.Dec.{leb, eqb}
 use lib.ListN.{length}
 use lib.Seq.{sets}
-use Rattle.base.specs.Outcome.{Outcome, ok, fault, _>>=_, _>>_, need, orElse}
+use Rattle.base.specs.Outcome.{Outcome, ok, _>>=_, _>>_, need, orElse}
 use Rattle.base.specs.Lists.{every}
 use Rattle.value.specs.Values.{argumentWord}
-use Rattle.bytecode.specs.Run.{BoardList, run}
+use Rattle.bytecode.specs.Run.{run}
 use Rattle.bytecode.specs.Code.{decode}
 
 -- the count of output words, and both buffers after the run

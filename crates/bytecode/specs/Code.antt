@@ -12,7 +12,7 @@ use Rattle.base.specs.Lists.{every}
 use Rattle.base.specs.Bytes.{byte, u16, constants, bytesOf, allBytes}
 use Rattle.base.specs.Outcome.{Part}
 use Rattle.bytecode.specs.Run.{Instruction, BoardList}
-use Rattle.base.specs.Limits.{operationLimit, wordLimit, portWordLimit}
+use Rattle.base.specs.Limits.{portWordLimit, withinLimits}
 
 -- ---- writing
 
@@ -104,13 +104,13 @@ readOutputs s arguments outputs words l =
     (guard (eqb (l .at + 2 * outputs) (length s))
     (guard (allLess words xs) (some (record { arguments = arguments; instructions = l .instructions; words = words; outputs = xs }))))
 
-abbrev pub withinLimits : ℕ → ℕ → ℕ → ℕ → Bool
-withinLimits arguments outputs count words =
-    leb arguments portWordLimit && leb 1 outputs && leb outputs portWordLimit && leb count operationLimit && leb words wordLimit
+-- counts that a code may have
+abbrev pub countsFit : ℕ → ℕ → ℕ → ℕ → Bool
+countsFit arguments outputs count words = leb arguments portWordLimit && leb 1 outputs && leb outputs portWordLimit && withinLimits count words
 
 abbrev pub readCounts : List ℕ → ℕ → ℕ → ℕ → ℕ → Option BoardList
 readCounts s arguments outputs count words =
-    guard (withinLimits arguments outputs count words) (then (readInstructions count s 12 arguments) (readOutputs s arguments outputs words))
+    guard (countsFit arguments outputs count words) (then (readInstructions count s 12 arguments) (readOutputs s arguments outputs words))
 
 -- mark, version and zero byte
 abbrev pub marked : List ℕ → Bool

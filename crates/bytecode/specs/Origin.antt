@@ -1,15 +1,15 @@
 -- Where the word at an address comes from: an argument word, or a word of the result of an instruction of another list.
-use Prim.Native.Nat.{ℕ, zero, suc, _+_, _-_, _≤_}
+use Prim.Native.Nat.{ℕ, suc, _+_, _-_, _≤_}
 use mathlib.Core.Path.{_≡_}
-use mathlib.Core.Bool.{Bool, true, false}
+use mathlib.Core.Bool.{true}
 use mathlib.Core.List.{List, [], _∷_, _++_, map}
-use mathlib.Core.Option.{Option, none, some}
+use mathlib.Core.Option.{some}
 use lib.ListN.{length, getD, getElem?, replicate}
 use lib.Seq.{sets}
 use Rattle.ports.specs.Kinds.{kindOf}
 use Rattle.ports.specs.Ports.{widths, takes, gives, legalInstruction}
-use Rattle.base.specs.Lists.{span, Each}
-use Rattle.bytecode.specs.Run.{Instruction, BoardList, spans}
+use Rattle.base.specs.Lists.{span}
+use Rattle.bytecode.specs.Run.{Instruction, spans}
 
 pub data Origin : Type 0 where
   unwritten : Origin

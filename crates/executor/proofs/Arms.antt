@@ -1,28 +1,22 @@
 -- The arms of a `match` on the kind: what the code of a kind asks and gives, and which kind the last arm has.
-use Prim.Native.Nat.{ℕ, zero, suc, _+_, _*_, _≤_, _<_}
-use mathlib.Core.Path.{_≡_, refl, ap, sym, _∙_, subst}
+use Prim.Native.Nat.{ℕ, _+_, _≤_, _<_}
+use mathlib.Core.Path.{_≡_, refl, ap, sym, subst}
 use mathlib.Core.Bool.{Bool, true, false, not, _&&_, _||_, cond}
 use mathlib.Core.List.{List, [], _∷_}
-use mathlib.Core.Logic.{⊎-elim}
 use native.Mathlib.Omega.{arith}
-use borrow.Author.Tests.{eqb-true, eqb-false, leb-true, leb-false}
+use borrow.Author.Tests.{eqb-true, leb-true, leb-false}
 use lib.Dec.{eqb, leb}
 use lib.ListN.{length, replicate}
-use lib.Seq.{sets}
 use Rattle.ports.specs.Kinds.{kindOf}
 use Rattle.ports.specs.declared.Ports.{Ports}
-use Rattle.ports.specs.Ports.{width, takes, arity, constantWords, isType, typeFits, portsOf, executable, legalInstruction}
+use Rattle.ports.specs.Ports.{width, takes, arity, isType, typeFits, portsOf, executable, legalInstruction}
 use Rattle.ports.proofs.Laws.{no-kind}
-use Rattle.value.specs.declared.Value.{Value}
+use Rattle.ports.proofs.Table.{upto, upto-at, NoneOf, anyOf, last-of}
 use Rattle.value.specs.declared.Operator.{Operator}
-use Rattle.value.specs.Values.{allWords}
-use Rattle.value.specs.Results.{each, results}
-use Rattle.base.specs.Bytes.{constants}
-use Rattle.base.proofs.Bools.{and-inv, or-inv}
-use Rattle.bytecode.specs.Run.{valuesAt, execute}
+use Rattle.base.specs.Limits.{kindLimit}
+use Rattle.base.proofs.Bools.{and-inv}
+use Rattle.bytecode.specs.Run.{execute}
 use Rattle.bytecode.specs.Code.{addresses}
-use Rattle.bytecode.specs.WellFormed.{Below}
-use Rattle.bytecode.proofs.Decoded.{addresses-length}
 use Rattle.executor.specs.declared.Extent.{Extent}
 use Rattle.executor.specs.Execution.{instructionAt, endOf, codeBytes, wordsGiven, kindFor, AllLoadable, Ready, Executable, Operands, Executed}
 use Rattle.executor.proofs.Stored.{carried}
@@ -69,35 +63,6 @@ of-type {k} {t} {u} {s} {at} {result} {m} {after} {y} e d = subst (λ (i : ℕ).
 
 -- ---- the last arm
 
--- what the last arm of a `match` knows of its number, the other arms' numbers from the last to the first
-abbrev pub NoneOf : List ℕ → ℕ → Type 0
-NoneOf [] k = Unit {0}
-NoneOf (x ∷ xs) k = NoneOf xs k × (k ≡ x → ⊥)
-
-abbrev anyOf : List ℕ → ℕ → Bool
-anyOf [] k = false
-anyOf (x ∷ xs) k = eqb k x || anyOf xs k
-
-none-of : (xs : List ℕ) (k : ℕ) → anyOf xs k ≡ true → NoneOf xs k → ⊥
-none-of [] k e r = let z : _≡_ {A = ℕ} 0 1 = cc in omega arith
-none-of (x ∷ xs) k e r = ⊎-elim (λ a. r .1 (eqb-true k x a)) (λ b. none-of xs k b (r .0)) (or-inv (eqb k x) (anyOf xs k) e)
-
-last-of : (y : ℕ) (xs : List ℕ) (k : ℕ) → anyOf (y ∷ xs) k ≡ true → NoneOf xs k → k ≡ y
-last-of y xs k e r = ⊎-elim (λ a. eqb-true k y a) (λ b. absurd (none-of xs k b r)) (or-inv (eqb k y) (anyOf xs k) e)
-
--- a test that all numbers below n pass
-abbrev upto : (ℕ → Bool) → ℕ → Bool
-upto f zero = true
-upto f (suc n) = upto f n && f n
-
-upto-at : (f : ℕ → Bool) (n : ℕ) → upto f n ≡ true → (k : ℕ) → k < n → f k ≡ true
-upto-at f zero e k h = absurd (omega arith)
-upto-at f (suc n) e k h = pick (λ l. upto-at f n (and-inv (upto f n) (f n) e .0) k l) (eqb k n) refl
-  where
-    pick : (k < n → f k ≡ true) → (b : Bool) → eqb k n ≡ b → f k ≡ true
-    pick go true q = ap f (eqb-true k n q) ∙ and-inv (upto f n) (f n) e .1
-    pick go false q = let d : k ≡ n → ⊥ = eqb-false k n q in go (omega arith)
-
 -- the kinds that may have the type byte t are among these
 abbrev covered : List ℕ → ℕ → ℕ → Bool
 covered xs t k = not (legalInstruction (kindOf k) t) || anyOf xs k
@@ -106,16 +71,16 @@ unless : (a b : Bool) → (not a || b) ≡ true → a ≡ true → b ≡ true
 unless true b e h = e
 unless false b e h = let z : _≡_ {A = ℕ} 0 1 = cc in absurd (omega arith)
 
-among : (xs : List ℕ) (t : ℕ) → upto (covered xs t) 25 ≡ true → (k : ℕ) → legalInstruction (kindOf k) t ≡ true → anyOf xs k ≡ true
-among xs t e k h = pick (leb 25 k) refl
+among : (xs : List ℕ) (t : ℕ) → upto (covered xs t) kindLimit ≡ true → (k : ℕ) → legalInstruction (kindOf k) t ≡ true → anyOf xs k ≡ true
+among xs t e k h = pick (leb kindLimit k) refl
   where
-    pick : (b : Bool) → leb 25 k ≡ b → anyOf xs k ≡ true
+    pick : (b : Bool) → leb kindLimit k ≡ b → anyOf xs k ≡ true
     pick true q =
-        let p : legalInstruction (kindOf k) t ≡ false = ap (λ (r : Ports). executable (r .form) && typeFits r t) (no-kind k (leb-true 25 k q)) in
+        let p : legalInstruction (kindOf k) t ≡ false = ap (λ (r : Ports). executable (r .form) && typeFits r t) (no-kind k (leb-true kindLimit k q)) in
         let z : _≡_ {A = ℕ} 0 1 = cc in absurd (omega arith)
     pick false q =
-        let l : k < 25 = leb-false 25 k q in
-        unless (legalInstruction (kindOf k) t) (anyOf xs k) (upto-at (covered xs t) 25 e k l) h
+        let l : k < kindLimit = leb-false kindLimit k q in
+        unless (legalInstruction (kindOf k) t) (anyOf xs k) (upto-at (covered xs t) kindLimit e k l) h
 
 abbrev plainArms : List ℕ
 plainArms = 16 ∷ 15 ∷ 14 ∷ 13 ∷ 12 ∷ 11 ∷ 10 ∷ 9 ∷ 8 ∷ 7 ∷ 6 ∷ 5 ∷ []

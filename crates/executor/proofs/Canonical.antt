@@ -17,7 +17,7 @@ use Rattle.ports.proofs.Laws.{length-takes}
 use Rattle.value.specs.declared.Row.{Row}
 use Rattle.value.specs.declared.Value.{Value}
 use Rattle.value.specs.declared.Value.the-variants.{Scalar, Vector, Matrix}
-use Rattle.value.specs.Values.{word, rowWords, wordsOf, allWords, valueAt}
+use Rattle.value.specs.Values.{word, rowWords, wordsOf, allWords}
 use Rattle.base.specs.Lists.{wordAt, wordsAt, Each}
 use Rattle.value.specs.Typed.{TypeCode, Held, RowHeld, ValueHeld, Of, Typed}
 use Rattle.value.specs.Results.{results}
@@ -29,6 +29,7 @@ use Rattle.bytecode.specs.Run.{valuesAt, execute}
 use Rattle.bytecode.specs.Code.{addresses}
 use Rattle.bytecode.proofs.Decoded.{addresses-length}
 use Rattle.base.proofs.Stores.{sets-below}
+use Rattle.base.proofs.Lists.{each-append}
 use Rattle.bytecode.proofs.Origins.{takes-codes}
 use Rattle.bytecode.specs.WellFormed.{Below}
 use Rattle.executor.specs.Execution.{Canonical, Loadable, AllLoadable, instructionAt, wordsGiven, Executable}
@@ -64,10 +65,6 @@ remainder-nan (fin s m e) = refl
 
 canonical-word : (x : Ieee.Float) → Held x → Canonical (word x)
 canonical-word x h = ap word (there x h)
-
-each-append : (P : ℕ → Type 0) (xs ys : List ℕ) → Each P xs → Each P ys → Each P (xs ++ ys)
-each-append P [] ys a b = b
-each-append P (x ∷ xs) ys (p, a) b = (p, each-append P xs ys a b)
 
 row-words : (r : Row) → RowHeld r → Each Canonical (rowWords r)
 row-words r (p, q, s, t) = (canonical-word _ p, (canonical-word _ q, (canonical-word _ s, (canonical-word _ t, tt))))

@@ -1,14 +1,13 @@
 -- The loop over the instructions: those that are left, on the words as they are, end where all end.
 use Prim.Native.Nat.{ℕ, zero, suc, _+_, _-_, _*_, _≤_, _<_}
-use mathlib.Core.Path.{_≡_, refl, ap, sym, _∙_, subst}
+use mathlib.Core.Path.{_≡_, ap, sym, _∙_, subst}
 use mathlib.Core.Bool.{true}
-use mathlib.Core.List.{List, [], _∷_}
-use mathlib.Core.Option.{Option, none, some}
+use mathlib.Core.List.{List, _∷_}
+use mathlib.Core.Option.{some}
 use native.Mathlib.Omega.{arith}
 use native.Mathlib.Numerals.{sub-one}
 use lib.Dec.{leb}
 use lib.ListN.{length}
-use lib.Seq.{length-sets}
 use borrow.Author.Tests.{leb-true}
 use Rattle.ports.specs.Kinds.{kindOf}
 use Rattle.ports.specs.Ports.{takes, arity, constantWords, legalInstruction}
@@ -21,6 +20,7 @@ use Rattle.bytecode.specs.Run.{Instruction, execute, executeAll}
 use Rattle.bytecode.specs.Code.{addresses, allBelow, readInstruction, nextWord, Listed, readInstructions}
 use Rattle.bytecode.proofs.Decoded.{guard-inv, then-inv, addresses-length, all-below}
 use Rattle.base.proofs.Lists.{some-is}
+use Rattle.bytecode.proofs.Origins.{execute-length}
 use Rattle.executor.specs.declared.Extent.{Extent}
 use Rattle.executor.specs.Execution.{instructionAt, endOf, codeBytes, wordsGiven, Executable, Executed}
 use Rattle.executor.specs.Instructions.{CanonicalBefore, afterAll, Instructions}
@@ -117,12 +117,8 @@ executable-of s left at result m end p =
       };
     }
 
-length-execute : (i : Instruction) (m : List ℕ) → length (execute i m) ≡ length m
-unfolding execute
-length-execute i m = simp length-sets
-
 pub same-size : (k t : ℕ) (s : List ℕ) (at result : ℕ) (m after : List ℕ) (x : Extent) → Executed k t s at result m after x → length after ≡ length m
-same-size k t s at result m after x d = ap length (d .words) ∙ length-execute (instructionAt k t s at result) m
+same-size k t s at result m after x d = ap length (d .words) ∙ execute-length (instructionAt k t s at result) m
 
 next-of : (s : List ℕ) (left at result : ℕ) (m end after : List ℕ) (x : Extent) → Split s left at result m end
     → Executed (byte s at) (byte s (at + 1)) s (at + 2) result m after x → Running s left (at + x .bytes) (result + x .words) after end

@@ -26,10 +26,6 @@ use Rattle.executor.specs.Execution.{instructionAt, wordsGiven, kindFor,
 
 -- ---- equal operands, equal results
 
-module _ {A B C : Type 0} (f : A → B → C) where
-  pub two : {a p : A} {b q : B} → a ≡ p → b ≡ q → f a b ≡ f p q
-  two {a} {p} {b} {q} e g = ap (λ (x : A). f x b) e ∙ ap (λ (y : B). f p y) g
-
 module _ {A B : Type 0} (f : A → A → A → B) where
   pub three : {a b c p q r : A} → a ≡ p → b ≡ q → c ≡ r → f a b c ≡ f p q r
   three {a} {b} {c} {p} {q} {r} e g h = ap (λ (x : A). f x b c) e ∙ ap (λ (x : A). f p x c) g ∙ ap (λ (x : A). f p q x) h

@@ -1,20 +1,22 @@
 -- The checks 9 to 13 let only sound functions pass.
-use Prim.Native.Nat.{ℕ, zero, suc, _≤_}
+use Prim.Native.Nat.{ℕ}
 use mathlib.Core.Path.{_≡_, refl, ap, sym, _∙_, subst}
 use mathlib.Core.Bool.{Bool, true, false, not, _&&_, cond}
-use mathlib.Core.List.{List, [], _∷_, map, reverse, reverseAux}
+use mathlib.Core.List.{List, [], _∷_, reverseAux}
 use mathlib.Core.Option.{Option, none, some}
-use mathlib.Core.Logic.{_⊎_, inl, inr, ⊎-elim}
+use mathlib.Core.Logic.{inl, inr}
 use native.Mathlib.Omega.{arith}
-use lib.Dec.{eqb, leb}
-use lib.ListN.{length, length-map}
-use borrow.Author.Tests.{eqb-true, eqb-false, eq-eqb, leb-true, not-true}
+use lib.Dec.{eqb}
+use lib.ListN.{length}
+use borrow.Author.Tests.{eqb-true, eq-eqb, not-true}
+use Rattle.ports.specs.declared.Form.{Form}
 use Rattle.ports.specs.declared.Form.the-variants.{Constant}
 use Rattle.ports.proofs.Laws.{length-takes}
-use Rattle.ports.specs.Kinds.{Kind, unknown, addition, subtraction, multiplication, division, constant, constvec, constmat, composevector, vectorfromscalar, decomposevector, composematrix, matrixfromcolumns, matrixfromrows, dot, cross, matvecmultiplication, transpose, min, max, abs, fmod, select, clamp, call, kindOf}
+use Rattle.ports.proofs.Table.{every-kind}
+use Rattle.ports.specs.Kinds.{Kind, kindOf}
 use Rattle.ports.specs.Ports as Ports
-use Rattle.ports.specs.Ports.{formOf}
-use Rattle.base.specs.Outcome.{Outcome, ok, fault, _>>=_, _>>_, need, each}
+use Rattle.ports.specs.Ports.{arity, formOf, constantIn}
+use Rattle.base.specs.Outcome.{ok, need, each}
 use Rattle.graph.specs.Graph.{Ref, Payload, consts, refs, calls, Node, Output, Function}
 use Rattle.graph.specs.Look.{findNode, findFunction, found, reads, readsOf, outputRefs}
 use Rattle.graph.specs.Loops.{Leads, loops}
@@ -86,31 +88,10 @@ outputs-wired early f (o ∷ os) u e =
 
 -- a constant has no references
 no-takes : (k : Kind) (t : ℕ) → formOf k ≡ Constant → Ports.takes k t ≡ []
-no-takes unknown t e = let z : _≡_ {A = ℕ} 0 1 = cc in absurd (omega arith)
-no-takes addition t e = let z : _≡_ {A = ℕ} 0 1 = cc in absurd (omega arith)
-no-takes subtraction t e = let z : _≡_ {A = ℕ} 0 1 = cc in absurd (omega arith)
-no-takes multiplication t e = let z : _≡_ {A = ℕ} 0 1 = cc in absurd (omega arith)
-no-takes division t e = let z : _≡_ {A = ℕ} 0 1 = cc in absurd (omega arith)
-no-takes constant t e = refl
-no-takes constvec t e = refl
-no-takes constmat t e = refl
-no-takes composevector t e = let z : _≡_ {A = ℕ} 0 1 = cc in absurd (omega arith)
-no-takes vectorfromscalar t e = let z : _≡_ {A = ℕ} 0 1 = cc in absurd (omega arith)
-no-takes decomposevector t e = let z : _≡_ {A = ℕ} 0 1 = cc in absurd (omega arith)
-no-takes composematrix t e = let z : _≡_ {A = ℕ} 0 1 = cc in absurd (omega arith)
-no-takes matrixfromcolumns t e = let z : _≡_ {A = ℕ} 0 1 = cc in absurd (omega arith)
-no-takes matrixfromrows t e = let z : _≡_ {A = ℕ} 0 1 = cc in absurd (omega arith)
-no-takes dot t e = let z : _≡_ {A = ℕ} 0 1 = cc in absurd (omega arith)
-no-takes cross t e = let z : _≡_ {A = ℕ} 0 1 = cc in absurd (omega arith)
-no-takes matvecmultiplication t e = let z : _≡_ {A = ℕ} 0 1 = cc in absurd (omega arith)
-no-takes transpose t e = let z : _≡_ {A = ℕ} 0 1 = cc in absurd (omega arith)
-no-takes min t e = let z : _≡_ {A = ℕ} 0 1 = cc in absurd (omega arith)
-no-takes max t e = let z : _≡_ {A = ℕ} 0 1 = cc in absurd (omega arith)
-no-takes abs t e = let z : _≡_ {A = ℕ} 0 1 = cc in absurd (omega arith)
-no-takes fmod t e = let z : _≡_ {A = ℕ} 0 1 = cc in absurd (omega arith)
-no-takes select t e = let z : _≡_ {A = ℕ} 0 1 = cc in absurd (omega arith)
-no-takes clamp t e = let z : _≡_ {A = ℕ} 0 1 = cc in absurd (omega arith)
-no-takes call t e = let z : _≡_ {A = ℕ} 0 1 = cc in absurd (omega arith)
+no-takes k t e =
+    let z : arity k ≡ 0 =
+    eqb-true _ _ (subst (λ (f : Form). eqb (constantIn f (arity k)) 0 ≡ true) e (every-kind (λ k. eqb (constantIn (formOf k) (arity k)) 0) refl k)) in
+    rw z
 
 call-shaped : (early : List Function) (n : Node) (p : Payload) → FormedPayload (kindOf (n .kind)) p → callOk early (n .place) p ≡ ok tt
     → Shaped early n p × (length (readsOf p) ≡ length (wantsOf early n p))

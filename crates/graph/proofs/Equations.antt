@@ -3,7 +3,7 @@
 use Prim.Native.Nat.{ℕ, zero, suc, _+_}
 use mathlib.Core.Path.{_≡_, refl, ap, sym, _∙_, subst}
 use mathlib.Core.Bool.{Bool, true, false, _||_, cond}
-use mathlib.Core.List.{List, [], _∷_, reverse, reverseAux}
+use mathlib.Core.List.{List, [], _∷_, reverse}
 use mathlib.Core.Option.{none, some}
 use mathlib.Core.Logic.{_⊎_, inl, inr, ⊎-elim}
 use native.Mathlib.Omega.{arith}
@@ -12,8 +12,8 @@ use lib.ListN.{length, getElem?}
 use borrow.Author.Tests.{eqb-true, eqb-false, eq-eqb}
 use Rattle.base.specs.Lists.{member, Is}
 use Rattle.base.specs.Bytes.{Bytes}
-use Rattle.base.proofs.Bools.{and-inv, or-inv}
-use Rattle.base.proofs.Lists.{some-is}
+use Rattle.base.proofs.Bools.{and-inv, or-inv, cond-or}
+use Rattle.base.proofs.Lists.{some-is, member-first, reversed, reversed-back}
 use Rattle.ports.specs.Kinds.{kindOf}
 use Rattle.value.specs.declared.Value.{Value}
 use Rattle.value.specs.Typed.{Of, Typed}
@@ -29,8 +29,8 @@ use Rattle.graph.specs.Sound.{Wired, Shaped, Sound, AllSound}
 use Rattle.graph.specs.Orders.{Ordered}
 use Rattle.graph.specs.Meaning.{bind, all, Call, Env, refMeans, payloadMeans, nodeMeans, functionMeans, meaningOf}
 use Rattle.graph.specs.Equations.{Solves, Model, OneMeaning}
-use Rattle.graph.proofs.Order.{is-in, in-is, cond-or, member-first, schedule-within, reads-in, scheduled}
-use Rattle.graph.proofs.Means.{node-mono}
+use Rattle.graph.proofs.Order.{is-in, in-is, schedule-within, reads-in, scheduled}
+use Rattle.graph.proofs.Means.{node-mono, node-means}
 use Rattle.graph.proofs.Formed.{accepted}
 use Rattle.graph.proofs.Exactly.{table-back}
 
@@ -191,17 +191,11 @@ module _ (early : List Function) (f : Function) (args : List Value) (inputs : Ty
     deeper : (k i : ℕ) → Defined k i → Defined (suc k) i
     deeper k i (vs, a, b, t) = let e = node-mono call (f .nodes) args k i vs a in (vs, e, e, t)
 
-    -- the node of an id, once its references are defined
-    node-at : (k : ℕ) (n : Node) (vs : List Value) → Is n (f .nodes) → all (refMeans args (depth k)) (reads n) ≡ some vs
-        → depth (suc k) (n .id) ≡ payloadMeans call (n .kind) (n .payload) vs
-    unfolding nodeMeans
-    node-at k n vs is e = rw (sound .resolved .own n is, e) refl
-
     node-defined : (k : ℕ) (n : Node) → Is n (f .nodes) → ((r : Ref) → Is r (reads n) → (r .node ≡ 0) ⊎ Defined k (r .node)) → Defined (suc k) (n .id)
     node-defined k n is h =
         let (vs, a, b, t) = refs-agree (depth k) (depth k) (wantsOf early n (n .payload)) (reads n) h (sound .resolved .wired n is) in
         let (us, p, q, o) = payload-agrees sound call call agreeing n (n .payload) vs (sound .resolved .shaped n is) t in
-        let e = node-at k n vs is a ∙ p in
+        let e = node-means call (f .nodes) args k n vs (sound .resolved .own n is) a ∙ p in
         (us, e, e, rw (sound .resolved .own n is) o)
 
     depth-solves : Solves call args (depth (length (f .nodes))) (f .nodes)
@@ -211,7 +205,7 @@ module _ (early : List Function) (f : Function) (args : List Value) (inputs : Ty
         let ts = wantsOf early n (n .payload) in
         let (us, e, e′, o) = at-node early f sound Defined deeper node-defined n is in
         let (vs, a, b, t) = refs-agree (depth k) (depth k) ts (reads n) (at-refs early f sound Defined deeper node-defined ts (reads n) w) w in
-        record { operands = vs; meant = a; result = e ∙ sym (node-mono call (f .nodes) args k (n .id) us e) ∙ node-at k n vs is a }
+        record { operands = vs; meant = a; result = e ∙ sym (node-mono call (f .nodes) args k (n .id) us e) ∙ node-means call (f .nodes) args k n vs (sound .resolved .own n is) a }
 
     function-defined : (vs : List Value) × (functionMeans call f args ≡ some vs) × Typed (outputTypes (f .outputs)) vs
     function-defined =
@@ -368,18 +362,6 @@ module _ (fs : List Function) (sound : AllSound fs) where
       b ∙ sym a
 
 -- ---- a table
-
-module _ {A : Type 0} where
-  reversed : (x : A) (xs ys : List A) → Is x (reverseAux xs ys) → Is x xs ⊎ Is x ys
-  reversed x [] ys h = inr h
-  reversed x (y ∷ xs) ys h = ⊎-elim (λ a. inl (inr a)) (λ b. ⊎-elim (λ e. inl (inl e)) (λ c. inr c) b) (reversed x xs (y ∷ ys) h)
-
-  reversed-back : (x : A) (xs ys : List A) → Is x xs ⊎ Is x ys → Is x (reverseAux xs ys)
-  reversed-back x [] ys (inl h) = absurd h
-  reversed-back x [] ys (inr h) = h
-  reversed-back x (y ∷ xs) ys (inl (inl e)) = reversed-back x xs (y ∷ ys) (inr (inl e))
-  reversed-back x (y ∷ xs) ys (inl (inr h)) = reversed-back x xs (y ∷ ys) (inl h)
-  reversed-back x (y ∷ xs) ys (inr h) = reversed-back x xs (y ∷ ys) (inr (inr h))
 
 -- an accepted table has one meaning
 pub one-meaning : (s : List ℕ) → Bytes s → (fs : List Function) → Meets version1 s fs → OneMeaning fs (meaningOf (reverse fs))

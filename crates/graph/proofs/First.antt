@@ -1,5 +1,5 @@
 -- The checks 9 to 13 give the first fault in 01's order.
-use Prim.Native.Nat.{ℕ, zero, suc, _≤_}
+use Prim.Native.Nat.{ℕ}
 use mathlib.Core.Path.{_≡_, refl, ap, sym, _∙_, subst}
 use mathlib.Core.Bool.{Bool, true, false, not, _&&_, cond}
 use mathlib.Core.List.{List, [], _∷_, _++_, map}
@@ -20,7 +20,7 @@ use Rattle.graph.specs.Formed.{Formed}
 use Rattle.graph.specs.Sound.{Resolved}
 use Rattle.graph.specs.Orders.{FirstOnLoop, Orders}
 use Rattle.graph.specs.Checks.{CalleeThere, CalleeWrong, NoPort, no-input, no-node, no-port, Check, check, All, First, Says, idChecks, callChecks, refChecks, nodeRefChecks, loopChecks, linkChecks, functionChecks, tableChecks}
-use Rattle.base.proofs.Lists.{some-is}
+use Rattle.base.proofs.Lists.{some-is, past-end, end-past}
 use Rattle.graph.proofs.Loops.{loops-iff}
 use Rattle.graph.proofs.Accept.{not-found, is-found, resolved-by}
 use Rattle.graph.proofs.Order.{order-iff}
@@ -158,17 +158,6 @@ calls-apart early [] = tt
 calls-apart early (n ∷ ns) = (call-apart early (n .payload), calls-apart early ns)
 
 -- ---- 11 and 12
-
-module _ {A : Type 0} where
-  past-end : (xs : List A) (i : ℕ) → getElem? xs i ≡ none → length xs ≤ i
-  past-end [] i e = omega arith
-  past-end (x ∷ xs) zero e = let z : _≡_ {A = ℕ} 0 1 = cc in absurd (omega arith)
-  past-end (x ∷ xs) (suc i) e = let l = past-end xs i e in omega arith
-
-  end-past : (xs : List A) (i : ℕ) → length xs ≤ i → getElem? xs i ≡ none
-  end-past [] i l = refl
-  end-past (x ∷ xs) zero l = absurd (omega arith)
-  end-past (x ∷ xs) (suc i) l = end-past xs i (omega arith)
 
 module _ (early : List Function) (f : Function) where
   no-type : (r : Ref) → refType early f r ≡ none → NoPort early f r

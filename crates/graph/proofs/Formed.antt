@@ -1,8 +1,8 @@
 -- What the reading gives is formed, and written where it says.
 use Prim.Native.Nat.{ℕ, zero, suc, _+_, _-_, _*_, _^_, _≤_, _<_}
 use mathlib.Core.Path.{_≡_, refl, ap, sym, _∙_, subst}
-use mathlib.Core.Bool.{Bool, true, false, _&&_}
-use mathlib.Core.List.{List, [], _∷_, _++_, map, reverse}
+use mathlib.Core.Bool.{true, _&&_}
+use mathlib.Core.List.{List, [], _∷_, _++_, reverse}
 use native.Mathlib.Omega.{arith}
 use lib.Dec.{leb, eqb}
 use lib.ListN.{length, length-append}
@@ -12,12 +12,12 @@ use Rattle.ports.specs.declared.Form.{Form}
 use Rattle.ports.specs.declared.Form.the-variants.{Absent, Constant, References, Call}
 use Rattle.ports.specs.Ports.{arity, constantWords, formOf, legal}
 use Rattle.value.specs.Typed.{TypeCode}
-use Rattle.base.specs.Lists.{Word, Each, Is}
-use Rattle.base.specs.Outcome.{Outcome, ok, fault, _>>=_, _>>_, need, each, Part}
-use Rattle.graph.specs.Graph.{Ref, Payload, consts, refs, calls, Node, Output, Function}
-use Rattle.base.specs.Bytes.{byte, u16, u64, Bytes, bytesOf, allBytes, constants}
+use Rattle.base.specs.Lists.{Each}
+use Rattle.base.specs.Outcome.{ok, _>>_, Part}
+use Rattle.graph.specs.Graph.{Ref, Payload, Node, Output, Function}
+use Rattle.base.specs.Bytes.{byte, u16, Bytes, bytesOf, allBytes, constants}
 use Rattle.graph.specs.Format.{Format, version1}
-use Rattle.graph.specs.Read.{fits, inputs, reference, references, outputs, payload, node, nodes, function, functions, marked, parse}
+use Rattle.graph.specs.Read.{inputs, reference, references, outputs, payload, node, nodes, function, functions, marked, parse}
 use Rattle.graph.specs.Types.{outputTypes}
 use Rattle.graph.specs.Judge.{judgeAll, table}
 use Rattle.graph.specs.Formed.{AllWithin, FormedPayload, FormedNode, Formed, AllFormed}

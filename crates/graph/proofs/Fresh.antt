@@ -3,29 +3,22 @@ use Prim.Native.Nat.{ℕ}
 use mathlib.Core.Path.{_≡_, refl, sym, _∙_, subst}
 use mathlib.Core.Bool.{Bool, true, false, not, cond}
 use mathlib.Core.List.{List, [], _∷_, map}
-use mathlib.Core.Option.{Option, none, some}
-use mathlib.Core.Logic.{_⊎_, inl, inr}
+use mathlib.Core.Option.{none, some}
+use mathlib.Core.Logic.{inl, inr}
 use native.Mathlib.Omega.{arith}
 use lib.Dec.{eqb}
-use borrow.Author.Tests.{eqb-true, eqb-false, eq-eqb, ne-eqb}
-use Rattle.base.specs.Outcome.{Outcome, ok, _>>_, need}
+use Rattle.base.specs.Outcome.{ok}
 use Rattle.graph.specs.Graph.{Node, Function}
 use Rattle.graph.specs.Look.{findNode, findFunction, found, ids}
 use Rattle.base.specs.Lists.{member, Is, Distinct}
 use Rattle.graph.specs.Judge.{fresh, judge}
 use Rattle.base.proofs.Outcomes.{passed, after, passes}
+use Rattle.base.proofs.Numbers.{eqb-sym}
 use Rattle.graph.proofs.Accept.{not-found}
 
 -- none of the ids is among those of `before`
 abbrev Apart : List Node → List Node → Type 0
 Apart before ns = (n : Node) → Is n ns → findNode (n .id) before ≡ none
-
-eqb-sym : (a b : ℕ) → eqb a b ≡ eqb b a
-eqb-sym a b = go (eqb a b) refl
-  where
-    go : (t : Bool) → eqb a b ≡ t → t ≡ eqb b a
-    go true e = sym (eq-eqb b a (sym (eqb-true a b e)))
-    go false e = let n : a ≡ b → ⊥ = eqb-false a b e in sym (ne-eqb b a (λ q. n (sym q)))
 
 -- the head's id is not among the later ones: they are found apart from it
 head-apart : (x : Node) (before ns : List Node) → Apart (x ∷ before) ns → member (x .id) (ids ns) ≡ false

@@ -14,7 +14,7 @@ use Rattle.ports.specs.declared.Form.the-variants.{Absent, Constant, References
 use Rattle.ports.specs.Kinds.{Kind, kindOf}
 use Rattle.ports.specs.Ports.{isType, constantWords, formOf, exists, typeFits, portsOf, legal}
 use Rattle.value.specs.Values.{constantWord}
-use Rattle.base.specs.Lists.{every, Is}
+use Rattle.base.specs.Lists.{every}
 use Rattle.base.specs.Outcome.{Outcome, ok, fault, _>>=_, _>>_, need, Part}
 use Rattle.base.specs.Bytes.{byte, u16, constants}
 use Rattle.graph.specs.Graph.{Payload, Node, Output, Function}
@@ -23,8 +23,10 @@ use Rattle.graph.specs.Format.{Format}
 use Rattle.graph.specs.Read.{reference, inRange}
 use Rattle.graph.specs.Checks.{check, All, First, Says}
 use Rattle.graph.specs.Reading.{headerChecks, Shape, head, input, output, node, payload, arguments, size, times, HeadRight, HeadWrong, fields, recordChecks, endChecks, next, Reading, end, stop, on, ReadingOf}
-use Rattle.base.proofs.Bools.{and-inv}
+use Rattle.base.proofs.Bools.{and-inv, and-inv-false}
 use Rattle.base.proofs.Outcomes.{took, after, passed, takes, stops, needs, took-fault, after-fault, passed-fault, no-fault, then-then}
+use Rattle.base.proofs.Numbers.{none-at-all, between, not-between, between-apart}
+use Rattle.base.proofs.Lists.{not-every, every-apart}
 use Rattle.graph.proofs.First.{Apart, first-all, says-one, says-test, says-then}
 
 module _ {A B C : Type 0} where
@@ -44,41 +46,6 @@ again {A} {m} {q} {n} {p} e = let a : m ≡ n = cc in let b : q ≡ p = cc in rw
 need-false : (n p : ℕ) → need false n p ≡ fault n p
 unfolding need
 need-false n p = refl
-
--- ---- tests of ranges, passed or not
-
-and-false : (a b : Bool) → a && b ≡ false → (a ≡ false) ⊎ (b ≡ false)
-and-false true b e = inr e
-and-false false b e = inl refl
-
--- a number is at least 1, or 0
-none-at-all : (x : ℕ) → leb 1 x ≡ false → x ≡ 0
-none-at-all x e = let h = leb-false 1 x e in omega arith
-
-between : (x top : ℕ) → leb 1 x && leb x top ≡ true → (1 ≤ x) × (x ≤ top)
-between x top e = let (a, b) = and-inv (leb 1 x) (leb x top) e in (leb-true 1 x a, leb-true x top b)
-
-not-between : (x top : ℕ) → leb 1 x && leb x top ≡ false → (x ≡ 0) ⊎ (top < x)
-not-between x top e = ⊎-elim (λ a. inl (none-at-all x a)) (λ b. inr (leb-false x top b)) (and-false (leb 1 x) (leb x top) e)
-
-between-apart : (x top : ℕ) → (1 ≤ x) × (x ≤ top) → (x ≡ 0) ⊎ (top < x) → ⊥
-between-apart x top (a, b) (inl c) = omega arith
-between-apart x top (a, b) (inr c) = omega arith
-
--- one that does not pass the test, where not all do
-not-every : (pass : ℕ → Bool) (ws : List ℕ) → every pass ws ≡ false → (w : ℕ) × Is w ws × (pass w ≡ false)
-not-every pass [] e = let z : _≡_ {A = ℕ} 0 1 = cc in absurd (omega arith)
-not-every pass (w ∷ ws) e =
-    ⊎-elim (λ a. (w, inl refl, a)) (λ b. let (x, i, q) = not-every pass ws b in (x, inr i, q)) (and-false (pass w) (every pass ws) e)
-
-every-apart : (pass : ℕ → Bool) (ws : List ℕ) → every pass ws ≡ true → (w : ℕ) × Is w ws × (pass w ≡ false) → ⊥
-every-apart pass [] e (w, i, q) = i
-every-apart pass (x ∷ xs) e (w, inl i, q) =
-    let (a, b) = and-inv (pass x) (every pass xs) e in
-    let c : pass x ≡ false = subst (λ (y : ℕ). pass y ≡ false) i q in
-    let z : _≡_ {A = ℕ} 0 1 = cc in
-    omega arith
-every-apart pass (x ∷ xs) e (w, inr i, q) = every-apart pass xs (and-inv (pass x) (every pass xs) e .1) (w, i, q)
 
 module _ (limit : ℕ) (s : List ℕ) where
   abbrev R : List Shape → ℕ → Outcome (Unit {0}) → Type 0
@@ -193,7 +160,7 @@ module _ (limit : ℕ) (s : List ℕ) where
       λ p. record { it = record { id = u16 s at; place = at; kind = byte s (at + 2); type = t; payload = p .it }; next = p .next } in
       record-step node hs at (leb 1 (u16 s at) && legal k t) 6 (Read.payload (formOf k) k s (at + 4) >>= λ p. ok (made p)) c
       (says-test _ 6 at (λ e. let (a, b) = and-inv (leb 1 (u16 s at)) (legal k t) e in (leb-true 1 (u16 s at) a, b))
-      (λ e. ⊎-elim (λ a. inl (none-at-all (u16 s at) a)) (λ b. inr b) (and-false (leb 1 (u16 s at)) (legal k t) e)))
+      (λ e. ⊎-elim (λ a. inl (none-at-all (u16 s at) a)) (λ b. inr b) (and-inv-false (leb 1 (u16 s at)) (legal k t) e)))
       (λ e. same (bind-ok (Read.payload (formOf k) k s (at + 4)) made c)
       (payload-step (formOf k) k (at + 4) hs (λ p. c (made p)) (and-inv (exists (formOf k)) (typeFits (portsOf k) t) (and-inv (leb 1 (u16 s at)) (legal k t) e .1) .0)
       (λ p. r (made p))))
@@ -225,11 +192,11 @@ module _ (limit : ℕ) (s : List ℕ) where
       back u =
           ⊎-elim
           (λ x. ⊎-elim
-          (λ y. ⊎-elim (λ z. inl (none-at-all id z)) (λ z. inr (inl (leb-false nin 8 z))) (and-false (leb 1 id) (leb nin 8) y))
+          (λ y. ⊎-elim (λ z. inl (none-at-all id z)) (λ z. inr (inl (leb-false nin 8 z))) (and-inv-false (leb 1 id) (leb nin 8) y))
           (λ y. ⊎-elim (λ z. inr (inr (inl z))) (λ z. inr (inr (inr (inl z)))) (not-between nout 8 y))
-          (and-false (leb 1 id && leb nin 8) (leb 1 nout && leb nout 8) x))
+          (and-inv-false (leb 1 id && leb nin 8) (leb 1 nout && leb nout 8) x))
           (λ x. inr (inr (inr (inr (leb-false count limit x)))))
-          (and-false (leb 1 id && leb nin 8 && (leb 1 nout && leb nout 8)) (leb count limit) u)
+          (and-inv-false (leb 1 id && leb nin 8 && (leb 1 nout && leb nout 8)) (leb count limit) u)
 
   function-step : (at : ℕ) (hs : List Shape) (c : Part Function → Outcome (Unit {0})) → ((p : Part Function) → R hs (p .next) (c p))
       → R (head ∷ hs) at (Read.function limit s at >>= c)
@@ -307,8 +274,8 @@ module _ (format : Format) (s : List ℕ) where
 
       others : Read.marked s ≡ false → Unmarked
       others e =
-          ⊎-elim (λ m. ⊎-elim (λ a. inl (eqb-false _ _ a)) (λ b. inr (inl (eqb-false _ _ b))) (and-false (eqb (byte s 0) 0x49) (eqb (byte s 1) 0x46) m))
-          (λ c. inr (inr (eqb-false _ _ c))) (and-false (eqb (byte s 0) 0x49 && eqb (byte s 1) 0x46) (eqb (byte s 2) 0x47) e)
+          ⊎-elim (λ m. ⊎-elim (λ a. inl (eqb-false _ _ a)) (λ b. inr (inl (eqb-false _ _ b))) (and-inv-false (eqb (byte s 0) 0x49) (eqb (byte s 1) 0x46) m))
+          (λ c. inr (inr (eqb-false _ _ c))) (and-inv-false (eqb (byte s 0) 0x49 && eqb (byte s 1) 0x46) (eqb (byte s 2) 0x47) e)
 
   header-apart : Apart (headerChecks format s)
   header-apart = ((λ a b. omega arith), (marks, ((λ a b. b a), ((λ a b. b a), (between-apart (byte s 5) 16, tt)))))

@@ -9,16 +9,17 @@ use native.Mathlib.Omega.{arith}
 use lib.Dec.{eqb}
 use lib.ListN.{length, getElem?}
 use borrow.Author.Tests.{eqb-true, eqb-false, eq-eqb}
-use Rattle.graph.specs.Graph.{Ref, Payload, Node, Output, Function}
+use Rattle.graph.specs.Graph.{Ref, Node, Function}
 use Rattle.base.specs.Lists.{member, Is, Distinct}
 use Rattle.graph.specs.Look.{readIds, findNode, reads, ids}
 use Rattle.graph.specs.Loops.{readsId, Leads, one, more}
 use Rattle.graph.specs.Schedule.{ready, Picked, before, pick, order, schedule}
 use Rattle.graph.proofs.Loops.{stuck-loops, leads-node}
-use Rattle.base.proofs.Bools.{and-inv, or-inv}
+use Rattle.base.proofs.Bools.{and-inv, or-inv, cond-or}
 use Rattle.graph.proofs.Accept.{loop-free-iff, among-is}
 use Rattle.base.proofs.Outcomes.{is-each}
-use Rattle.base.specs.Outcome.{Outcome, ok}
+use Rattle.base.specs.Outcome.{ok}
+use Rattle.base.proofs.Lists.{member-first}
 use Rattle.graph.specs.Sound.{Wired, Resolved, Sound}
 use Rattle.graph.specs.Formed.{FormedNode}
 use Rattle.graph.specs.Sums.{sum}
@@ -42,10 +43,6 @@ in-is i (x ∷ xs) (inr h) = let (n, a, e) = in-is i xs h in (n, inr a, e)
 -- a reference that is neither to an input nor to what is done
 abbrev Waits : List ℕ → List Ref → Type 0
 Waits done rs = (j : ℕ) × (member j (map (λ r. r .node) rs) ≡ true) × (j ≡ 0 → ⊥) × (member j done ≡ false)
-
-pub cond-or : (b x : Bool) → x ≡ true → cond b true x ≡ true
-cond-or true x e = refl
-cond-or false x e = e
 
 later : (done : List ℕ) (r : Ref) (rs : List Ref) → Waits done rs → Waits done (r ∷ rs)
 later done r rs (j, m, z, d) = (j, cond-or (eqb (r .node) j) _ m, z, d)
@@ -137,9 +134,6 @@ pick-some done (x ∷ xs) p e = go (ready done (reads x)) refl (λ q f. pick-som
         subst (λ (o : Picked). Split done o (x ∷ xs)) b (push done x xs q (ih q a))
 
 -- ---- the order
-
-pub member-first : (i : ℕ) (xs : List ℕ) → member i (i ∷ xs) ≡ true
-member-first i xs = rw (eq-eqb i i refl) refl
 
 -- from a state on: every node that is left, once, each after all that it reads
 pub record Right (done : List ℕ) (left os : List Node) : Type 0 where

@@ -1,8 +1,8 @@
 -- A table that is written by 01's layout, with every field in its range, is read.
-use Prim.Native.Nat.{ℕ, zero, suc, _+_, _-_, _*_, _^_, _≤_, _<_}
+use Prim.Native.Nat.{ℕ, _+_, _-_, _*_, _^_, _≤_, _<_}
 use mathlib.Core.Path.{_≡_, refl, ap, ap₂, sym, _∙_, subst}
-use mathlib.Core.Bool.{Bool, true, false, _&&_}
-use mathlib.Core.List.{List, [], _∷_, _++_, map}
+use mathlib.Core.Bool.{true, _&&_}
+use mathlib.Core.List.{List, [], _∷_, _++_}
 use mathlib.Core.Logic.{_↔_}
 use native.Mathlib.Omega.{arith}
 use lib.Dec.{leb, eqb}
@@ -10,20 +10,19 @@ use lib.ListN.{length, length-append}
 use borrow.Author.Tests.{le-leb, eq-eqb}
 use Rattle.ports.specs.Kinds.{Kind, kindOf}
 use Rattle.ports.specs.declared.Form.{Form}
-use Rattle.ports.specs.declared.Form.the-variants.{Absent, Constant, References, Call}
 use Rattle.ports.specs.Ports.{isType, arity, constantWords, formOf, legal}
 use Rattle.value.specs.Values.{constantWord}
-use Rattle.base.specs.Lists.{every, wordsAt, Word, Each}
+use Rattle.base.specs.Lists.{every, wordsAt, Each}
 use Rattle.base.proofs.Lists.{whole}
 use Rattle.value.specs.Typed.{TypeCode}
-use Rattle.base.specs.Outcome.{Outcome, ok, fault, _>>=_, _>>_, need, Part}
-use Rattle.base.specs.Bytes.{byte, u16, u64, Bytes, bytesOf, allBytes, constants}
+use Rattle.base.specs.Outcome.{Outcome, ok, Part}
+use Rattle.base.specs.Bytes.{byte, u16, Bytes, bytesOf, allBytes, constants}
 use Rattle.graph.specs.Graph.{Ref, Payload, consts, refs, calls, Node, Output, Function}
-use Rattle.graph.specs.Format.{Format, version1}
-use Rattle.graph.specs.Read.{fits, inputs, reference, references, outputs, payload, node, nodes, inRange, function, functions, marked, parse}
+use Rattle.graph.specs.Format.{Format}
+use Rattle.graph.specs.Read.{inputs, reference, references, outputs, payload, node, nodes, inRange, function, functions, marked, parse}
 use Rattle.graph.specs.Types.{outputTypes}
 use Rattle.graph.specs.Formed.{AllWithin, FormedPayload, FormedNode, Formed, AllFormed}
-use Rattle.graph.specs.Written.{flat, refBytes, outputBytes, payloadBytes, nodeBytes, functionBytes, headerBytes, tableBytes, RefsAt, PayloadAt, OutputsAt, NodesAt, FunctionAt, FunctionsAt, Short, ShortRefs, ShortPayload, ShortNode, ShortIds, Written}
+use Rattle.graph.specs.Written.{flat, refBytes, outputBytes, payloadBytes, nodeBytes, functionBytes, headerBytes, RefsAt, PayloadAt, OutputsAt, NodesAt, FunctionAt, FunctionsAt, Short, ShortRefs, ShortPayload, ShortNode, ShortIds, Written}
 use Rattle.base.proofs.Bools.{and-both}
 use Rattle.base.proofs.Outcomes.{takes, passes}
 use Rattle.base.proofs.Stands.{split, all-length, Here, moved, off, little-read, u16-read, constants-read}

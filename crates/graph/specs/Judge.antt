@@ -1,14 +1,12 @@
 -- The checks 9 to 13, function by function, and the verdict.
 use Prim.Native.Nat.{ℕ}
-use mathlib.Core.Bool.{Bool, true, false, not, _&&_, cond}
-use mathlib.Core.List.{List, [], _∷_, map, reverse}
+use mathlib.Core.Bool.{not, _&&_}
+use mathlib.Core.List.{List, [], _∷_, reverse}
 use mathlib.Core.Option.{Option, none, some}
 use lib.Dec.{eqb}
-use lib.ListN.{length, getElem?}
+use lib.ListN.{length}
 use Rattle.base.specs.Outcome.{Outcome, ok, fault, _>>=_, _>>_, need, each}
-use Rattle.graph.specs.Graph.{Ref, Payload, consts, refs, calls, Node, Output, Function}
-use Rattle.ports.specs.Kinds.{kindOf}
-use Rattle.ports.specs.Ports.{takes, gives}
+use Rattle.graph.specs.Graph.{Ref, Payload, consts, refs, calls, Node, Function}
 use Rattle.graph.specs.Format.{version1}
 use Rattle.graph.specs.Read.{parse}
 use Rattle.graph.specs.Look.{findNode, findFunction, found, reads}

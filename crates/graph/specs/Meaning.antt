@@ -1,7 +1,7 @@
 -- What a graph means.
-use Prim.Native.Nat.{ℕ, zero, suc, _+_}
-use mathlib.Core.Bool.{Bool, true, false, cond}
-use mathlib.Core.List.{List, [], _∷_, _++_}
+use Prim.Native.Nat.{ℕ, zero, suc}
+use mathlib.Core.Bool.{cond}
+use mathlib.Core.List.{List, [], _∷_}
 use mathlib.Core.Option.{Option, none, some}
 use lib.Dec.{eqb}
 use lib.ListN.{length, getElem?}
@@ -9,8 +9,8 @@ use Rattle.value.specs.declared.Value.{Value}
 use Rattle.value.specs.Values.{allWords, valuesOf}
 use Rattle.ports.specs.Kinds.{kindOf}
 use Rattle.value.specs.Results.{results}
-use Rattle.graph.specs.Graph.{Ref, Payload, consts, refs, calls, Node, Output, Function}
-use Rattle.graph.specs.Table.{Chosen, chosen}
+use Rattle.graph.specs.Graph.{Ref, Payload, consts, refs, calls, Node, Function}
+use Rattle.graph.specs.Table.{chosen}
 use Rattle.graph.specs.Look.{findNode, reads, outputRefs}
 
 module _ {A B : Type 0} where

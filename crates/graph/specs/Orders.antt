@@ -1,11 +1,11 @@
 -- The first node that lies on a loop, and orders of a function's nodes in which each stands after all that it reads.
 use Prim.Native.Nat.{ℕ}
 use mathlib.Core.Path.{_≡_}
-use mathlib.Core.Bool.{true, false}
-use mathlib.Core.List.{List, [], _∷_, _++_, map}
+use mathlib.Core.Bool.{true}
+use mathlib.Core.List.{List, [], _∷_, _++_}
 use Rattle.graph.specs.Graph.{Node}
 use Rattle.graph.specs.Look.{reads, ids}
-use Rattle.base.specs.Lists.{member, Is, Distinct}
+use Rattle.base.specs.Lists.{Is, Distinct}
 use Rattle.graph.specs.Loops.{Leads}
 use Rattle.graph.specs.Schedule.{ready}
 

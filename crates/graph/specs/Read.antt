@@ -1,6 +1,6 @@
 -- The reading of a table, front to back: the functions as read, or the first of the faults 1 to 8.
 use Prim.Native.Nat.{ℕ, zero, suc, _+_, _*_}
-use mathlib.Core.Bool.{Bool, true, false, _&&_}
+use mathlib.Core.Bool.{Bool, _&&_}
 use mathlib.Core.List.{List, [], _∷_}
 use lib.Dec.{leb, eqb}
 use lib.ListN.{length}
@@ -11,7 +11,7 @@ use Rattle.ports.specs.Ports.{isType, arity, constantWords, formOf, legal}
 use Rattle.value.specs.Values.{constantWord}
 use Rattle.base.specs.Lists.{every}
 use Rattle.base.specs.Outcome.{Outcome, ok, fault, _>>=_, _>>_, need, Part}
-use Rattle.base.specs.Bytes.{byte, u16, u64, constants}
+use Rattle.base.specs.Bytes.{byte, u16, constants}
 use Rattle.graph.specs.Graph.{Ref, Payload, consts, refs, calls, Node, Output, Function}
 use Rattle.graph.specs.Format.{Format}
 use Rattle.base.specs.Limits.{portLimit, functionLimit}

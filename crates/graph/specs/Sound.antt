@@ -1,18 +1,12 @@
 -- What an accepted function is.
-use Prim.Native.Nat.{ℕ, _≤_}
+use Prim.Native.Nat.{ℕ}
 use mathlib.Core.Path.{_≡_}
-use mathlib.Core.Bool.{Bool, true, false}
-use mathlib.Core.List.{List, [], _∷_, map}
+use mathlib.Core.List.{List, [], _∷_}
 use mathlib.Core.Option.{Option, none, some}
-use mathlib.Core.Logic.{_⊎_, inl, inr}
-use lib.ListN.{length}
-use Rattle.ports.specs.Kinds.{Kind, kindOf}
-use Rattle.ports.specs.declared.Form.the-variants.{Constant, References, Call}
-use Rattle.ports.specs.Ports.{takes, arity, constantWords, formOf, legal}
-use Rattle.value.specs.Values.{constantWord}
-use Rattle.base.specs.Lists.{every, Word, Each, Is}
-use Rattle.value.specs.Typed.{TypeCode}
-use Rattle.graph.specs.Graph.{Ref, Payload, consts, refs, calls, Node, Output, Function}
+use Rattle.ports.specs.Kinds.{kindOf}
+use Rattle.ports.specs.Ports.{takes}
+use Rattle.base.specs.Lists.{Is}
+use Rattle.graph.specs.Graph.{Ref, Payload, consts, refs, calls, Node, Function}
 use Rattle.graph.specs.Look.{findNode, findFunction, reads, outputRefs}
 use Rattle.graph.specs.Loops.{Leads}
 use Rattle.graph.specs.Types.{wantsOf, refType, outputTypes}

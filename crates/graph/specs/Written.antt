@@ -7,7 +7,7 @@ use Rattle.base.specs.Lists.{Each}
 use Rattle.base.specs.Bytes.{bytesOf, allBytes}
 use Rattle.graph.specs.Graph.{Ref, Payload, consts, refs, calls, Node, Output, Function}
 use Rattle.graph.specs.Format.{Format}
-use Rattle.graph.specs.Formed.{Formed, AllFormed, AllWithin}
+use Rattle.graph.specs.Formed.{AllFormed, AllWithin}
 use Rattle.base.specs.Limits.{functionLimit}
 
 -- ---- the bytes

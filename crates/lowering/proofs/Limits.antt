@@ -1,33 +1,30 @@
 -- The sums of a function are those of its board list, and within the limits the board list has a code.
-use Prim.Native.Nat.{ℕ, zero, suc, _+_, _*_, _≤_, _<_}
-use mathlib.Core.Path.{_≡_, refl, ap, sym, _∙_, subst}
+use Prim.Native.Nat.{ℕ, _+_, _*_, _≤_, _<_}
+use mathlib.Core.Path.{_≡_, refl, ap, _∙_, subst}
 use mathlib.Core.Bool.{Bool, true, false, cond}
 use mathlib.Core.List.{List, [], _∷_, _++_, map}
-use mathlib.Core.Option.{Option, none, some}
-use mathlib.Core.Logic.{_⊎_, inl, inr, ⊎-elim}
+use mathlib.Core.Option.{some}
+use mathlib.Core.Logic.{_⊎_, inl, inr}
 use native.Mathlib.Omega.{arith}
 use lib.Dec.{eqb}
 use lib.ListN.{length, length-append, replicate, length-replicate, length-map}
-use borrow.Author.Tests.{eqb-true}
-use Rattle.value.specs.declared.Value.{Value}
-use Rattle.ports.specs.Kinds.{kindOf}
-use Rattle.ports.specs.Ports.{width, widths, gives}
+use Rattle.ports.specs.Ports.{width, widths}
 use Rattle.value.specs.Values.{valuesOf}
 use Rattle.base.specs.Lists.{span, Each}
-use Rattle.value.specs.Typed.{TypeCode, Typed}
+use Rattle.base.proofs.Lists.{span-length, span-below, each-append}
+use Rattle.value.specs.Typed.{TypeCode}
 use Rattle.value.proofs.Laws.{values-typed, type-cases}
-use Rattle.graph.specs.Graph.{Ref, Payload, consts, refs, calls, Node, Output, Function}
+use Rattle.graph.specs.Graph.{Payload, consts, refs, calls, Node, Function}
 use Rattle.graph.specs.Types.{outputTypes}
 use Rattle.graph.specs.Sums.{sum, nodeOperations, functionOperations, operationsOf, nodeWords, resultWords, resultWordsOf, functionWords}
-use Rattle.graph.specs.Formed.{Formed}
 use Rattle.graph.specs.Sound.{Sound, AllSound}
-use Rattle.bytecode.specs.Run.{Instruction, BoardList, places, spans}
+use Rattle.bytecode.specs.Run.{places, spans}
 use Rattle.graph.specs.Schedule.{schedule}
-use Rattle.lowering.specs.Compile.{Written, address, Inlined, Inline, inlineNode, Body, also, inlineNodes, inlineFunction, inlined, boardListOf}
+use Rattle.lowering.specs.Compile.{Written, address, Inline, inlineNode, also, inlineNodes, inlineFunction, inlined, boardListOf}
 use Rattle.bytecode.specs.Code.{encode, decode}
 use Rattle.bytecode.specs.WellFormed.{Below, AllFit, FitList}
-use Rattle.graph.proofs.Order.{Right, scheduled}
-use Rattle.lowering.proofs.Simulate.{Served, stand-below}
+use Rattle.graph.proofs.Order.{scheduled}
+use Rattle.lowering.proofs.Simulate.{stand-below}
 use Rattle.lowering.proofs.Promise.{whole-served}
 use Rattle.bytecode.proofs.Back.{decode-encode}
 
@@ -130,18 +127,6 @@ wides-bounds (t ∷ ts) (c, h) =
     let (a, b) = wide-bounds t c in
     let (d, e) = wides-bounds ts h in
     (omega arith, omega arith)
-
-span-length : (a n : ℕ) → length (span a n) ≡ n
-span-length a zero = refl
-span-length a (suc n) = ap suc (span-length (suc a) n)
-
-span-below : (n a hi : ℕ) → a + n ≤ hi → Each (λ x. x < hi) (span a n)
-span-below zero a hi h = tt
-span-below (suc n) a hi h = (omega arith, span-below n (suc a) hi (omega arith))
-
-pub each-append : (P : ℕ → Type 0) (xs ys : List ℕ) → Each P xs → Each P ys → Each P (xs ++ ys)
-each-append P [] ys h k = k
-each-append P (x ∷ xs) ys (p, h) k = (p, each-append P xs ys h k)
 
 spans-below : (hi : ℕ) (ts at : List ℕ) → Below hi ts at → Each (λ x. x < hi) (spans ts at) × (length (spans ts at) ≡ widths ts)
 spans-below hi [] [] h = (tt, refl)

@@ -1,7 +1,7 @@
 -- A run of the board list of a function gives the words of what the function means, whatever the memory held.
-use Prim.Native.Nat.{ℕ, _+_, _≤_}
+use Prim.Native.Nat.{ℕ, _≤_}
 use mathlib.Core.Path.{_≡_, refl, ap, sym, _∙_}
-use mathlib.Core.List.{List, [], _∷_, _++_, map}
+use mathlib.Core.List.{List, [], _∷_, map, map-append}
 use mathlib.Core.Option.{some}
 use mathlib.Core.Logic.{inr}
 use native.Mathlib.Omega.{arith}
@@ -23,10 +23,6 @@ use Rattle.lowering.specs.Compile.{inlineFunction, inlined, boardListOf}
 use Rattle.bytecode.proofs.Memory.{Keeps, Stand, keeps-sets, stand-placed}
 use Rattle.base.proofs.Stores.{sets-words}
 use Rattle.lowering.proofs.Simulate.{inlined-up, nodes-up, Served, serves, function-served}
-
-map-append : (g : ℕ → ℕ) (xs ys : List ℕ) → map g (xs ++ ys) ≡ map g xs ++ map g ys
-map-append g [] ys = refl
-map-append g (x ∷ xs) ys = ap {B = List ℕ} (λ r. g x ∷ r) (map-append g xs ys)
 
 -- the words at the addresses of the outputs
 pub spans-words : (m : List ℕ) (hi : ℕ) (ts at : List ℕ) (vs : List Value) → Typed ts vs → Stand m hi at vs → map (wordAt m) (spans ts at) ≡ allWords vs

@@ -1,9 +1,9 @@
 -- A list that follows the board list of an accepted function gives the words of what the function means.
 use Prim.Native.Nat.{ℕ, zero, suc, _+_, _-_, _≤_, _<_}
-use mathlib.Core.Path.{_≡_, refl, ap, sym, _∙_, subst}
+use mathlib.Core.Path.{_≡_, refl, sym, _∙_, subst}
 use mathlib.Core.Bool.{Bool, true, false}
 use mathlib.Core.List.{List, [], _∷_, _++_, map}
-use mathlib.Core.Option.{Option, none, some}
+use mathlib.Core.Option.{some}
 use native.Mathlib.Omega.{arith}
 use native.Mathlib.Nat.{le-refl, le-of-eq}
 use lib.Dec.{ltb}
@@ -12,25 +12,25 @@ use lib.Seq.{length-sets}
 use borrow.Author.Tests.{ltb-true, ltb-false}
 use Rattle.value.specs.declared.Value.{Value}
 use Rattle.ports.specs.Kinds.{kindOf}
-use Rattle.ports.specs.Ports.{width, widths, takes}
+use Rattle.ports.specs.Ports.{width, takes}
 use Rattle.value.specs.Values.{allWords}
 use Rattle.base.specs.Lists.{span, Each}
+use Rattle.base.proofs.Lists.{made-at, made-length}
+use Rattle.base.proofs.Stores.{stored-below, stored-in}
 use Rattle.value.specs.Typed.{Typed}
 use Rattle.value.proofs.Laws.{typed-widths}
 use Rattle.graph.specs.Graph.{Function}
-use Rattle.graph.specs.Types.{outputTypes}
-use Rattle.graph.specs.Sums.{functionWords}
 use Rattle.graph.specs.Sound.{AllSound}
 use Rattle.graph.specs.Meaning.{functionMeans, meaningOf}
 use Rattle.bytecode.specs.Run.{Instruction, BoardList, run, spans}
 use Rattle.lowering.specs.Compile.{boardListOf}
 use Rattle.bytecode.specs.Code.{nextWord}
-use Rattle.bytecode.specs.WellFormed.{Below, Fit, AllFit}
-use Rattle.bytecode.specs.Origin.{Origin, unwritten, argument, result, Known, originAt, operandPlaces, resultWidth, made, origins, after, start, Reading, readings, final, Numbered, finalOf, Carries, Roomy}
+use Rattle.bytecode.specs.WellFormed.{Below, AllFit}
+use Rattle.bytecode.specs.Origin.{Origin, unwritten, result, Known, originAt, resultWidth, made, after, start, readings, final, Numbered, finalOf, Carries, Roomy}
 use Rattle.lowering.proofs.Promise.{runs}
 use Rattle.bytecode.proofs.Back.{below-length, fit-up}
 use Rattle.lowering.proofs.Limits.{laid}
-use Rattle.bytecode.proofs.Origins.{stored-below, stored-in, made-at, made-length, start-argument, start-length, Follows, same-outputs}
+use Rattle.bytecode.proofs.Origins.{start-argument, start-length, Follows, same-outputs}
 
 -- ---- a list whose results take the next words reads only what is written
 

@@ -1,42 +1,42 @@
 -- A run of what is laid down for a function leaves the words of what the function means.
-use Prim.Native.Nat.{ℕ, zero, suc, _+_, _≤_, _<_}
+use Prim.Native.Nat.{ℕ, zero, suc, _+_, _≤_}
 use mathlib.Core.Path.{_≡_, refl, ap, sym, _∙_, subst}
-use mathlib.Core.Bool.{Bool, true, false, _&&_, _||_, cond}
+use mathlib.Core.Bool.{Bool, true, false, _||_, cond}
 use mathlib.Core.List.{List, [], _∷_, _++_, map}
-use mathlib.Core.Option.{Option, none, some}
+use mathlib.Core.Option.{Option, some}
 use mathlib.Core.Logic.{_⊎_, inl, inr, ⊎-elim}
 use native.Mathlib.Omega.{arith}
-use native.Mathlib.Nat.{add-zero, add-suc, suc-add}
-use lib.Dec.{eqb, leb}
+use native.Mathlib.Nat.{add-zero}
+use lib.Dec.{eqb}
 use lib.ListN.{length, getD, getElem?}
 use lib.Seq.{sets}
-use borrow.Author.Tests.{eqb-true, eqb-false, eq-eqb, leb-true}
+use borrow.Author.Tests.{eqb-true, eq-eqb}
 use Rattle.value.specs.declared.Value.{Value}
 use Rattle.ports.specs.Kinds.{Kind, kindOf}
-use Rattle.ports.specs.declared.Form.the-variants.{Constant, References}
+use Rattle.ports.specs.declared.Form.the-variants.{Constant}
 use Rattle.ports.specs.Ports.{width, widths, portsOf, takes, gives, constantWords, formOf, exists, typeFits, legal, legalInstruction}
-use Rattle.value.specs.Values.{wordsOf, allWords, valueAt, constantWord}
-use Rattle.base.specs.Lists.{wordAt, wordsAt, every, Word, Each, member, Is}
+use Rattle.value.specs.Values.{wordsOf, allWords, constantWord}
+use Rattle.base.specs.Lists.{every, Word, Each, member, Is}
 use Rattle.value.specs.Typed.{Of, Typed}
 use Rattle.value.specs.Results.{results}
 use Rattle.value.proofs.Laws.{of-width, typed-widths, results-typed}
-use Rattle.graph.specs.Graph.{Ref, Payload, consts, refs, calls, Node, Output, Function}
+use Rattle.graph.specs.Graph.{Ref, Payload, consts, refs, calls, Node, Function}
 use Rattle.graph.specs.Look.{findNode, findFunction, reads, readsOf, outputRefs, ids}
-use Rattle.graph.specs.Types.{outputTypes, outputsOf, inputsOf, wantsOf, givesOf, givesAt, refType}
+use Rattle.graph.specs.Types.{outputTypes, wantsOf, givesOf, givesAt, refType}
 use Rattle.graph.specs.Sound.{Wired, Shaped, Sound, AllSound}
 use Rattle.graph.specs.Formed.{FormedPayload, FormedNode}
 use Rattle.base.proofs.Outcomes.{is-each}
-use Rattle.graph.specs.Meaning.{bind, all, Call, Env, refMeans, payloadMeans, nodeStep, nodeMeans, functionMeans, meaningOf}
-use Rattle.graph.proofs.Means.{node-mono}
-use Rattle.base.proofs.Bools.{and-inv, and-both, or-left, or-right}
-use Rattle.bytecode.specs.Run.{Instruction, BoardList, valuesAt, execute, executeAll, places}
+use Rattle.graph.specs.Meaning.{bind, all, Call, refMeans, payloadMeans, nodeMeans, functionMeans, meaningOf}
+use Rattle.graph.proofs.Means.{node-mono, node-means}
+use Rattle.base.proofs.Bools.{and-inv, and-both, or-left, or-right, cond-or}
+use Rattle.bytecode.specs.Run.{Instruction, valuesAt, execute, executeAll, places}
 use Rattle.graph.specs.Schedule.{ready, schedule}
-use Rattle.lowering.specs.Compile.{Written, portsAt, address, Inlined, Inline, single, inlineNode, Body, also, behind, inlineNodes, inlineFunction, inlined}
+use Rattle.lowering.specs.Compile.{Written, portsAt, address, Inlined, Inline, single, inlineNode, Body, also, inlineNodes, inlineFunction, inlined}
 use Rattle.bytecode.specs.Code.{nextWord}
-use Rattle.bytecode.specs.WellFormed.{Below, Fit, AllFit}
+use Rattle.bytecode.specs.WellFormed.{Below, AllFit}
 use Rattle.bytecode.proofs.Memory.{Keeps, keeps-none, keeps-sets, keeps-then, StandsAt, Stand, stays, values-at, stand-placed, execute-append}
 use Rattle.base.proofs.Stores.{sets-words}
-use Rattle.graph.proofs.Order.{Ordered, Right, scheduled, schedule-within, reads-in, in-is}
+use Rattle.graph.proofs.Order.{Ordered, scheduled, schedule-within, reads-in, in-is}
 
 -- ---- the words only grow
 
@@ -239,14 +239,6 @@ module _ (early : List Function) (f : Function) (args : List Value) (ins : List 
 
   -- ---- a node
 
-  -- the node of an id, once its references are defined
-  node-means :
-      (k : ℕ) (n : Node) (vs : List Value) → findNode (n .id) (f .nodes) ≡ some n
-      → all (refMeans args (nodeMeans (meaningOf early) (f .nodes) args k)) (reads n) ≡ some vs
-      → nodeMeans (meaningOf early) (f .nodes) args (suc k) (n .id) ≡ payloadMeans (meaningOf early) (n .kind) (n .payload) vs
-  unfolding nodeMeans
-  node-means k n vs e q = rw (e, q) refl
-
   module _ (sound : Sound early f) (serves : Serves (inlined early) (meaningOf early) early) (inputs : Typed (f .inputs) args) where
     module _ (k : ℕ) (m : List ℕ) (next : ℕ) (ws : List Written) (stood : Stand m next ins args) (known : Known k m next ws) where
       abbrev NodeServed : Node → Payload → Type 0
@@ -283,7 +275,7 @@ module _ (early : List Function) (f : Function) (args : List Value) (ins : List 
           → inlineNode (inlined early) (address ins ws) next n (n .payload) .next ≤ length m → NodeServed n (n .payload)
       node-served n h e l =
           let formed = is-each FormedNode (f .nodes) (sound .resolved .formed .nodes) n h in
-          payload-served n (n .payload) (formed .legal) (formed .payload) (sound .resolved .shaped n h) (sound .resolved .wired n h) e (λ vs. node-means k n vs (sound .resolved .own n h)) l
+          payload-served n (n .payload) (formed .legal) (formed .payload) (sound .resolved .shaped n h) (sound .resolved .wired n h) e (λ vs. node-means (meaningOf early) (f .nodes) args k n vs (sound .resolved .own n h)) l
 
     -- ---- the nodes
 
@@ -322,17 +314,13 @@ module _ (early : List Function) (f : Function) (args : List Value) (ins : List 
         let after : executeAll (b .code) m′ ≡ executeAll (o .code ++ b .code) m = sym (execute-append (o .code) (b .code) m) in
         record {
           count = let c = h .count in omega arith;
-          old = λ i e. h .old i (either (eqb (n .id) i) _ e);
+          old = λ i e. h .old i (cond-or (eqb (n .id) i) _ e);
           has = λ x i. ⊎-elim (λ e. h .old (x .id) (here x e)) (λ j. h .has x j) i;
           fit = fit-append (o .code) (b .code) next (o .next) (b .next) (r .fit) (h .fit);
           kept = subst (λ (x : List ℕ). Keeps next (b .next) m x) after (keeps-then up up′ (r .kept) (h .kept));
           known = subst (λ (x : List ℕ). Known (length (b .written)) x (b .next) (b .written)) after (h .known);
         }
       where
-        either : (p q : Bool) → q ≡ true → cond p true q ≡ true
-        either true q e = refl
-        either false q e = e
-
         here : (x : Node) → x ≡ n → member (x .id) (n .id ∷ writtenIds ws) ≡ true
         here x e = rw (eq-eqb (n .id) (x .id) (ap (λ (y : Node). y .id) (sym e))) refl
 

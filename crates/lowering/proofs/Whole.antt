@@ -2,20 +2,19 @@
 -- judges and runs that list; and a run of it gives the words of what the graph means.
 use Prim.Native.Nat.{ℕ, _+_, _*_, _≤_}
 use mathlib.Core.Path.{_≡_, refl, ap, sym, _∙_, subst}
-use mathlib.Core.Bool.{Bool, true, false, _&&_}
-use mathlib.Core.List.{List, [], _∷_, _++_, reverse}
-use mathlib.Core.Option.{Option, none, some}
+use mathlib.Core.Bool.{_&&_}
+use mathlib.Core.List.{List, _∷_, reverse}
+use mathlib.Core.Option.{some}
 use native.Mathlib.Omega.{arith}
 use lib.Dec.{leb, eqb}
-use lib.ListN.{length, take, drop}
-use lib.Seq.{sets, sets-eq, take-at}
+use lib.ListN.{length}
+use lib.Seq.{sets}
 use borrow.Author.Tests.{leb-true, le-leb, eq-eqb}
-use Rattle.value.specs.declared.Value.{Value}
 use Rattle.ports.specs.Ports.{widths}
 use Rattle.value.specs.Values.{allWords, valuesOf, argumentWord}
 use Rattle.base.specs.Lists.{wordAt, every}
 use Rattle.value.proofs.Laws.{values-typed, words-of-values, typed-widths, all-finite}
-use Rattle.base.specs.Outcome.{Outcome, ok, fault, _>>=_, _>>_, need, orElse}
+use Rattle.base.specs.Outcome.{Outcome, ok, _>>=_, _>>_, need, orElse}
 use Rattle.graph.specs.Graph.{Function}
 use Rattle.graph.specs.Types.{outputTypes}
 use Rattle.graph.specs.Judge.{table}
@@ -24,7 +23,7 @@ use Rattle.graph.specs.Sound.{AllSound}
 use Rattle.graph.specs.Meaning.{meaningOf}
 use Rattle.graph.specs.Table.{Chosen, chosen}
 use Rattle.base.proofs.Bools.{and-both}
-use Rattle.base.proofs.Outcomes.{took, passed, takes, passes, ok-is}
+use Rattle.base.proofs.Outcomes.{took, passed, takes, passes, ok-is, some-else, else-some}
 use Rattle.base.specs.Bytes.{Bytes}
 use Rattle.graph.proofs.Formed.{accepted}
 use Rattle.graph.proofs.Exactly.{table-back, table-there}
@@ -32,26 +31,15 @@ use Rattle.graph.proofs.Table.{chosen-sound, chosen-means}
 use Rattle.bytecode.specs.Run.{BoardList, run}
 use Rattle.lowering.specs.Compile.{boardListOf}
 use Rattle.base.specs.Limits.{operationLimit, wordLimit, portWordLimit}
+use Rattle.base.proofs.Stores.{front}
 use Rattle.bytecode.specs.Code.{decode}
 use Rattle.bytecode.specs.WellFormed.{FitList}
 use Rattle.bytecode.proofs.Length.{encode-length}
-use Rattle.lowering.specs.Answers.{within, compilable, codeOf, Compiled, compiled, Evaluated, evaluated}
+use Rattle.lowering.specs.Answers.{within, compilable, codeOf, compiled, Evaluated, evaluated}
 use Rattle.bytecode.specs.Answers.{Buffers, ran}
 use Rattle.lowering.specs.Demand3.{Within, Lent, Meant, Demand3}
 use Rattle.lowering.proofs.Promise.{runs}
 use Rattle.lowering.proofs.Limits.{words-of, output-words, fit-list, code-of}
-
--- what is there is gone on with, whatever the fault would be
-there : {A : Type 0} {o : Option A} {a : A} (n p : ℕ) → o ≡ some a → orElse o n p ≡ ok a
-there n p e = ap (λ o. orElse o n p) e
-
--- what was stored at the front is the front
-pub front : (xs ys : List ℕ) → length ys ≤ length xs → take (length ys) (sets xs 0 ys) ≡ ys
-front xs ys h = ap (take (length ys)) (sets-eq ys xs 0 (omega arith)) ∙ take-at ys (drop (0 + length ys) xs) (length ys) refl
-
-is-there : {A : Type 0} (o : Option A) (n p : ℕ) (a : A) → orElse o n p ≡ ok a → o ≡ some a
-is-there none n p a e = let z : _≡_ {A = ℕ} 0 1 = cc in absurd (omega arith)
-is-there (some b) n p a e = (cc)
 
 -- a function that the compiler finds is within the limits
 pub compilable-within : (s : List ℕ) (c : ℕ) (x : Chosen) → Bytes s → compilable s c ≡ ok x → (functions : List Function) × Within s c functions x
@@ -66,7 +54,7 @@ compilable-within s c x small e =
       record {
         bytes = small;
         meets = m;
-        chosen = ap (chosen c) q ∙ is-there (chosen c latest) 14 0 y p ∙ ap some same;
+        chosen = ap (chosen c) q ∙ else-some (chosen c latest) 14 0 y p ∙ ap some same;
         operations = subst (λ (z : Chosen). functionOperations (operationsOf (z .early)) (z .function) ≤ operationLimit) same (leb-true _ _ o);
         words = subst (λ (z : Chosen). functionWords (z .early) (z .function) ≤ wordLimit) same (leb-true _ _ v);
       },
@@ -116,7 +104,7 @@ module _ (s : List ℕ) (c : ℕ) (functions : List Function) (x : Chosen) (w : 
   compiles code l =
       let found : compilable s c ≡ ok x =
       takes (table s) _ (reverse functions) latest-are
-      ∙ takes (orElse (chosen c (reverse functions)) _ _) _ x (there _ _ (w .chosen))
+      ∙ takes (orElse (chosen c (reverse functions)) _ _) _ x (some-else _ _ (w .chosen))
       ∙ passes (leb (functionOperations (operationsOf (x .early)) (x .function)) operationLimit) _ _ _ (le-leb _ _ (w .operations))
       ∙ passes (leb (functionWords (x .early) (x .function)) wordLimit) _ _ _ (le-leb _ _ (w .words)) in
       takes (compilable s c) _ x found ∙ passes (leb (length (codeOf x)) (length code)) _ _ _ (le-leb _ _ l)
@@ -134,7 +122,7 @@ module _ (s : List ℕ) (c : ℕ) (functions : List Function) (x : Chosen) (w : 
     list-runs : ran (codeOf x) arguments work out ≡ runOrRefusal
     unfolding ran
     list-runs =
-        takes (orElse (decode (codeOf x)) _ _) _ (listOf x) (there _ _ (code-of (x .early) (x .function) sound (w .operations) (w .words)))
+        takes (orElse (decode (codeOf x)) _ _) _ (listOf x) (some-else _ _ (code-of (x .early) (x .function) sound (w .operations) (w .words)))
         ∙ ap (judged (length (listOf x .outputs))) words-are
         ∙ ap (λ (n : ℕ). judged n (functionWords (x .early) (x .function))) outputs-are
       where

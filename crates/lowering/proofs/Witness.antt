@@ -1,7 +1,7 @@
 -- What demand 3 asks can be so: case A on 3 and 0.5, with buffers longer than need be. What it then gives is 1.5, and the code of A.
-use Prim.Native.Nat.{ℕ, zero, suc, _<_}
+use Prim.Native.Nat.{ℕ, zero, suc}
 use mathlib.Core.Path.{_≡_, refl, ap, sym, _∙_, subst}
-use mathlib.Core.Bool.{Bool, true, false, _&&_}
+use mathlib.Core.Bool.{true}
 use mathlib.Core.List.{List, [], _∷_, _++_, reverse}
 use mathlib.Core.Option.{some}
 use native.Mathlib.Omega.{arith}
@@ -10,14 +10,13 @@ use lib.ListN.{length, replicate}
 use lib.Seq.{sets}
 use lib.Ieee as Ieee
 use borrow.Author.Tests.{ltb-true}
-use Rattle.base.specs.Bytes.{byte, Bytes}
+use Rattle.base.specs.Bytes.{Bytes}
 use Rattle.base.specs.Lists.{every}
 use Rattle.base.specs.Outcome.{ok}
 use Rattle.base.proofs.Bools.{and-inv}
 use Rattle.base.proofs.Lists.{some-is}
 use Rattle.base.proofs.Outcomes.{ok-is}
 use Rattle.value.specs.Results.{results}
-use Rattle.graph.specs.Graph.{Function}
 use Rattle.graph.specs.Format.{version1}
 use Rattle.graph.specs.Loops.{Leads, via, loops}
 use Rattle.graph.specs.Rules.{Meets}

@@ -4,7 +4,7 @@ use mathlib.Core.List.{List}
 use lib.Dec.{leb}
 use lib.ListN.{length, take}
 use lib.Seq.{sets}
-use Rattle.base.specs.Outcome.{Outcome, ok, fault, _>>=_, _>>_, need, orElse}
+use Rattle.base.specs.Outcome.{Outcome, ok, _>>=_, _>>_, need, orElse}
 use Rattle.base.specs.Limits.{operationLimit, wordLimit}
 use Rattle.graph.specs.Graph.{Function}
 use Rattle.graph.specs.Judge.{table}

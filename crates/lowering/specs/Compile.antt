@@ -1,13 +1,12 @@
 -- The board list of a function: each result takes the next words, and a call is inlined where it stands.
-use Prim.Native.Nat.{ℕ, zero, suc, _+_}
-use mathlib.Core.Bool.{Bool, true, false, cond}
+use Prim.Native.Nat.{ℕ, _+_}
+use mathlib.Core.Bool.{cond}
 use mathlib.Core.List.{List, [], _∷_, _++_, map}
 use lib.Dec.{eqb}
 use lib.ListN.{getD}
 use Rattle.ports.specs.Kinds.{kindOf}
-use Rattle.ports.specs.Ports.{width, widths, gives}
-use Rattle.base.specs.Lists.{span}
-use Rattle.graph.specs.Graph.{Ref, Payload, consts, refs, calls, Node, Output, Function}
+use Rattle.ports.specs.Ports.{widths, gives}
+use Rattle.graph.specs.Graph.{Ref, Payload, consts, refs, calls, Node, Function}
 use Rattle.graph.specs.Types.{outputTypes}
 use Rattle.graph.specs.Look.{outputRefs}
 use Rattle.bytecode.specs.Run.{Instruction, BoardList, places, spans}

@@ -8,7 +8,7 @@ use native.Mathlib.Omega.{arith}
 use lib.Dec.{eqb, leb, ltb}
 use lib.ListN.{length, getD, set, replicate, length-set, length-replicate}
 use lib.Seq.{getD-set-same, getD-set-other}
-use borrow.Author.Tests.{eqb-true, eqb-false, eq-eqb, ne-eqb, ltb-true, ltb-false, lt-ltb, le-ltb, le-leb, not-true, not-false}
+use borrow.Author.Tests.{eqb-true, eqb-false, ltb-true, ltb-false, lt-ltb, le-ltb, le-leb, not-true, not-false}
 use Rattle.base.specs.Lists.{member}
 use Rattle.base.proofs.Bools.{and-inv, and-both}
 use Rattle.order.specs.Indices.{firstOf, slot, settled, ready, eligible, waits, indexOrder, marked}
@@ -21,51 +21,7 @@ use Rattle.order.proofs.Reached.{unmarked-none, unmarked-set}
 use Rattle.order.proofs.AnyOrder.{Built, fresh, built-size, any-order}
 use Rattle.order.proofs.Complete.{ready-reads}
 use Rattle.base.specs.Limits.{operandLimit, nodeLimit}
-
--- ---- members
-
-member-first : (v : ℕ) (is : List ℕ) → member v (v ∷ is) ≡ true
-member-first v is = ap (λ (b : Bool). cond b true (member v is)) (eq-eqb v v refl)
-
--- v is f, or one of the others
-member-inv : (v f : ℕ) (is : List ℕ) → member v (f ∷ is) ≡ true → (f ≡ v) ⊎ (member v is ≡ true)
-member-inv v f is e = pickOne (eqb f v) refl e
-  where
-    pickOne : (b : Bool) → eqb f v ≡ b → cond b true (member v is) ≡ true → (f ≡ v) ⊎ (member v is ≡ true)
-    pickOne true q h = inl (eqb-true f v q)
-    pickOne false q h = inr h
-
-member-later : (v f : ℕ) (is : List ℕ) → member v is ≡ true → member v (f ∷ is) ≡ true
-member-later v f is e = pickOne (eqb f v)
-  where
-    pickOne : (b : Bool) → cond b true (member v is) ≡ true
-    pickOne true = refl
-    pickOne false = e
-
--- f is another, and v none of the others
-member-not : (v f : ℕ) (is : List ℕ) → (f ≡ v → ⊥) → member v is ≡ false → member v (f ∷ is) ≡ false
-member-not v f is d e = ap (λ (b : Bool). cond b true (member v is)) (ne-eqb f v d) ∙ e
-
-member-left : (v : ℕ) (is os : List ℕ) → member v is ≡ true → member v (is ++ os) ≡ true
-member-left v [] os e = let z : _≡_ {A = ℕ} 0 1 = cc in absurd (omega arith)
-member-left v (f ∷ is) os e = pickOne (eqb f v) e (λ h. member-left v is os h)
-  where
-    pickOne : (b : Bool) → cond b true (member v is) ≡ true → (member v is ≡ true → member v (is ++ os) ≡ true) → cond b true (member v (is ++ os)) ≡ true
-    pickOne true h ih = refl
-    pickOne false h ih = ih h
-
-member-right : (v : ℕ) (is os : List ℕ) → member v os ≡ true → member v (is ++ os) ≡ true
-member-right v [] os e = e
-member-right v (f ∷ is) os e = member-later v f (is ++ os) (member-right v is os e)
-
-member-either : (v : ℕ) (is os : List ℕ) → member v (is ++ os) ≡ true → (member v is ≡ true) ⊎ (member v os ≡ true)
-member-either v [] os e = inr e
-member-either v (f ∷ is) os e = pickOne (eqb f v) e (λ h. member-either v is os h)
-  where
-    pickOne : (b : Bool) → cond b true (member v (is ++ os)) ≡ true → (member v (is ++ os) ≡ true → (member v is ≡ true) ⊎ (member v os ≡ true))
-        → (cond b true (member v is) ≡ true) ⊎ (member v os ≡ true)
-    pickOne true h ih = inl refl
-    pickOne false h ih = ih h
+use Rattle.base.proofs.Lists.{member-first, member-inv, member-later, member-not, member-left, member-right, member-either}
 
 both : {P : Type 0} → (b : Bool) → b ≡ true → b ≡ false → P
 both true e f = let z : _≡_ {A = ℕ} 0 1 = cc in absurd (omega arith)

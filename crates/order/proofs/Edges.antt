@@ -16,7 +16,6 @@ use Rattle.graph.specs.Loops.{readsId, Leads}
 use Rattle.graph.specs.Loops as Ids
 use Rattle.graph.proofs.Loops.{Among, leads-node}
 use Rattle.graph.proofs.Accept.{among-is}
-use Rattle.order.specs.Indices.{slot}
 use Rattle.order.specs.Paths.{readsIndex, Path, one, more}
 use Rattle.order.specs.Resolve.{indexOf, target, Resolves}
 use Rattle.order.proofs.Closure.{read-below, read-slot, slot-read}

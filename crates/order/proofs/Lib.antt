@@ -10,4 +10,3 @@ pub mod AnyOrder
 pub mod Complete
 pub mod Descent
 pub mod LoopFree
-pub mod Stored

@@ -8,10 +8,8 @@ use native.Mathlib.Numerals.{add-one}
 use lib.Dec.{eqb}
 use borrow.Author.Tests.{eqb-true, eqb-false}
 use Rattle.base.proofs.Bools.{or-inv, or-left, or-right, and-inv, and-both}
+use Rattle.base.proofs.Numbers.{one-less}
 use Rattle.order.specs.Indices.{firstOf, allOf, anyOf}
-
-one-more : (n i : ℕ) → i < n → n - i ≡ suc (n - (i + 1))
-one-more n i h = omega arith
 
 module _ (p : ℕ → Bool) where
   -- ---- the first
@@ -20,7 +18,7 @@ module _ (p : ℕ → Bool) where
   pub first-one : (n i : ℕ) → i < n → firstOf p i (n - i) ≡ cond (p i) i (firstOf p (i + 1) (n - (i + 1)))
   unfolding firstOf
   first-one n i h =
-      ap (λ (k : ℕ). firstOf p i k) (one-more n i h) ∙ ap (λ (s : ℕ). cond (p i) i (firstOf p s (n - (i + 1)))) (sym (add-one i))
+      ap (λ (k : ℕ). firstOf p i k) (one-less n i h) ∙ ap (λ (s : ℕ). cond (p i) i (firstOf p s (n - (i + 1)))) (sym (add-one i))
 
   pub first-hit : (n i : ℕ) → i < n → p i ≡ true → firstOf p i (n - i) ≡ i
   first-hit n i h e = first-one n i h ∙ ap (λ (b : Bool). cond b i (firstOf p (i + 1) (n - (i + 1)))) e

@@ -4,6 +4,7 @@ ghost use Prim.Native.Nat.{_<_, _≤_};
 ghost use Rattle.ports.specs.Kinds.{kindOf};
 ghost use Rattle.ports.specs.Ports as Definition;
 ghost use Rattle.ports.specs.Ports.{portsOf, typeFits, constantIn, calling};
+use base::KIND_LIMIT;
 
 // What stands behind the head of a node of a kind. Absent: there is no such kind.
 pub enum Form {
@@ -225,7 +226,7 @@ const CALL: Ports = Ports {
 };
 
 // Kind n stands at n; there is no kind 0.
-pub const PORTS: [Ports; 25] = [
+pub const PORTS: [Ports; KIND_LIMIT] = [
     ABSENT,
     TYPED_2,
     TYPED_2,
@@ -254,7 +255,7 @@ pub const PORTS: [Ports; 25] = [
 ];
 
 // The whole table.
-pub fn rows() -> [Ports; 25]
+pub fn rows() -> [Ports; KIND_LIMIT]
     ensures { λ r. ⌜ r ≡ Definition.rows ⌝ }
 {
     PORTS

@@ -19,12 +19,13 @@ use Rattle.graph.specs.Types.{outputTypes}
 use Rattle.graph.specs.Sums.{functionWords}
 use Rattle.graph.specs.Table.{Chosen}
 use Rattle.base.proofs.Outcomes.{takes, stops, passes, fails}
+use Rattle.base.proofs.Stores.{front}
 use Rattle.bytecode.specs.Answers.{Buffers, ran}
 use Rattle.lowering.specs.Answers as Answers
 use Rattle.lowering.specs.Answers.{compilable, codeOf, compiled, evaluated}
 use Rattle.lowering.specs.Demand3.{Within, Lent, Demand3}
 use Rattle.value.proofs.Laws.{each-finite}
-use Rattle.lowering.proofs.Whole.{front, compilable-within, leaves, withCode, compiles, runOrRefusal, evaluated-is, list-ok, evaluated-ok, demand3}
+use Rattle.lowering.proofs.Whole.{compilable-within, leaves, withCode, compiles, runOrRefusal, evaluated-is, list-ok, evaluated-ok, demand3}
 use Rattle.sums.specs.declared.Sizes.{Sizes}
 use Rattle.runner.specs.declared.Ran.{Ran}
 use Rattle.runner.specs.Runs as runner

@@ -1,12 +1,12 @@
 -- Words copied into a buffer, and a test of every word.
 use Prim.Native.Nat.{ℕ, zero, suc, _+_, _-_, _*_, _≤_, _<_}
-use mathlib.Core.Path.{_≡_, refl, ap, sym, _∙_, subst}
+use mathlib.Core.Path.{_≡_, ap, sym, _∙_, subst}
 use mathlib.Core.Bool.{Bool, true, false, _&&_}
-use mathlib.Core.List.{List, [], _∷_, _++_, map}
+use mathlib.Core.List.{List, [], _∷_, _++_, map, map-append}
 use native.Mathlib.Nat.{zero-add}
 use native.Mathlib.Numerals.{add-one}
 use native.Mathlib.Omega.{arith}
-use lib.ListN.{length, getD, set, take, drop, length-append}
+use lib.ListN.{length, getD, set, take, drop, length-map}
 use lib.Seq.{sets, take-suc, take-length, drop-cons, drop-length, length-take-le}
 use Rattle.base.specs.Lists.{wordAt, every, Each}
 use Rattle.base.proofs.Stores.{then}
@@ -35,19 +35,11 @@ addresses-more zero s at = ap (λ (a : ℕ). u16 s a ∷ []) (omega arith)
 addresses-more (suc n) s at =
     ap (λ (xs : List ℕ). u16 s at ∷ xs) (addresses-more n s (at + 2) ∙ ap (λ (a : ℕ). addresses n s (at + 2) ++ (u16 s a ∷ [])) (omega arith))
 
-map-append : (f : ℕ → ℕ) (xs ys : List ℕ) → map f (xs ++ ys) ≡ map f xs ++ map f ys
-map-append f [] ys = refl
-map-append f (x ∷ xs) ys = ap (λ (zs : List ℕ). f x ∷ zs) (map-append f xs ys)
-
-map-length : (f : ℕ → ℕ) (xs : List ℕ) → length (map f xs) ≡ length xs
-map-length f [] = refl
-map-length f (x ∷ xs) = ap suc (map-length f xs)
-
 pub output-more : (l m work s : List ℕ) (from i : ℕ) → m ≡ sets l 0 (map (wordAt work) (addresses i s from))
     → set m i (wordAt work (u16 s (from + 2 * i))) ≡ sets l 0 (map (wordAt work) (addresses (i + 1) s from))
 output-more l m work s from i e =
     one-more l m i (wordAt work (u16 s (from + 2 * i))) (map (wordAt work) (addresses i s from))
-    (map-length (wordAt work) (addresses i s from) ∙ addresses-length i s from) e
+    (length-map (addresses i s from) (wordAt work) ∙ addresses-length i s from) e
     ∙ ap (sets l 0)
     (sym
     (ap (λ (k : ℕ). map (wordAt work) (addresses k s from)) (add-one i)

@@ -2,8 +2,8 @@
 use Prim.Native.Nat.{ℕ, zero, suc, _+_, _-_, _*_, _≤_, _<_}
 use mathlib.Core.Path.{_≡_, refl, ap, sym, _∙_}
 use mathlib.Core.Bool.{Bool, true, false, _&&_}
-use mathlib.Core.List.{List, [], _∷_}
-use mathlib.Core.Option.{Option, none, some}
+use mathlib.Core.List.{List}
+use mathlib.Core.Option.{Option, none}
 use native.Mathlib.Omega.{arith}
 use native.Mathlib.Numerals.{sub-one}
 use borrow.Author.Tests.{le-leb, lt-leb}
@@ -15,13 +15,11 @@ use Rattle.ports.specs.Ports.{width, portsOf, own, types, takes, arity, constan
 use Rattle.ports.proofs.Laws.{words-given}
 use Rattle.value.specs.Values.{constantWord}
 use Rattle.base.specs.Lists.{every}
-use Rattle.base.specs.Bytes.{byte, u16, u64, constants}
+use Rattle.base.specs.Bytes.{byte, u16, constants}
 use Rattle.base.specs.Outcome.{Part}
 use Rattle.bytecode.specs.Run.{Instruction}
-use Rattle.bytecode.specs.Code.{guard, addresses, allBelow, allLess, readOperands, readKind, readInstruction, nextWord}
-use Rattle.runner.specs.declared.Next.{Next}
+use Rattle.bytecode.specs.Code.{guard, addresses, allBelow, allLess, readOperands, readKind, readInstruction}
 use Rattle.executor.specs.Execution.{endOf, wordsGiven}
-use Rattle.runner.specs.declared.Progress.{Progress}
 use Rattle.runner.specs.declared.Progress.the-variants.{Passed, Refused}
 use Rattle.runner.specs.Checks.{passedOf, Begun}
 use Rattle.runner.proofs.Walks.{Walk}

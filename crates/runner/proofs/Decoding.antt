@@ -1,5 +1,5 @@
 -- What a well formed code tells the run, and what the definition then answers.
-use Prim.Native.Nat.{ℕ, zero, suc, _+_, _-_, _*_, _≤_, _<_}
+use Prim.Native.Nat.{ℕ, suc, _+_, _-_, _*_, _≤_, _<_}
 use mathlib.Core.Path.{_≡_, refl, ap, sym, _∙_, subst}
 use mathlib.Core.Bool.{Bool, true, false, _&&_}
 use mathlib.Core.List.{List, [], _∷_, map}
@@ -12,19 +12,18 @@ use lib.Seq.{sets, length-sets}
 use Rattle.base.specs.Lists.{wordAt, every, Word, Each}
 use Rattle.value.specs.Values.{argumentWord}
 use Rattle.value.proofs.Laws.{same-word}
-use Rattle.base.specs.Outcome.{Outcome, ok, fault, _>>=_, _>>_, need, orElse}
+use Rattle.base.specs.Outcome.{Outcome, ok, fault, _>>=_, _>>_, need}
 use Rattle.base.specs.Bytes.{byte, u16}
-use Rattle.base.specs.Limits.{operationLimit, wordLimit, portWordLimit}
-use Rattle.base.proofs.Bools.{and-inv, and-both}
+use Rattle.base.specs.Limits.{portWordLimit, withinLimits}
+use Rattle.base.proofs.Bools.{and-inv, and-false}
 use Rattle.bytecode.specs.Run.{Instruction, BoardList, execute, executeAll, run}
-use Rattle.bytecode.specs.Code.{guard, then, addresses, allLess, Listed, readInstructions, readOutputs, withinLimits, readCounts, marked, decode}
+use Rattle.bytecode.specs.Code.{addresses, allLess, Listed, readInstructions, countsFit, readCounts, marked, decode}
 use Rattle.bytecode.specs.Answers.{Buffers, ran}
 use Rattle.bytecode.proofs.Decoded.{guard-inv, then-inv, addresses-length, all-less}
-use Rattle.base.proofs.Lists.{some-is}
+use Rattle.base.proofs.Lists.{some-is, each-less}
+use Rattle.bytecode.proofs.Origins.{execute-length}
 use Rattle.runner.specs.declared.Counts.{Counts}
-use Rattle.runner.specs.declared.Checked.{Checked}
 use Rattle.runner.specs.declared.Checked.the-variants.{Formed, Malformed}
-use Rattle.runner.specs.declared.Ran.{Ran}
 use Rattle.runner.specs.declared.Ran.the-variants.{Done, Refused}
 use Rattle.executor.specs.Execution.{Canonical}
 use Rattle.executor.specs.Instructions.{CanonicalBefore, afterAll, Instructions}
@@ -53,9 +52,8 @@ pub record Decoded (s : List ℕ) (c : Counts) : Type 0 where
 of-counts : (s : List ℕ) (a o n w : ℕ) (b : BoardList) (c : Counts) → readCounts s a o n w ≡ some b → decode s ≡ some b
     → countsOf b ≡ c → Decoded s c
 of-counts s a o n w b c e d q =
-    let (t, e1) = guard-inv (withinLimits a o n w) _ b e in
-    let (t1, l5) = and-inv (leb a portWordLimit && leb 1 o && leb o portWordLimit && leb n operationLimit) (leb w wordLimit) t in
-    let (t2, l4) = and-inv (leb a portWordLimit && leb 1 o && leb o portWordLimit) (leb n operationLimit) t1 in
+    let (t, e1) = guard-inv (countsFit a o n w) _ b e in
+    let (t2, l4) = and-inv (leb a portWordLimit && leb 1 o && leb o portWordLimit) (withinLimits n w) t in
     let (t3, l3) = and-inv (leb a portWordLimit && leb 1 o) (leb o portWordLimit) t2 in
     let few : o ≤ portWordLimit = leb-true o portWordLimit l3 in
     let (l, el, e2) = then-inv (readInstructions n s 12 a) _ b e1 in
@@ -154,10 +152,6 @@ module _ (s arguments work out : List ℕ) where
             let w = d .words in
             short (ap (λ (b : Bool). b && leb (length (d .list .outputs)) (length out)) (lt-leb (d .list .words) (length work) (omega arith)))
 
-        and-false : (a : Bool) → (a && false) ≡ false
-        and-false true = refl
-        and-false false = refl
-
         pub refused-out : length out < c .outputs → Answered (ran s arguments work out) work out work out (Refused 21 0)
         refused-out l =
             let o = d .outputs in
@@ -222,10 +216,6 @@ pub instructions-ready : (s : List ℕ) (c : Counts) (m : List ℕ) → Decoded 
     → Instructions s (c .instructions) (c .arguments) m
 instructions-ready s c m d h k = let w = d .same-words in record { listed = d .listed; reads = d .reads; room = omega arith; canonical = k }
 
-each-less : (xs : List ℕ) (m n : ℕ) → m ≤ n → Each (λ a. a < m) xs → Each (λ a. a < n) xs
-each-less [] m n h e = tt
-each-less (x ∷ xs) m n h e = let p : x < m = e .0 in (omega arith, each-less xs m n h (e .1))
-
 pub outputs-ready : (s : List ℕ) (c : Counts) (size room : ℕ) → Decoded s c → c .words ≤ size → c .outputs ≤ room
     → OutputsReady s (length s - 2 * c .outputs) (c .outputs) size room
 outputs-ready s c size room d h r =
@@ -235,9 +225,8 @@ outputs-ready s c size room d h r =
 -- ---- lengths
 
 length-all : (is : List Instruction) (m : List ℕ) → length (executeAll is m) ≡ length m
-unfolding execute
 length-all [] m = refl
-length-all (i ∷ is) m = length-all is (execute i m) ∙ simp length-sets
+length-all (i ∷ is) m = length-all is (execute i m) ∙ execute-length i m
 
 pub length-after : (o : Option Listed) (m : List ℕ) → length (afterAll o m) ≡ length m
 unfolding afterAll

@@ -1,70 +1,30 @@
 -- The check of all instructions, and of the whole code.
 use Prim.Native.Nat.{ℕ, zero, suc, _+_, _-_, _*_, _≤_, _<_}
-use mathlib.Core.Path.{_≡_, refl, ap, sym, _∙_, subst}
-use mathlib.Core.Bool.{Bool, true, false, _&&_, cond}
-use mathlib.Core.List.{List, [], _∷_}
+use mathlib.Core.Path.{_≡_, refl, ap, sym, _∙_}
+use mathlib.Core.Bool.{Bool, true, false, _&&_}
+use mathlib.Core.List.{List, _∷_}
 use mathlib.Core.Option.{Option, none, some}
 use native.Mathlib.Omega.{arith}
 use native.Mathlib.Numerals.{sub-one}
 use borrow.Author.Tests.{le-leb, lt-leb, eq-eqb, ne-eqb}
-use lib.Dec.{leb, ltb, eqb}
+use lib.Dec.{leb, eqb}
 use lib.ListN.{length}
 use Rattle.ports.specs.declared.Ports.{Ports}
-use Rattle.ports.specs.Kinds.{Kind, unknown, addition, subtraction, multiplication, division, constant, constvec, constmat, composevector, vectorfromscalar, decomposevector, composematrix, matrixfromcolumns, matrixfromrows, dot, cross, matvecmultiplication, transpose, min, max, abs, fmod, select, clamp, call, kindOf}
-use Rattle.ports.specs.Ports.{width, widths, rows, gives, executable, typeFits, legalInstruction}
-use Rattle.ports.proofs.Laws.{no-kind}
+use Rattle.ports.specs.Kinds.{kindOf}
+use Rattle.ports.specs.Ports.{rows, executable, typeFits, legalInstruction}
+use Rattle.ports.proofs.Laws.{no-kind, words-few}
 use Rattle.base.specs.Bytes.{byte, u16}
 use Rattle.base.specs.Outcome.{Part}
 use Rattle.bytecode.specs.Run.{Instruction, BoardList}
-use Rattle.bytecode.specs.Code.{guard, then, addresses, allLess, readInstruction, nextWord, Listed, readInstructions, readOutputs, withinLimits, readCounts, marked, decode}
+use Rattle.bytecode.specs.Code.{guard, then, addresses, allLess, readInstruction, nextWord, Listed, readInstructions, readOutputs, countsFit, readCounts, marked, decode}
 use Rattle.base.proofs.Lists.{some-is}
 use Rattle.bytecode.proofs.Decoded.{then-inv, addresses-length}
 use Rattle.runner.specs.declared.Next.{Next}
 use Rattle.executor.specs.Execution.{endOf, wordsGiven}
-use Rattle.executor.proofs.Loop.{Read, read-inv}
-use Rattle.runner.specs.declared.Progress.{Progress}
+use Rattle.executor.proofs.Loop.{read-inv}
 use Rattle.runner.specs.declared.Progress.the-variants.{Passed, Refused}
-use Rattle.runner.specs.declared.Counts.{Counts}
-use Rattle.runner.specs.declared.Checked.{Checked}
 use Rattle.runner.specs.declared.Checked.the-variants.{Formed, Malformed}
 use Rattle.runner.specs.Checks.{passedOf, endedOf, checkedOf, headerCounts}
-
--- ---- results are small
-
-width-cond : (p q : Bool) → cond p 1 (cond q 3 16) ≤ 16
-width-cond true q = omega arith
-width-cond false true = omega arith
-width-cond false false = omega arith
-
-width-small : (t : ℕ) → width t + 0 ≤ 16
-width-small t = let h : width t ≤ 16 = width-cond (eqb t 1) (eqb t 2) in omega arith
-
-words-small : (k : Kind) (t : ℕ) → widths (gives k t) ≤ 16
-words-small unknown t = omega arith
-words-small addition t = width-small t
-words-small subtraction t = width-small t
-words-small multiplication t = width-small t
-words-small division t = width-small t
-words-small constant t = omega arith
-words-small constvec t = omega arith
-words-small constmat t = omega arith
-words-small composevector t = omega arith
-words-small vectorfromscalar t = omega arith
-words-small decomposevector t = omega arith
-words-small composematrix t = omega arith
-words-small matrixfromcolumns t = omega arith
-words-small matrixfromrows t = omega arith
-words-small dot t = omega arith
-words-small cross t = omega arith
-words-small matvecmultiplication t = omega arith
-words-small transpose t = omega arith
-words-small min t = width-small t
-words-small max t = width-small t
-words-small abs t = width-small t
-words-small fmod t = width-small t
-words-small select t = width-small t
-words-small clamp t = width-small t
-words-small call t = omega arith
 
 -- ---- an instruction that is not read
 
@@ -141,7 +101,7 @@ go-on (suc n) s at result x h e =
     let f : endOf (byte s at) (at + 2) ≤ length s = r .fits in
     let p : endOf (byte s at) (at + 2) ≡ i .next = ap (λ (y : Part Instruction). y .next) (r .is) in
     let q : result + wordsGiven (byte s at) (byte s (at + 1)) ≡ nextWord result (i .it) = ap (λ (y : Part Instruction). nextWord result (y .it)) (r .is) in
-    let w : wordsGiven (byte s at) (byte s (at + 1)) ≤ 16 = words-small (kindOf (byte s at)) (byte s (at + 1)) in
+    let w : wordsGiven (byte s at) (byte s (at + 1)) ≤ 16 = words-few (kindOf (byte s at)) (byte s (at + 1)) in
     record {
       same = after-some n s at result i ei ∙ ap (λ (y : ℕ). endedOf (readInstructions n s y (nextWord result (i .it)))) (sym ea) ∙ ap (λ (y : ℕ). endedOf (readInstructions n s (x .at) y)) (sym er) ∙ rw sub-one;
       next-at = omega arith;
@@ -215,10 +175,10 @@ module _ (s : List ℕ) where
       unfolding decode
       read = on-check _ (le-leb 12 (length s) long) ∙ on-check _ mark
 
-      pub over-limits : withinLimits (byte s 5) (byte s 6) (u16 s 8) (u16 s 10) ≡ false → Malformed ≡ checkedOf (decode s)
+      pub over-limits : countsFit (byte s 5) (byte s 6) (u16 s 8) (u16 s 10) ≡ false → Malformed ≡ checkedOf (decode s)
       over-limits e = sym (read ∙ off-check _ e)
 
-      module _ (limits : withinLimits (byte s 5) (byte s 6) (u16 s 8) (u16 s 10) ≡ true) where
+      module _ (limits : countsFit (byte s 5) (byte s 6) (u16 s 8) (u16 s 10) ≡ true) where
         opened : checkedOf (decode s) ≡ checkedOf (then (readInstructions (u16 s 8) s 12 (byte s 5)) (readOutputs s (byte s 5) (byte s 6) (u16 s 10)))
         opened = read ∙ on-check _ limits
 

@@ -8,7 +8,7 @@ ghost use Rattle.ports.specs.Ports.{types};
 ghost use Rattle.base.specs.Lists.{wordAt, every};
 ghost use Rattle.value.specs.Values.{argumentWord};
 ghost use Rattle.bytecode.specs.Code as Code;
-ghost use Rattle.bytecode.specs.Code.{addresses, allBelow, allLess, readInstruction, readInstructions, withinLimits, decode};
+ghost use Rattle.bytecode.specs.Code.{addresses, allBelow, allLess, readInstruction, readInstructions, countsFit, decode};
 ghost use Rattle.bytecode.specs.Answers.{ran};
 ghost use Rattle.runner.specs.Checks.{passedOf, endedOf, checkedOf, Exactly, Begun, headerCounts};
 ghost use Rattle.runner.specs.Runs.{Answered, Refused18, Runnable, OutputsReady, memoryOf, outputsOf};
@@ -194,8 +194,9 @@ fn header_counts(s: &[u8]) -> Counts
     }
 }
 
-fn within_limits(c: Counts) -> bool
-    ensures { λ r. ⌜ r ≡ withinLimits (c .arguments) (c .outputs) (c .instructions) (c .words) ⌝ }
+// Whether a code may have these counts.
+fn counts_fit(c: Counts) -> bool
+    ensures { λ r. ⌜ r ≡ countsFit (c .arguments) (c .outputs) (c .instructions) (c .words) ⌝ }
 {
     if base::PORT_WORD_LIMIT < c.arguments {
         return false;
@@ -206,10 +207,7 @@ fn within_limits(c: Counts) -> bool
     if base::PORT_WORD_LIMIT < c.outputs {
         return false;
     }
-    if base::OPERATION_LIMIT < c.instructions {
-        return false;
-    }
-    c.words <= base::WORD_LIMIT
+    base::within_limits(c.instructions, c.words)
 }
 
 // Whether a code is well formed, and its counts.
@@ -224,7 +222,7 @@ pub fn check_code(s: &[u8]) -> Checked
         return Checked::Malformed;
     }
     let counts = header_counts(s);
-    if !within_limits(counts) {
+    if !counts_fit(counts) {
         return Checked::Malformed;
     }
     let Progress::Passed(next) = check_instructions(s, counts.instructions, counts.arguments) else {

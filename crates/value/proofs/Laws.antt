@@ -22,7 +22,7 @@ use Rattle.value.specs.declared.Value.the-variants.{Scalar, Vector, Matr
 use Rattle.value.specs.declared.Operator.the-variants.{Add, Subtract, Multiply, Divide, Minimum, Maximum, Absolute, Remainder, Select, Clamp}
 use Rattle.value.specs.Values.{vec, row, mat, typeOf, word, wordsOf, allWords, floatAt, matAt, valueAt, valueOf, valuesOf, finite}
 use Rattle.base.proofs.Bools.{and-inv, and-both}
-use Rattle.base.specs.Lists.{wordAt, wordsAt, Each, every, Word}
+use Rattle.base.specs.Lists.{wordsAt, Each, every, Word}
 use Rattle.value.specs.Steps.{scalar, matrix}
 use Rattle.value.specs.Results.{operand, vectorOf, results}
 use Rattle.value.proofs.Held.{zero-held, one-held, scalar-held, vector-held, matrix-held, operand-held, each-typed}

@@ -1,9 +1,9 @@
 -- Values, their words, and the value that words stand for.
-use Prim.Native.Nat.{ℕ, zero, suc, _+_, _*_, _^_, _%_}
-use mathlib.Core.Bool.{Bool, true, false, _&&_, cond}
-use mathlib.Core.List.{List, [], _∷_, _++_, map}
+use Prim.Native.Nat.{ℕ, _+_, _*_, _^_, _%_}
+use mathlib.Core.Bool.{Bool, cond}
+use mathlib.Core.List.{List, [], _∷_, _++_}
 use lib.Dec.{eqb, ltb}
-use lib.ListN.{getD, take, drop}
+use lib.ListN.{take, drop}
 use lib.Ieee as Ieee
 use lib.Ieee.{Float, binary64}
 use Rattle.ports.specs.Ports.{width}

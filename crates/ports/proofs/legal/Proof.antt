@@ -7,8 +7,9 @@ use Rattle.ports.proofs.legal.Tie as tie
 
 returns : tie.Need-returns
 returns c =
-    let row = c .before .before .before .ports-of in
-    let a = c .before .before .before .before .args in
+    let looked-up = c .before .before .before in
+    let a = looked-up .before .args in
+    let row = looked-up .ports-of in
     c .type-fits .ensures ∙ legal-by (kindOf (a .kind)) (a .ty) (row .result) (row .ensures) (sym (c .before .before .exists .ensures) ∙ c .before .if1 .taken)
 
 pub legal-spec : {M : Type 1} → statement M

@@ -3,83 +3,16 @@ use Rattle.ports.proofs.Laws.{row-at, no-row}
 use Rattle.ports.proofs.ports_of.Statement.{statement}
 use Rattle.ports.proofs.ports_of.Tie as tie
 
-returns : tie.Need-returns
-returns c = row-at (c .match .keys1)
-
-returns-2 : tie.Need-returns-2
-returns-2 c = row-at (c .match .keys2)
-
-returns-3 : tie.Need-returns-3
-returns-3 c = row-at (c .match .keys3)
-
-returns-4 : tie.Need-returns-4
-returns-4 c = row-at (c .match .keys4)
-
-returns-5 : tie.Need-returns-5
-returns-5 c = row-at (c .match .keys5)
-
-returns-6 : tie.Need-returns-6
-returns-6 c = row-at (c .match .keys6)
-
-returns-7 : tie.Need-returns-7
-returns-7 c = row-at (c .match .keys7)
-
-returns-8 : tie.Need-returns-8
-returns-8 c = row-at (c .match .keys8)
-
-returns-9 : tie.Need-returns-9
-returns-9 c = row-at (c .match .keys9)
-
-returns-10 : tie.Need-returns-10
-returns-10 c = row-at (c .match .keys10)
-
-returns-11 : tie.Need-returns-11
-returns-11 c = row-at (c .match .keys11)
-
-returns-12 : tie.Need-returns-12
-returns-12 c = row-at (c .match .keys12)
-
-returns-13 : tie.Need-returns-13
-returns-13 c = row-at (c .match .keys13)
-
-returns-14 : tie.Need-returns-14
-returns-14 c = row-at (c .match .keys14)
-
-returns-15 : tie.Need-returns-15
-returns-15 c = row-at (c .match .keys15)
-
-returns-16 : tie.Need-returns-16
-returns-16 c = row-at (c .match .keys16)
-
-returns-17 : tie.Need-returns-17
-returns-17 c = row-at (c .match .keys17)
-
-returns-18 : tie.Need-returns-18
-returns-18 c = row-at (c .match .keys18)
-
-returns-19 : tie.Need-returns-19
-returns-19 c = row-at (c .match .keys19)
-
-returns-20 : tie.Need-returns-20
-returns-20 c = row-at (c .match .keys20)
-
-returns-21 : tie.Need-returns-21
-returns-21 c = row-at (c .match .keys21)
-
-returns-22 : tie.Need-returns-22
-returns-22 c = row-at (c .match .keys22)
-
-returns-23 : tie.Need-returns-23
-returns-23 c = row-at (c .match .keys23)
-
-returns-24 : tie.Need-returns-24
-returns-24 c = row-at (c .match .keys24)
-
-returns-25 : tie.Need-returns-25
-returns-25 c = sym (no-row (c .before .args .kind) (c .match .rest))
-
 pub ports-of-spec : {M : Type 1} → statement M
 ports-of-spec =
     tie.close
     (tie.spec
-    returns returns-2 returns-3 returns-4 returns-5 returns-6 returns-7 returns-8 returns-9 returns-10 returns-11 returns-12 returns-13 returns-14 returns-15 returns-16 returns-17 returns-18 returns-19 returns-20 returns-21 returns-22 returns-23 returns-24 returns-25)
+    (λ c. row-at (c .match .keys1)) (λ c. row-at (c .match .keys2)) (λ c. row-at (c .match .keys3))
+    (λ c. row-at (c .match .keys4)) (λ c. row-at (c .match .keys5)) (λ c. row-at (c .match .keys6))
+    (λ c. row-at (c .match .keys7)) (λ c. row-at (c .match .keys8)) (λ c. row-at (c .match .keys9))
+    (λ c. row-at (c .match .keys10)) (λ c. row-at (c .match .keys11)) (λ c. row-at (c .match .keys12))
+    (λ c. row-at (c .match .keys13)) (λ c. row-at (c .match .keys14)) (λ c. row-at (c .match .keys15))
+    (λ c. row-at (c .match .keys16)) (λ c. row-at (c .match .keys17)) (λ c. row-at (c .match .keys18))
+    (λ c. row-at (c .match .keys19)) (λ c. row-at (c .match .keys20)) (λ c. row-at (c .match .keys21))
+    (λ c. row-at (c .match .keys22)) (λ c. row-at (c .match .keys23)) (λ c. row-at (c .match .keys24))
+    (λ c. sym (no-row (c .before .args .kind) (c .match .rest))))

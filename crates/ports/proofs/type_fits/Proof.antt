@@ -1,5 +1,4 @@
 use borrow.Author.Needs.{needs}
-use mathlib.Core.Path.{sym, _∙_}
 use Rattle.ports.proofs.type_fits.Statement.{statement}
 use Rattle.ports.proofs.type_fits.Tie as tie
 

@@ -9,7 +9,7 @@ use denote.Ref.{now}
 use lib.ListN.{length}
 use borrow.Author.Tests.{not-true, not-false}
 use Rattle.base.specs.Bytes.{byte, u16, Bytes}
-use Rattle.bytecode.specs.Code.{addresses, allLess, readInstructions, withinLimits, marked}
+use Rattle.bytecode.specs.Code.{addresses, allLess, readInstructions, countsFit, marked}
 use Rattle.runner.specs.declared.Counts.{Counts}
 use Rattle.runner.specs.declared.Checked.the-variants.{Formed}
 use Rattle.runner.specs.declared.Progress.the-variants.{Passed}
@@ -59,11 +59,11 @@ s3 p = s2 (mark (p .before .before))
 counts-are : (p : tie.After-header-counts) → p .header-counts .result ≡ headerCounts (s2 (mark p))
 counts-are p = p .header-counts .ensures .0
 
-limits-are : (p : tie.After-within-limits) → let s = s2 (mark (p .before)) in
-    withinLimits (byte s 5) (byte s 6) (u16 s 8) (u16 s 10) ≡ p .within-limits .result
+limits-are : (p : tie.After-counts-fit) → let s = s2 (mark (p .before)) in
+    countsFit (byte s 5) (byte s 6) (u16 s 8) (u16 s 10) ≡ p .counts-fit .result
 limits-are p =
-    ap (λ (n : Counts). withinLimits (n .arguments) (n .outputs) (n .instructions) (n .words)) (sym (counts-are (p .before)))
-    ∙ sym (p .within-limits .ensures)
+    ap (λ (n : Counts). countsFit (n .arguments) (n .outputs) (n .instructions) (n .words)) (sym (counts-are (p .before)))
+    ∙ sym (p .counts-fit .ensures)
 
 ended : (p : tie.After-check-instructions) → let s = s3 (limits p) in
     endedOf (readInstructions (u16 s 8) s 12 (byte s 5)) ≡ p .check-instructions .result
@@ -81,7 +81,7 @@ long-is p = long (mark (limits (p .before .before) .before .before) .before) .if
 marked-is : (p : tie.After-next) → marked (s4 p) ≡ true
 marked-is p = mark-is (mark (limits (p .before .before) .before .before))
 
-within-is : (p : tie.After-next) → let s = s4 p in withinLimits (byte s 5) (byte s 6) (u16 s 8) (u16 s 10) ≡ true
+within-is : (p : tie.After-next) → let s = s4 p in countsFit (byte s 5) (byte s 6) (u16 s 8) (u16 s 10) ≡ true
 within-is p = let q = limits (p .before .before) in limits-are (q .before) ∙ not-false _ (q .if3 .left)
 
 ended-is : (p : tie.After-next) → let s = s4 p in endedOf (readInstructions (u16 s 8) s 12 (byte s 5)) ≡ Passed (p .next .given .0 .0)

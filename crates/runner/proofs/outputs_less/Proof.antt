@@ -1,13 +1,13 @@
 -- `runner::outputs_less`: what is left decides.
 use borrow.Author.Needs.{needs}
 use Prim.Native.Nat.{_+_, _*_, _≤_}
-use mathlib.Core.Path.{_≡_, refl, ap, sym, _∙_}
+use mathlib.Core.Path.{_≡_, refl, sym, _∙_}
 use native.Mathlib.Omega.{arith}
 use denote.Ref.{now}
 use Rattle.base.specs.Bytes.{u16}
 use borrow.Author.Tests.{lt-ltb, le-ltb}
 use Rattle.bytecode.specs.Code.{addresses, allLess}
-use lib.ListN.{length, replicate}
+use lib.ListN.{length}
 use Rattle.runner.proofs.Walks.{on, off, over}
 use Rattle.runner.proofs.Checking.{outputs-walk}
 use Rattle.runner.proofs.outputs_less.Statement.{statement}

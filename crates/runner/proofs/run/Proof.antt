@@ -2,7 +2,6 @@
 use borrow.Author.Needs.{needs}
 use Prim.Native.Nat.{ℕ}
 use mathlib.Core.Path.{_≡_, sym, _∙_}
-use mathlib.Core.Bool.{true}
 use mathlib.Core.List.{List}
 use native.Mathlib.Omega.{arith}
 use denote.Ref.{now}
@@ -11,7 +10,6 @@ use Rattle.base.specs.Bytes.{Bytes}
 use Rattle.base.specs.Lists.{every}
 use Rattle.value.specs.Values.{argumentWord}
 use Rattle.runner.specs.declared.Ran.{Ran}
-use Rattle.runner.specs.declared.Counts.{Counts}
 use Rattle.bytecode.specs.Answers.{ran}
 use Rattle.runner.specs.Runs.{Answered, Refused18}
 use Rattle.runner.proofs.Decoding.{Decoded, decoded, refused-18, refused-19, refused-20, refused-work, refused-out, completed}

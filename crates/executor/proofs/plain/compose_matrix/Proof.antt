@@ -1,6 +1,6 @@
 -- `executor::plain::compose_matrix` carries its kind out.
 use borrow.Author.Needs.{needs}
-use mathlib.Core.Path.{ap, _∙_}
+use mathlib.Core.Path.{_∙_}
 use denote.Ref.{now}
 use Rattle.executor.proofs.Stored.{of-scalars}
 use native.Mathlib.Omega.{arith}

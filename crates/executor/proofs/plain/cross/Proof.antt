@@ -1,13 +1,12 @@
 -- `executor::plain::cross` carries its kind out.
 use borrow.Author.Needs.{needs}
-use Rattle.executor.proofs.Stored.{two}
 use Rattle.value.specs.Steps.{crossProduct}
 use Rattle.value.specs.Values.{wordsOf}
 use Rattle.value.specs.declared.Value.the-variants.{Vector}
 use Rattle.value.specs.declared.Vec3.{Vec3}
 use lib.Seq.{sets}
 use denote.Ref.{now}
-use mathlib.Core.Path.{ap, _∙_}
+use mathlib.Core.Path.{ap, _∙_, ap₂}
 use Rattle.value.specs.Results.{results}
 use Rattle.bytecode.specs.Run.{execute}
 use Rattle.executor.proofs.plain.cross.Statement.{statement}
@@ -23,7 +22,7 @@ returns c =
     let known = first .before .before in
     let entry = known .before .before in
     written .put-short .ensures ∙ ap (λ (x : Vec3). sets (now (entry .args .work)) (entry .args .result) (wordsOf (Vector x)))
-    (made .cross .ensures ∙ two crossProduct (first .apart-at .ensures) (second .apart-at2 .ensures))
+    (made .cross .ensures ∙ ap₂ crossProduct (first .apart-at .ensures) (second .apart-at2 .ensures))
 
 pub cross-spec : {M : Type 1} → statement M
 cross-spec =

@@ -1,6 +1,5 @@
 -- `executor::plain::decompose_vector` carries its kind out.
 use borrow.Author.Needs.{needs}
-use mathlib.Core.Path.{ap, _∙_}
 use denote.Ref.{now}
 use Rattle.executor.proofs.Stored.{of-components}
 use Rattle.executor.proofs.plain.decompose_vector.Statement.{statement}

@@ -1,13 +1,12 @@
 -- `executor::plain::dot` carries its kind out.
 use borrow.Author.Needs.{needs}
-use Rattle.executor.proofs.Stored.{two}
 use Rattle.value.specs.Steps.{dotProduct}
 use Rattle.value.specs.Values.{wordsOf}
 use Rattle.value.specs.declared.Value.the-variants.{Scalar}
 use lib.Ieee.{Float}
 use lib.Seq.{sets}
 use denote.Ref.{now}
-use mathlib.Core.Path.{ap, _∙_}
+use mathlib.Core.Path.{ap, _∙_, ap₂}
 use Rattle.value.specs.Results.{results}
 use Rattle.bytecode.specs.Run.{execute}
 use Rattle.executor.proofs.plain.dot.Statement.{statement}
@@ -23,7 +22,7 @@ returns c =
     let known = first .before .before in
     let entry = known .before .before in
     written .put-short .ensures ∙ ap (λ (x : Float). sets (now (entry .args .work)) (entry .args .result) (wordsOf (Scalar x)))
-    (made .dot .ensures ∙ two dotProduct (first .apart-at .ensures) (second .apart-at2 .ensures))
+    (made .dot .ensures ∙ ap₂ dotProduct (first .apart-at .ensures) (second .apart-at2 .ensures))
 
 pub dot-spec : {M : Type 1} → statement M
 dot-spec =
