@@ -10,6 +10,7 @@ use native.Mathlib.Numerals.{add-one}
 use lib.Dec.{leb, eqb}
 use lib.ListN.{length, getD, List·getD-map}
 use borrow.Author.Tests.{leb-true, leb-false, eq-eqb, ne-eqb}
+use Rattle.base.specs.Limits.{kindLimit}
 use Rattle.ports.specs.declared.Form.{Form}
 use Rattle.ports.specs.declared.Form.the-variants.{Absent, Constant, References, Call}
 use Rattle.ports.specs.declared.Ports.{Ports}
@@ -79,7 +80,7 @@ module _ (s : List ℕ) (at : ℕ) where
       let (i, l) = and-inv (leb 1 (u16 s at)) (legal (kindAt s at) (byte s (at + 3))) u in
       (leb-true _ _ i, l)
 
-illegal : (k t : ℕ) → legal (kindOf k) t ≡ true → 25 ≤ k → ⊥
+illegal : (k t : ℕ) → legal (kindOf k) t ≡ true → kindLimit ≤ k → ⊥
 illegal k t l h =
     let e : portsOf (kindOf k) ≡ absent = no-kind k h in
     let (a, b) = and-inv (exists (formOf (kindOf k))) (typeFits (portsOf (kindOf k)) t) l in
@@ -87,10 +88,10 @@ illegal k t l h =
     let z : _≡_ {A = ℕ} 0 1 = cc in
     omega arith
 
-pub kind-below : (s : List ℕ) (at : ℕ) → ReadsNode s at → byte s (at + 2) < 25
-kind-below s at r = let f : 25 ≤ byte s (at + 2) → ⊥ = illegal (byte s (at + 2)) (byte s (at + 3)) (node-legal s at r .1) in pickOne (leb 25 (byte s (at + 2))) refl f
+pub kind-below : (s : List ℕ) (at : ℕ) → ReadsNode s at → byte s (at + 2) < kindLimit
+kind-below s at r = let f : kindLimit ≤ byte s (at + 2) → ⊥ = illegal (byte s (at + 2)) (byte s (at + 3)) (node-legal s at r .1) in pickOne (leb kindLimit (byte s (at + 2))) refl f
   where
-    pickOne : (b : Bool) → leb 25 (byte s (at + 2)) ≡ b → (25 ≤ byte s (at + 2) → ⊥) → byte s (at + 2) < 25
+    pickOne : (b : Bool) → leb kindLimit (byte s (at + 2)) ≡ b → (kindLimit ≤ byte s (at + 2) → ⊥) → byte s (at + 2) < kindLimit
     pickOne true q f = absurd (f (leb-true _ _ q))
     pickOne false q f = leb-false _ _ q
 
@@ -149,7 +150,7 @@ any-default (x ∷ xs) zero a b h = refl
 any-default (x ∷ xs) (suc i) a b h = any-default xs i a b (omega arith)
 
 -- the sizes by numbers and by kinds
-pub size-of : (k : ℕ) → k < 25 → getD nodeSizes k 0 ≡ nodeSize (portsOf (kindOf k))
+pub size-of : (k : ℕ) → k < kindLimit → getD nodeSizes k 0 ≡ nodeSize (portsOf (kindOf k))
 size-of k h = any-default nodeSizes k 0 4 h ∙ List·getD-map nodeSize rows k absent ∙ ap nodeSize (row-of k)
 
 -- so too the references

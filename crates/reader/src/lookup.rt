@@ -3,20 +3,21 @@ ghost use mathlib.Core.Path.{_≡_};
 ghost use Prim.Native.Nat.{_+_, _*_, _<_, _≤_};
 ghost use lib.ListN.{getD};
 ghost use Rattle.ports.specs.Ports.{portsOf};
-ghost use Rattle.base.specs.Limits.{functionLimit};
+ghost use Rattle.base.specs.Limits.{functionLimit, kindLimit};
 ghost use Rattle.graph.specs.Format.{version1};
 ghost use Rattle.reader.specs.Layout.{kindAt, nodeEnd, nodesAt, nodePlace, nodesPlace, earlier};
 ghost use Rattle.reader.specs.Sizes.{nodeSize, nodeSizes, operandCounts};
 ghost use Rattle.reader.specs.Find.{ReadsNode, ReadsNodes, ReadsFunction, Started, nodeFound, functionFound};
 use super::Found;
 use base::FUNCTION_LIMIT;
+use base::KIND_LIMIT;
 use base::u16_at;
 use base::wide;
 
 // ---- columns of the port list: loops over nodes go by these, since a row is looked up by a jump
 
 // The bytes of a node of each kind, as the port list has them. 0 stands for a call: its argument count tells them.
-const SIZES: [u8; 25] = [
+const SIZES: [u8; KIND_LIMIT] = [
     4,
     10,
     10,
@@ -45,7 +46,7 @@ const SIZES: [u8; 25] = [
 ];
 
 // How many references a node of each kind has. A call's argument count tells its own.
-const OPERANDS: [u8; 25] = [
+const OPERANDS: [u8; KIND_LIMIT] = [
     0,
     2,
     2,
@@ -74,20 +75,20 @@ const OPERANDS: [u8; 25] = [
 ];
 
 // Held in a local, they are not built anew at each use.
-pub fn node_sizes() -> [u8; 25]
+pub fn node_sizes() -> [u8; KIND_LIMIT]
     ensures { λ r. ⌜ r ≡ nodeSizes ⌝ }
 {
     SIZES
 }
 
-pub fn operand_counts() -> [u8; 25]
+pub fn operand_counts() -> [u8; KIND_LIMIT]
     ensures { λ r. ⌜ r ≡ operandCounts ⌝ }
 {
     OPERANDS
 }
 
 fn node_size(kind: u8) -> u8
-    requires { ⌜ kind < 25 ⌝ }
+    requires { ⌜ kind < kindLimit ⌝ }
     ensures { λ r. ⌜ r ≡ getD nodeSizes kind 0 ⌝ }
 {
     let k = wide(kind);

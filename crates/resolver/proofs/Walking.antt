@@ -4,6 +4,7 @@ use mathlib.Core.Path.{_≡_, sym, ap, _∙_, subst}
 use mathlib.Core.List.{List, [], _∷_, _++_}
 use native.Mathlib.Omega.{arith}
 use lib.ListN.{getD}
+use Rattle.base.specs.Limits.{kindLimit}
 use Rattle.ports.specs.Ports.{portsOf, arity}
 use Rattle.base.specs.Bytes.{byte}
 use Rattle.graph.specs.Graph.{Node}
@@ -50,7 +51,7 @@ module _ (s : List ℕ) (count : ℕ) where
 -- ---- the size and the operands of the node's kind, from the tables
 
 module _ (s : List ℕ) (at k : ℕ) (r : ReadsNode s at) (e : k ≡ byte s (at + 2)) where
-  pub kind-few : k < 25
+  pub kind-few : k < kindLimit
   kind-few = let b = kind-below s at r in omega (arith, b, e)
 
   pub size-here : (sizes : List ℕ) → sizes ≡ nodeSizes → getD sizes k 0 ≡ nodeSize (portsOf (kindAt s at))

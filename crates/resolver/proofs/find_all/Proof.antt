@@ -9,7 +9,7 @@ use Rattle.resolver.proofs.Walking.{pass-here, kind-few, size-here}
 use Rattle.resolver.proofs.Matching.{Matching, match-start, match-step, match-done}
 use Rattle.resolver.proofs.find_all.Statement.{statement}
 use Rattle.resolver.proofs.find_all.Tie as tie
-use Rattle.base.specs.Limits.{nodeLimit}
+use Rattle.base.specs.Limits.{kindLimit, nodeLimit}
 
 abbrev Inv-loop : tie.InvT-loop
 Inv-loop s first count wanted m found₀ sizes at₀ i₀ found at i = Matching s first count wanted m found at i
@@ -69,7 +69,7 @@ mark-requires-2 c κs =
     let d = c .before .before in
     (start-of-in-loop d .pre .1 .0, d .before .loop .inv .size)
 
-few : (c : tie.After-wide Inv-loop μ-loop) → c .wide .result < 25
+few : (c : tie.After-wide Inv-loop μ-loop) → c .wide .result < kindLimit
 few c =
     let d = in-loop-of-wide c in
     kind-few (start-of-in-loop d .args .s .now) (d .before .loop .at) (c .wide .result) (here d) (c .wide .ensures .0)

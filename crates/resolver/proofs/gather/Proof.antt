@@ -9,7 +9,7 @@ use Rattle.resolver.proofs.Walking.{kind-few, size-here, operands-here}
 use Rattle.resolver.proofs.Gathering.{Gathering, gather-start, gather-step, gather-full, gather-done}
 use Rattle.resolver.proofs.gather.Statement.{statement}
 use Rattle.resolver.proofs.gather.Tie as tie
-use Rattle.base.specs.Limits.{nodeLimit, operandLimit}
+use Rattle.base.specs.Limits.{kindLimit, nodeLimit, operandLimit}
 
 abbrev Inv-loop : tie.InvT-loop
 Inv-loop s at left wanted₀ sizes operands p₀ n₀ m₀ wanted p n m = Gathering s at left wanted₀ wanted p n m
@@ -67,7 +67,7 @@ returns c =
     let l = d .before .loop in
     gather-full (a .s .now) (a .at) (a .left) (a .wanted .now) (l .wanted) (l .p) (l .n) (l .m) (l .inv) (omega (arith, c .if1 .taken))
 
-few : (c : tie.After-wide Inv-loop μ-loop) → c .wide .result < 25
+few : (c : tie.After-wide Inv-loop μ-loop) → c .wide .result < kindLimit
 few c =
     let d = c .before .before .before in
     kind-few (start-of-in-loop d .args .s .now) (d .before .loop .p) (c .wide .result) (here d) (c .wide .ensures .0)

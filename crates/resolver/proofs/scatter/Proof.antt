@@ -10,7 +10,7 @@ use Rattle.resolver.proofs.Walking.{pass-start, pass-here, kind-few, si
 use Rattle.resolver.proofs.Scattering.{Scattering, scatter-start, scatter-step, scatter-done, found-next}
 use Rattle.resolver.proofs.scatter.Statement.{statement}
 use Rattle.resolver.proofs.scatter.Tie as tie
-use Rattle.base.specs.Limits.{nodeLimit}
+use Rattle.base.specs.Limits.{kindLimit, nodeLimit}
 
 abbrev Inv-loop : tie.InvT-loop
 Inv-loop s first count at nodes found targets₀ i sizes operands p₀ n₀ m₀ targets p n m =
@@ -66,7 +66,7 @@ here d =
 head : (d : tie.In-loop Inv-loop μ-loop) → d .before .loop .p + 4 ≤ length (start-of-in-loop d .args .s .now)
 head d = head-fits (start-of-in-loop d .args .s .now) (d .before .loop .p) (here d)
 
-few : (c : tie.After-wide Inv-loop μ-loop) → c .wide .result < 25
+few : (c : tie.After-wide Inv-loop μ-loop) → c .wide .result < kindLimit
 few c =
     let d = c .before .before in
     kind-few (start-of-in-loop d .args .s .now) (d .before .loop .p) (c .wide .result) (here d) (c .wide .ensures .0)

@@ -15,7 +15,7 @@ abbrev μ-loop : tie.MeasureT-loop
 abbrev start : tie.At-loop Inv-loop μ-loop → tie.Start Inv-loop μ-loop
 start c = c .before .before
 
-abbrev inside : tie.After-add Inv-loop μ-loop → tie.In-loop Inv-loop μ-loop
+abbrev inside : tie.After-add-capped Inv-loop μ-loop → tie.In-loop Inv-loop μ-loop
 inside c = c .before .before
 
 loop-holds : tie.Need-loop-holds Inv-loop μ-loop
@@ -49,7 +49,7 @@ loop-again c =
     let l = d .before .loop in
     let a = start (d .before) .args in
     sum-step (a .t .now) (a .n) (a .first) (a .k) (l .total) (l .i) (l .p) (l .inv) (d .loop-test .taken) (x .before .node-sums .result) (x .before .node-sums .ensures)
-    (x .add .result) (c .node-end .result) (x .add .ensures) (c .node-end .ensures)
+    (x .add-capped .result) (c .node-end .result) (x .add-capped .ensures) (c .node-end .ensures)
 
 returns : tie.Need-returns Inv-loop μ-loop
 returns c =

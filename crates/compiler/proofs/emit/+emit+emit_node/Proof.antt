@@ -24,7 +24,7 @@ use Rattle.compiler.proofs.emit.+emit+emit_node.Lts-emit_node as emit-n
 use Rattle.compiler.proofs.emit.arguments.Reads as arguments-reads
 use Rattle.base.proofs.padded_byte.Reads as padded-byte-reads
 use Rattle.compiler.proofs.emit.emit_single.Reads as emit-single-reads
-use Rattle.ports.proofs.is_call.Reads as is-call-reads
+use Rattle.ports.proofs.derived.is_call.Reads as is-call-reads
 use Rattle.sums.proofs.position_of.Reads as position-of-reads
 use Rattle.base.proofs.padded_u16.Reads as padded-u16-reads
 use Rattle.base.proofs.wide.Reads as wide-reads

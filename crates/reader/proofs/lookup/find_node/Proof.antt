@@ -4,6 +4,7 @@ use mathlib.Core.Path.{_≡_, refl, ap, sym, _∙_, subst}
 use mathlib.Core.List.{List}
 use native.Mathlib.Omega.{arith}
 use lib.ListN.{length, getD}
+use Rattle.base.specs.Limits.{kindLimit}
 use Rattle.reader.specs.Sizes.{nodeSize, nodeSizes}
 use Rattle.base.specs.Bytes.{byte, u16}
 use Rattle.reader.specs.Layout.{nodesAt, nodeEnd, kindAt}
@@ -68,7 +69,7 @@ returns c =
     sym (l .inv .2 ∙ node-hit (a .s .now) (a .id) (a .count - l .i) (l .at) (l .i) (left d) (sym (c .before .u16-at .ensures .0) ∙ c .if1 .taken))
 
 -- the kind is one of the list
-below : (c : tie.After-wide Inv-loop μ-loop) → c .wide .result < 25
+below : (c : tie.After-wide Inv-loop μ-loop) → c .wide .result < kindLimit
 below c =
     let d = in-loop-of-wide c in
     let k = kind-below (start-of-in-loop d .args .s .now) (d .before .loop .at) (here d) in

@@ -1,6 +1,6 @@
 use borrow.Author.Tests.{le-leb, lt-leb}
-use Rattle.ports.proofs.is_type.Statement.{statement}
-use Rattle.ports.proofs.is_type.Tie as tie
+use Rattle.ports.proofs.derived.is_type.Statement.{statement}
+use Rattle.ports.proofs.derived.is_type.Tie as tie
 
 returns : tie.Need-returns
 returns c = simp (le-leb _ _ (c .if1 .taken))

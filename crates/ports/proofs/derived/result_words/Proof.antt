@@ -1,7 +1,7 @@
 use borrow.Author.Needs.{needs}
 use native.Mathlib.Omega.{arith}
-use Rattle.ports.proofs.result_words.Statement.{statement}
-use Rattle.ports.proofs.result_words.Tie as tie
+use Rattle.ports.proofs.derived.result_words.Statement.{statement}
+use Rattle.ports.proofs.derived.result_words.Tie as tie
 
 returns : tie.Need-returns
 returns c = (rw (c .before .if1 .taken) (c .width .ensures .0), omega (arith, c .width .ensures .1))

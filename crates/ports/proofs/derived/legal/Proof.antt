@@ -2,8 +2,8 @@ use borrow.Author.Needs.{needs}
 use mathlib.Core.Path.{sym, _∙_}
 use Rattle.ports.specs.Kinds.{kindOf}
 use Rattle.ports.proofs.Laws.{legal-by}
-use Rattle.ports.proofs.legal.Statement.{statement}
-use Rattle.ports.proofs.legal.Tie as tie
+use Rattle.ports.proofs.derived.legal.Statement.{statement}
+use Rattle.ports.proofs.derived.legal.Tie as tie
 
 returns : tie.Need-returns
 returns c =

@@ -1,7 +1,7 @@
 use native.Mathlib.Omega.{arith}
 use borrow.Author.Tests.{eq-eqb, ne-eqb}
-use Rattle.ports.proofs.width.Statement.{statement}
-use Rattle.ports.proofs.width.Tie as tie
+use Rattle.ports.proofs.derived.width.Statement.{statement}
+use Rattle.ports.proofs.derived.width.Tie as tie
 
 returns : tie.Need-returns
 returns c = (simp (eq-eqb _ _ (c .if1 .taken)), omega arith)

@@ -1,6 +1,6 @@
 use borrow.Author.Needs.{needs}
-use Rattle.ports.proofs.type_fits.Statement.{statement}
-use Rattle.ports.proofs.type_fits.Tie as tie
+use Rattle.ports.proofs.derived.type_fits.Statement.{statement}
+use Rattle.ports.proofs.derived.type_fits.Tie as tie
 
 returns : tie.Need-returns
 returns c = rw (c .before .if1 .taken) (c .is-type .ensures)

@@ -1,6 +1,6 @@
 use borrow.Author.Tests.{eq-eqb, ne-eqb}
-use Rattle.ports.proofs.own.Statement.{statement}
-use Rattle.ports.proofs.own.Tie as tie
+use Rattle.ports.proofs.derived.own.Statement.{statement}
+use Rattle.ports.proofs.derived.own.Tie as tie
 
 returns : tie.Need-returns
 returns c = simp (eq-eqb _ _ (c .if1 .taken))
