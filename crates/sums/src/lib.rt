@@ -84,7 +84,7 @@ pub struct Sums {
     pub bytes: usize,
 }
 
-fn add(a: Sums, b: Sums) -> Sums
+fn add_sums(a: Sums, b: Sums) -> Sums
     requires { ⌜ Small a × Small b ⌝ }
     ensures { λ r. ⌜ r ≡ capSums (both a b) ⌝ }
 {
@@ -195,7 +195,7 @@ fn nodes_sums(
     let mut i = 0;
     while i < n {
         let own = node_sums(t, starts, k, ops, words, counts, sizes, p);
-        total = add(total, own);
+        total = add_sums(total, own);
         p = reader::node_end(t, p);
         i += 1;
     }

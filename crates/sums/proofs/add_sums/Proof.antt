@@ -1,7 +1,7 @@
 use borrow.Author.Needs.{needs}
 use mathlib.Core.Path.{refl}
-use Rattle.sums.proofs.add.Statement.{statement}
-use Rattle.sums.proofs.add.Tie as tie
+use Rattle.sums.proofs.add_sums.Statement.{statement}
+use Rattle.sums.proofs.add_sums.Tie as tie
 
 returns : tie.Need-returns
 returns c =
@@ -10,7 +10,7 @@ returns c =
     let o = w .before .before .before in
     rw (o .capped .ensures, w .capped2 .ensures, m .capped3 .ensures, c .capped4 .ensures) refl
 
-pub add-spec : {M : Type 1} → statement M
-add-spec =
+pub add-sums-spec : {M : Type 1} → statement M
+add-sums-spec =
     tie.close
     (tie.spec (λ c. search needs) (λ c κs. search needs) (λ c. search needs) (λ c κs. search needs) (λ c. search needs) (λ c κs. search needs) (λ c. search needs) (λ c κs. search needs) returns)
