@@ -76,7 +76,7 @@ pub struct Sums {
     pub bytes: usize,
 }
 
-fn add_capped(a: Sums, b: Sums) -> Sums
+fn add_sums(a: Sums, b: Sums) -> Sums
     requires { ⌜ Small a × Small b ⌝ }
     ensures { λ r. ⌜ r ≡ capSums (both a b) ⌝ }
 {
@@ -187,7 +187,7 @@ fn nodes_sums(
     let mut i = 0;
     while i < n {
         let own = node_sums(t, starts, k, ops, words, counts, sizes, p);
-        total = add_capped(total, own);
+        total = add_sums(total, own);
         p = reader::node_end(t, p);
         i += 1;
     }

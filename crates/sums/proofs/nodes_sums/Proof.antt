@@ -15,7 +15,7 @@ abbrev μ-loop : tie.MeasureT-loop
 abbrev start : tie.At-loop Inv-loop μ-loop → tie.Start Inv-loop μ-loop
 start c = c .before .before
 
-abbrev inside : tie.After-add-capped Inv-loop μ-loop → tie.In-loop Inv-loop μ-loop
+abbrev inside : tie.After-add-sums Inv-loop μ-loop → tie.In-loop Inv-loop μ-loop
 inside c = c .before .before
 
 loop-holds : tie.Need-loop-holds Inv-loop μ-loop
@@ -28,8 +28,8 @@ node-sums-requires c κs =
     let a = b .args in
     ((b .pre .0 .0, sum-here (a .t .now) (a .n) (a .first) (a .k) (l .total) (l .i) (l .p) (l .inv) (c .loop-test .taken), b .pre .0 .2), b .pre .1)
 
-add-requires : tie.Need-add-requires Inv-loop μ-loop
-add-requires c κs =
+add-sums-requires : tie.Need-add-sums-requires Inv-loop μ-loop
+add-sums-requires c κs =
     let d = c .before .before in
     let l = d .loop in
     let a = start d .args in
@@ -49,7 +49,7 @@ loop-again c =
     let l = d .before .loop in
     let a = start (d .before) .args in
     sum-step (a .t .now) (a .n) (a .first) (a .k) (l .total) (l .i) (l .p) (l .inv) (d .loop-test .taken) (x .before .node-sums .result) (x .before .node-sums .ensures)
-    (x .add-capped .result) (c .node-end .result) (x .add-capped .ensures) (c .node-end .ensures)
+    (x .add-sums .result) (c .node-end .result) (x .add-sums .ensures) (c .node-end .ensures)
 
 returns : tie.Need-returns Inv-loop μ-loop
 returns c =
@@ -60,4 +60,4 @@ returns c =
 pub nodes-sums-spec : {M : Type 1} → statement M
 nodes-sums-spec =
     tie.close
-    (tie.spec Inv-loop μ-loop loop-holds node-sums-requires add-requires node-end-requires (λ c. search needs) (λ c. search needs) loop-again returns)
+    (tie.spec Inv-loop μ-loop loop-holds node-sums-requires add-sums-requires node-end-requires (λ c. search needs) (λ c. search needs) loop-again returns)
