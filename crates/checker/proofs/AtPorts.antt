@@ -1,17 +1,17 @@
 -- The types at the ports of inputs, outputs and nodes.
 use Prim.Native.Nat.{ℕ, zero, suc, _+_, _-_, _*_, _<_, _≤_}
 use mathlib.Core.Path.{_≡_, refl, ap, sym, _∙_}
-use mathlib.Core.List.{List, [], _∷_}
-use mathlib.Core.Option.{Option, none, some}
+use mathlib.Core.List.{List}
+use mathlib.Core.Option.{none, some}
 use native.Mathlib.Omega.{arith}
 use native.Mathlib.Nat.{not-suc-le-zero}
-use lib.ListN.{length, replicate, getElem?}
+use lib.ListN.{replicate, getElem?}
 use Rattle.ports.specs.declared.Form.{Form}
 use Rattle.ports.specs.declared.Form.the-variants.{Absent, Constant, References, Call}
 use Rattle.ports.specs.declared.Ports.{Ports}
 use Rattle.ports.specs.Ports.{portsOf, formOf, gives, givesRow}
 use Rattle.base.specs.Bytes.{byte, u16}
-use Rattle.graph.specs.Graph.{Payload, Node, Function}
+use Rattle.graph.specs.Graph.{Function}
 use Rattle.graph.specs.Look.{findFunction}
 use Rattle.graph.specs.Types.{givesOf, outputsOf, outputTypes}
 use Rattle.reader.specs.Layout.{kindAt, payloadAt, nodeAt, inputsAt, outputsAt, functionAt}

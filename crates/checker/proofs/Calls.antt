@@ -1,8 +1,8 @@
 -- 10: a call names an earlier function, and has as many arguments as that has inputs.
-use Prim.Native.Nat.{ℕ, zero, suc, _+_, _-_, _*_, _<_, _≤_}
+use Prim.Native.Nat.{ℕ, zero, suc, _+_, _-_, _<_}
 use mathlib.Core.Path.{_≡_, refl, ap, sym, _∙_}
 use mathlib.Core.Bool.{Bool, true, false, _&&_}
-use mathlib.Core.List.{List, [], _∷_}
+use mathlib.Core.List.{List}
 use mathlib.Core.Option.{Option, none, some}
 use native.Mathlib.Omega.{arith}
 use native.Mathlib.Nat.{not-suc-le-zero}
@@ -13,7 +13,7 @@ use Rattle.ports.specs.declared.Form.the-variants.{Absent, Constant, References
 use Rattle.ports.specs.Ports.{formOf}
 use Rattle.base.specs.Outcome.{Outcome, ok, fault, need, each}
 use Rattle.base.specs.Bytes.{byte, u16}
-use Rattle.graph.specs.Graph.{Payload, Node, Function}
+use Rattle.graph.specs.Graph.{Node, Function}
 use Rattle.graph.specs.Look.{findFunction, found}
 use Rattle.graph.specs.Read.{references}
 use Rattle.graph.specs.Judge.{callOk}

@@ -1,9 +1,9 @@
 -- 9: no earlier node has the id.
 use Prim.Native.Nat.{ℕ, zero, suc, _+_, _-_, _<_, _≤_}
-use mathlib.Core.Path.{_≡_, refl, ap, sym, _∙_, subst}
+use mathlib.Core.Path.{_≡_, refl, ap, sym, _∙_}
 use mathlib.Core.Bool.{Bool, true, false, not, cond}
 use mathlib.Core.List.{List, [], _∷_}
-use mathlib.Core.Option.{Option, none, some}
+use mathlib.Core.Option.{some}
 use native.Mathlib.Omega.{arith}
 use native.Mathlib.Nat.{not-suc-le-zero}
 use native.Mathlib.Numerals.{add-one}
@@ -11,7 +11,7 @@ use lib.Dec.{eqb}
 use lib.ListN.{length, getD, set}
 use lib.Seq.{getD-set-same, getD-set-other}
 use borrow.Author.Tests.{eq-eqb, ne-eqb}
-use Rattle.base.specs.Outcome.{Outcome, ok, fault, need}
+use Rattle.base.specs.Outcome.{Outcome, ok, fault}
 use Rattle.base.specs.Bytes.{u16}
 use Rattle.graph.specs.Graph.{Node}
 use Rattle.graph.specs.Look.{findNode, found}
@@ -19,7 +19,7 @@ use Rattle.graph.specs.Judge.{fresh}
 use Rattle.base.proofs.Outcomes.{passes, fails}
 use Rattle.reader.specs.Layout.{nodeAt, nodeEnd, nodesAt}
 use Rattle.reader.specs.Find.{ReadsNodes}
-use Rattle.reader.proofs.Passed.{first-reads, rest-reads}
+use Rattle.reader.proofs.Passed.{rest-reads}
 use Rattle.checker.specs.Answers.{hit}
 
 -- ---- the search among the ids

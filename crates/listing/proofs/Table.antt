@@ -19,7 +19,7 @@ use Rattle.base.specs.Outcome.{ok, fault}
 use Rattle.base.specs.Bytes.{byte, u16}
 use Rattle.graph.specs.Graph.{Function}
 use Rattle.graph.specs.Format.{version1}
-use Rattle.graph.specs.Judge.{table, verdict}
+use Rattle.graph.specs.Judge.{verdict}
 use Rattle.graph.specs.Sums.{functionOperations, operationsOf, functionWords}
 use Rattle.reader.specs.Layout.{outputsAt, functionAt, inputCount, outputCount, nodeCount, outputsPlace, nodesPlace}
 use Rattle.lowering.specs.Compile.{boardListOf}

@@ -1,6 +1,6 @@
 -- What the compiler answers of a function that was found, and what it asks.
 use Prim.Native.Nat.{ℕ, suc, _+_, _≤_, _<_}
-use mathlib.Core.Path.{_≡_, refl, sym, ap, _∙_}
+use mathlib.Core.Path.{_≡_, sym, ap, _∙_}
 use mathlib.Core.List.{List}
 use native.Mathlib.Omega.{arith}
 use lib.Dec.{leb}
@@ -10,7 +10,6 @@ use borrow.Author.Tests.{le-leb, lt-leb}
 use Rattle.base.specs.Outcome.{ok, fault}
 use Rattle.base.proofs.Outcomes.{takes, stops, passes, fails}
 use Rattle.ports.specs.Ports.{widths}
-use Rattle.graph.specs.Sums.{functionWords}
 use Rattle.graph.specs.Table.{Chosen}
 use Rattle.bytecode.specs.Run.{places}
 use Rattle.lowering.specs.Answers.{codeOf, compilable, compiled}

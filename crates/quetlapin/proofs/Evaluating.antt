@@ -8,11 +8,11 @@ use native.Mathlib.Omega.{arith}
 use lib.Dec.{leb, eqb}
 use lib.ListN.{length, take}
 use lib.Seq.{sets}
-use borrow.Author.Tests.{le-leb, lt-leb, eq-eqb, ne-eqb}
+use borrow.Author.Tests.{lt-leb, eq-eqb, ne-eqb}
 use Rattle.ports.specs.Ports.{widths}
 use Rattle.base.specs.Lists.{wordAt, every, Word, Each}
 use Rattle.value.specs.Values.{argumentWord}
-use Rattle.base.specs.Outcome.{Outcome, ok, fault, _>>=_}
+use Rattle.base.specs.Outcome.{Outcome, ok, fault}
 use Rattle.base.specs.Bytes.{Bytes}
 use Rattle.graph.specs.Graph.{Function}
 use Rattle.graph.specs.Types.{outputTypes}
@@ -25,7 +25,7 @@ use Rattle.lowering.specs.Answers as Answers
 use Rattle.lowering.specs.Answers.{compilable, codeOf, compiled, evaluated}
 use Rattle.lowering.specs.Demand3.{Within, Lent, Demand3}
 use Rattle.value.proofs.Laws.{each-finite}
-use Rattle.lowering.proofs.Whole.{compilable-within, leaves, withCode, compiles, runOrRefusal, evaluated-is, list-ok, evaluated-ok, demand3}
+use Rattle.lowering.proofs.Whole.{compilable-within, leaves, withCode, runOrRefusal, evaluated-is, list-ok, evaluated-ok, demand3}
 use Rattle.sums.specs.declared.Sizes.{Sizes}
 use Rattle.runner.specs.declared.Ran.{Ran}
 use Rattle.runner.specs.Runs as runner

@@ -1,6 +1,6 @@
 -- Every answer is told whole: a success is below 2^32, a refusal has one of 01's numbers and a place below 2^32, and so no two answers
 -- have the same number.
-use Prim.Native.Nat.{ℕ, _+_, _*_, _≤_, _<_}
+use Prim.Native.Nat.{ℕ, _≤_}
 use mathlib.Core.Path.{_≡_, refl, ap, sym, _∙_, subst}
 use mathlib.Core.Bool.{Bool, true, false, _&&_}
 use mathlib.Core.List.{List}

@@ -8,16 +8,15 @@ use lib.ListN.{length}
 use Rattle.ports.specs.declared.Form.{Form}
 use Rattle.ports.specs.declared.Form as Forms
 use Rattle.ports.specs.declared.Ports.{Ports}
-use Rattle.ports.specs.Ports.{width, portsOf, arity, constantWords, formOf, calling, exists, typeFits, legal}
+use Rattle.ports.specs.Ports.{width, portsOf, arity, formOf, calling, exists, typeFits}
 use Rattle.base.specs.Bytes.{byte, u16, constants}
 use Rattle.base.proofs.Bools.{and-inv}
 use Rattle.value.specs.Values.{valueOf}
-use Rattle.graph.specs.Look.{readsOf, reads}
+use Rattle.graph.specs.Look.{readsOf}
 use Rattle.graph.specs.Read.{references}
 use Rattle.graph.proofs.Formed.{refs-length}
 use Rattle.reader.specs.declared.Payload.{Payload}
 use Rattle.reader.specs.declared.Payload.the-variants.{Constant, Call, References}
-use Rattle.reader.specs.declared.Reads.{Reads}
 use Rattle.reader.specs.Layout.{kindAt, payloadAt, nodeAt}
 use Rattle.reader.specs.Records.{payloadOf, argumentsAt, operandsAt, nodeOf}
 use Rattle.reader.specs.Find.{ReadsNode, ReadsOf}

@@ -1,8 +1,8 @@
 -- The reading of inputs, outputs, nodes and functions, one at a time.
-use Prim.Native.Nat.{ℕ, zero, suc, _+_, _-_, _*_, _≤_, _<_}
+use Prim.Native.Nat.{ℕ, zero, suc, _+_, _-_, _≤_, _<_}
 use mathlib.Core.Path.{_≡_, refl, ap, sym, _∙_}
-use mathlib.Core.Bool.{Bool, true, false, _&&_}
-use mathlib.Core.List.{List, [], _∷_}
+use mathlib.Core.Bool.{true, false, _&&_}
+use mathlib.Core.List.{List, _∷_}
 use native.Mathlib.Omega.{arith}
 use native.Mathlib.Nat.{not-suc-le-zero}
 use native.Mathlib.Numerals.{sub-one}
@@ -11,13 +11,13 @@ use lib.ListN.{length}
 use borrow.Author.Tests.{le-leb, lt-leb, eq-eqb, ne-eqb}
 use Rattle.base.specs.Outcome.{Outcome, ok, fault, _>>=_, _>>_, need, Part}
 use Rattle.graph.specs.Graph as Graph
-use Rattle.graph.specs.Graph.{Output, Function}
+use Rattle.graph.specs.Graph.{Function}
 use Rattle.base.specs.Bytes.{byte, u16}
 use Rattle.graph.specs.Format.{version1}
 use Rattle.graph.specs.Read.{reference, inputs, outputs, node, nodes, inRange, function, functions, marked, parse}
 use Rattle.base.proofs.Outcomes.{takes, stops, passes, fails}
 use Rattle.reader.specs.Layout.{outputsPlace, nodesPlace}
-use Rattle.reader.specs.Records.{seen, next, behind, nodeOf, nodeRead}
+use Rattle.reader.specs.Records.{seen, next, behind, nodeRead}
 use Rattle.reader.specs.declared.Next.{Next}
 use Rattle.reader.specs.declared.Seen.{Seen}
 use Rattle.reader.specs.declared.Node.{Node}

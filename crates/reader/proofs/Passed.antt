@@ -2,7 +2,7 @@
 use Prim.Native.Nat.{ℕ, zero, suc, _+_, _-_, _*_, _≤_, _<_}
 use mathlib.Core.Path.{_≡_, refl, ap, sym, _∙_, subst}
 use mathlib.Core.Bool.{Bool, true, false, _&&_, cond}
-use mathlib.Core.Option.{Option, none, some}
+use mathlib.Core.Option.{none, some}
 use mathlib.Core.List.{List, [], _∷_}
 use native.Mathlib.Omega.{arith}
 use native.Mathlib.Nat.{not-suc-le-zero}
@@ -17,19 +17,18 @@ use Rattle.ports.specs.declared.Ports.{Ports}
 use Rattle.ports.specs.Kinds.{Kind, kindOf}
 use Rattle.ports.specs.Ports.{absent, portsOf, rows, arity, constantIn, constantWords, formOf, exists, typeFits, legal}
 use Rattle.ports.proofs.Laws.{no-kind, row-of}
-use Rattle.base.specs.Outcome.{Outcome, ok, fault, Part}
+use Rattle.base.specs.Outcome.{ok, Part}
 use Rattle.base.specs.Bytes.{byte, u16}
-use Rattle.graph.specs.Graph.{Payload, Node, Output, Function}
+use Rattle.graph.specs.Graph.{Payload, Node, Output}
 use Rattle.graph.specs.Look.{findNode, findFunction}
-use Rattle.graph.specs.Format.{version1}
-use Rattle.graph.specs.Read.{inRange, inputs, outputs, payload, node, nodes, function, functions, parse}
+use Rattle.graph.specs.Read.{inputs, outputs, payload, nodes}
 use Rattle.base.proofs.Bools.{and-inv}
 use Rattle.base.proofs.Outcomes.{took, passed}
-use Rattle.reader.specs.Layout.{kindAt, payloadEnd, nodeAt, nodeEnd, nodesAt, nodePlace, inputCount, outputCount, nodeCount, outputsPlace, nodesPlace, functionAt, functionEnd, functionPlace, earlier}
+use Rattle.reader.specs.Layout.{kindAt, payloadEnd, nodeAt, nodeEnd, nodesAt, nodePlace, inputCount, nodeCount, nodesPlace, functionAt, functionPlace, earlier}
 use Rattle.reader.specs.Sizes.{sizeBy, nodeSize, nodeSizes, operandCounts}
 use Rattle.reader.specs.Find.{ReadsNode, ReadsNodes, ReadsFunction, nodeFound, functionFound}
 use Rattle.reader.specs.declared.Found.the-variants.{At, Nothing}
-use Rattle.reader.proofs.Standing.{node-read, nodes-read, function-read}
+use Rattle.reader.proofs.Standing.{node-read}
 
 -- ---- one node
 

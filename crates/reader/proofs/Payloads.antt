@@ -1,33 +1,32 @@
 -- The reading of a payload and of a node, step by step.
-use Prim.Native.Nat.{ℕ, zero, suc, _+_, _-_, _*_, _≤_, _<_}
-use mathlib.Core.Path.{_≡_, refl, ap, sym, _∙_}
-use mathlib.Core.Bool.{Bool, true, false, _&&_, cond}
-use mathlib.Core.List.{List, [], _∷_}
+use Prim.Native.Nat.{ℕ, _+_, _-_, _*_, _≤_, _<_}
+use mathlib.Core.Path.{_≡_, ap, sym, _∙_}
+use mathlib.Core.Bool.{true, false, _&&_}
+use mathlib.Core.List.{List}
 use native.Mathlib.Omega.{arith}
-use lib.Dec.{leb, eqb}
+use lib.Dec.{leb}
 use lib.ListN.{length}
 use borrow.Author.Tests.{le-leb, lt-leb}
 use Rattle.ports.specs.declared.Form.{Form}
 use Rattle.ports.specs.declared.Form as Forms
-use Rattle.ports.specs.Kinds.{Kind, kindOf}
+use Rattle.ports.specs.Kinds.{Kind}
 use Rattle.ports.specs.declared.Ports.{Ports}
-use Rattle.ports.specs.Ports.{width, portsOf, arity, constantWords, formOf, exists, typeFits, legal}
+use Rattle.ports.specs.Ports.{portsOf, arity, constantWords, formOf, exists, typeFits, legal}
 use Rattle.value.specs.Values.{valueOf, constantWord}
 use Rattle.base.specs.Lists.{every}
-use Rattle.base.specs.Outcome.{Outcome, ok, fault, _>>=_, _>>_, need, Part}
+use Rattle.base.specs.Outcome.{Outcome, ok, fault, _>>=_, _>>_, Part}
 use Rattle.graph.specs.Graph as Graph
-use Rattle.graph.specs.Graph.{consts, refs, calls}
-use Rattle.base.specs.Bytes.{byte, u16, u64, constants}
-use Rattle.graph.specs.Read.{references, payload, node}
-use Rattle.base.proofs.Outcomes.{takes, stops, passes, fails}
+use Rattle.graph.specs.Graph.{consts}
+use Rattle.base.specs.Bytes.{byte, u16, constants}
+use Rattle.graph.specs.Read.{payload, node}
+use Rattle.base.proofs.Outcomes.{passes, fails}
 use Rattle.graph.proofs.Formed.{refs-length}
 use Rattle.reader.specs.Layout.{kindAt}
-use Rattle.reader.specs.Records.{payloadOf, payloadRead, nodeRead}
+use Rattle.reader.specs.Records.{payloadRead, nodeRead}
 use Rattle.reader.specs.declared.PayloadRead.{PayloadRead}
 use Rattle.reader.specs.declared.Payload.{Payload}
 use Rattle.reader.specs.declared.Payload.the-variants.{Constant, Call, References}
 use Rattle.reader.specs.declared.NodeRead.{NodeRead}
-use Rattle.reader.specs.declared.Node.{Node}
 
 -- ---- constants
 

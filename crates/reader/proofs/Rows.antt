@@ -1,7 +1,7 @@
 -- What every row of the port list has.
 use Prim.Native.Nat.{ℕ, zero, suc, _≤_}
-use mathlib.Core.Path.{_≡_, refl, ap, sym, _∙_, subst}
-use mathlib.Core.Bool.{Bool, true, false, _&&_}
+use mathlib.Core.Path.{_≡_, refl, subst}
+use mathlib.Core.Bool.{Bool, true, _&&_}
 use mathlib.Core.List.{List, [], _∷_}
 use lib.Dec.{leb, eqb}
 use lib.ListN.{getD}
@@ -10,7 +10,7 @@ use Rattle.ports.specs.declared.Form.{Form}
 use Rattle.ports.specs.declared.Form.the-variants.{Absent, Constant, References, Call}
 use Rattle.ports.specs.declared.Ports.{Ports}
 use Rattle.ports.specs.Kinds.{kindOf}
-use Rattle.ports.specs.Ports.{width, absent, portsOf, rows, constantWords, formOf}
+use Rattle.ports.specs.Ports.{width, absent, portsOf, rows, constantWords}
 use Rattle.ports.proofs.Laws.{row-of}
 use Rattle.base.proofs.Bools.{and-inv}
 

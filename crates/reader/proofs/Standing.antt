@@ -1,20 +1,20 @@
 -- Where the reading passed, what stands at a place is what was read.
 use Prim.Native.Nat.{ℕ, zero, suc, _+_, _*_}
-use mathlib.Core.Path.{_≡_, refl, ap, sym, _∙_, subst}
+use mathlib.Core.Path.{_≡_, ap, sym, _∙_}
 use mathlib.Core.List.{List, [], _∷_, reverse, reverseAux}
 use native.Mathlib.Omega.{arith}
 use Rattle.ports.specs.declared.Form.{Form}
 use Rattle.ports.specs.declared.Form.the-variants.{Absent, Constant, References, Call}
-use Rattle.ports.specs.Kinds.{Kind, kindOf}
-use Rattle.ports.specs.Ports.{arity, constantWords, formOf}
-use Rattle.base.specs.Outcome.{Outcome, ok, fault, Part}
+use Rattle.ports.specs.Kinds.{Kind}
+use Rattle.ports.specs.Ports.{formOf}
+use Rattle.base.specs.Outcome.{ok, Part}
 use Rattle.base.specs.Bytes.{byte, u16}
-use Rattle.graph.specs.Graph.{Payload, consts, refs, calls, Node, Output, Function}
+use Rattle.graph.specs.Graph.{Payload, Node, Output, Function}
 use Rattle.graph.specs.Format.{Format, version1}
 use Rattle.graph.specs.Read.{inputs, outputs, payload, node, nodes, function, functions, parse}
 use Rattle.graph.specs.Judge.{table, judgeAll}
 use Rattle.base.proofs.Outcomes.{took, after, passed, ok-is}
-use Rattle.reader.specs.Layout.{kindAt, payloadAt, payloadEnd, nodeAt, nodeEnd, nodesAt, nodePlace, inputsAt, outputsAt, functionAt, functionEnd, functionsAt, functionPlace, functionOf, earlier, nodesPlace, outputsPlace}
+use Rattle.reader.specs.Layout.{kindAt, payloadAt, payloadEnd, nodeAt, nodeEnd, nodesAt, nodePlace, inputsAt, outputsAt, functionAt, functionEnd, functionsAt, functionPlace, earlier}
 
 abbrev part : {A : Type 0} → A → ℕ → Part A
 part a n = record { it = a; next = n }

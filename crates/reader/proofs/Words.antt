@@ -1,11 +1,10 @@
 -- Words of the table, one after another.
-use Prim.Native.Nat.{ℕ, zero, suc, _+_, _-_, _*_, _^_, _%_, _≤_, _<_}
-use mathlib.Core.Path.{_≡_, refl, ap, sym, _∙_}
-use mathlib.Core.Bool.{Bool, true, false, _&&_}
-use mathlib.Core.List.{List, [], _∷_}
+use Prim.Native.Nat.{ℕ, zero, suc, _+_, _-_, _*_, _<_}
+use mathlib.Core.Path.{_≡_, ap, sym, _∙_}
+use mathlib.Core.List.{List}
 use native.Mathlib.Omega.{arith}
 use native.Mathlib.Nat.{not-suc-le-zero}
-use borrow.Author.Tests.{lt-ltb, le-ltb, ne-eqb}
+use borrow.Author.Tests.{ne-eqb}
 use lib.ListN.{getD}
 use lib.Ieee as Ieee
 use lib.Ieee.{Float, binary64}
@@ -13,8 +12,7 @@ use Rattle.value.specs.declared.Row.{Row}
 use Rattle.value.specs.declared.Value.the-variants.{Vector, Matrix}
 use Rattle.ports.specs.Ports.{width}
 use Rattle.value.specs.Values as Values
-use Rattle.value.specs.Values.{vec, row, mat, valueOf, constantWord}
-use Rattle.base.specs.Lists.{every}
+use Rattle.value.specs.Values.{vec, row, mat, valueOf}
 use Rattle.reader.specs.Records.{floatAt, rowAt, matrixAt, vectorAt}
 use Rattle.base.specs.Bytes.{u64, constants}
 

@@ -1,12 +1,12 @@
 -- What the lookups answer, and where they may look.
-use Prim.Native.Nat.{ℕ, zero, suc, _+_, _*_, _≤_, _<_}
+use Prim.Native.Nat.{ℕ, _+_, _*_, _≤_, _<_}
 use mathlib.Core.Path.{_≡_}
-use mathlib.Core.Bool.{Bool, true, false, cond}
+use mathlib.Core.Bool.{cond}
 use mathlib.Core.List.{List, [], _∷_}
 use lib.Dec.{eqb}
 use lib.ListN.{length, getD}
 use Rattle.base.specs.Limits.{operandLimit}
-use Rattle.base.specs.Outcome.{Outcome, ok, Part}
+use Rattle.base.specs.Outcome.{ok, Part}
 use Rattle.graph.specs.Graph.{Node, Function}
 use Rattle.graph.specs.Format.{version1}
 use Rattle.graph.specs.Look.{reads}

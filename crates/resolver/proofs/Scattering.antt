@@ -9,7 +9,6 @@ use lib.ListN.{length, getD, length-append, length-map}
 use lib.Seq.{sets}
 use Rattle.graph.specs.Graph.{Ref, Node}
 use Rattle.graph.specs.Look.{reads}
-use Rattle.graph.specs.Read.{references}
 use Rattle.graph.proofs.Formed.{refs-length}
 use Rattle.reader.specs.Layout.{nodeAt, nodeEnd, nodesAt, nodePlace}
 use Rattle.reader.proofs.Passed.{place-next}

@@ -1,11 +1,10 @@
 -- Runs of stores.
-use Prim.Native.Nat.{ℕ, zero, suc, _+_, _≤_, _<_}
+use Prim.Native.Nat.{ℕ, suc, _+_}
 use mathlib.Core.Path.{_≡_, refl, sym, ap, _∙_}
 use mathlib.Core.List.{List, [], _∷_, _++_}
 use native.Mathlib.Omega.{arith}
-use native.Mathlib.Nat.{add-zero}
-use lib.ListN.{length, getD, set, length-set}
-use lib.Seq.{sets, length-sets, set-comm, getD-set-same, getD-set-other}
+use lib.ListN.{length, set, length-set}
+use lib.Seq.{sets, length-sets}
 use Rattle.base.proofs.Stores.{sets-append}
 
 -- ---- a run that is stored in parts: `tail` is left, and goes to p

@@ -8,7 +8,6 @@ use Rattle.ports.specs.Ports.{widths}
 use Rattle.base.specs.Bytes.{byte}
 use Rattle.graph.specs.Graph.{Function}
 use Rattle.graph.specs.Types.{outputTypes}
-use Rattle.graph.specs.Judge.{table}
 use Rattle.graph.specs.Sums.{functionOperations, operationsOf, functionWords}
 use Rattle.lowering.specs.Compile.{boardListOf}
 use Rattle.base.specs.Limits.{portWordLimit, withinLimits}

@@ -1,16 +1,13 @@
 use borrow.Author.Needs.{needs}
-use Prim.Native.Nat.{ℕ, _+_, _≤_, _<_}
+use Prim.Native.Nat.{ℕ, _≤_}
 use mathlib.Core.Path.{_≡_, ap, sym, _∙_, subst}
-use mathlib.Core.Option.{Option, none, some}
-use mathlib.Core.List.{List}
 use native.Mathlib.Omega.{arith}
-use lib.ListN.{length, getElem?}
+use lib.ListN.{length}
 use borrow.Author.Tests.{eqb-true}
-use Rattle.graph.specs.Graph.{Node}
 use Rattle.order.specs.Indices.{indexOrder}
 use Rattle.order.specs.Paths.{firstOnLoop}
 use Rattle.order.proofs.LoopFree.{found-at, complete-iff, nowhere-free, loop-fault}
-use Rattle.reader.specs.Layout.{nodeAt, nodesAt, nodePlace, nodeCount, nodesPlace, functionAt}
+use Rattle.reader.specs.Layout.{nodePlace, nodeCount, functionAt}
 use Rattle.reader.specs.Find.{ReadsNodes}
 use Rattle.reader.specs.Records.{seen}
 use Rattle.reader.specs.declared.Seen.{Seen}

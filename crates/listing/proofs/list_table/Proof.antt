@@ -7,8 +7,6 @@ use Rattle.listing.proofs.Text.{same, from-zero}
 use Rattle.listing.proofs.Verdicts.{is-accepted, is-refused}
 use Rattle.listing.proofs.list_table.Statement.{statement}
 use Rattle.listing.proofs.list_table.Tie as tie
-use Rattle.listing.proofs.list_table.Reads as reads
-use Rattle.listing.proofs.list_table.Lts as lts
 
 -- ---- places: from one back to another
 

@@ -1,5 +1,5 @@
 use borrow.Author.Needs.{needs}
-use mathlib.Core.Path.{_≡_, sym, ap, _∙_, subst}
+use mathlib.Core.Path.{sym, _∙_, subst}
 use Rattle.quetlapin.specs.Measures.{FoundAt, Finds, codeCount}
 use Rattle.quetlapin.proofs.Choosing.{its-code, no-code, count-refused}
 use Rattle.quetlapin.proofs.code_length.Statement.{statement}

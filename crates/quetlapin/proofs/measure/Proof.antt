@@ -1,5 +1,5 @@
 use borrow.Author.Needs.{needs}
-use mathlib.Core.Path.{_≡_, sym, ap, _∙_, subst}
+use mathlib.Core.Path.{sym, ap, _∙_, subst}
 use Rattle.sums.specs.declared.Sizes.{Sizes}
 use Rattle.quetlapin.specs.declared.Measured.{Measured}
 use Rattle.quetlapin.specs.Measures.{ReadyAt, Readies, measuredOf}

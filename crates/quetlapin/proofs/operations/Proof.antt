@@ -1,5 +1,5 @@
 use borrow.Author.Needs.{needs}
-use mathlib.Core.Path.{_≡_, sym, ap, _∙_, subst}
+use mathlib.Core.Path.{_∙_, subst}
 use Rattle.quetlapin.specs.Measures.{FoundAt, Finds, operationCount}
 use Rattle.quetlapin.proofs.Choosing.{its-operations, count-refused}
 use Rattle.quetlapin.proofs.operations.Statement.{statement}

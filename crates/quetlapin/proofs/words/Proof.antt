@@ -1,5 +1,5 @@
 use borrow.Author.Needs.{needs}
-use mathlib.Core.Path.{_≡_, sym, ap, _∙_, subst}
+use mathlib.Core.Path.{_∙_, subst}
 use Rattle.quetlapin.specs.Measures.{FoundAt, Finds, wordCount}
 use Rattle.quetlapin.proofs.Choosing.{its-words, count-refused}
 use Rattle.quetlapin.proofs.words.Statement.{statement}

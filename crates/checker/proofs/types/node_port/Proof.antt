@@ -1,12 +1,11 @@
 use borrow.Author.Needs.{needs}
-use Prim.Native.Nat.{ℕ, _+_, _≤_, _<_}
-use mathlib.Core.Path.{_≡_, ap, sym, _∙_, subst}
+use Prim.Native.Nat.{ℕ, _+_, _≤_}
+use mathlib.Core.Path.{_≡_, ap, sym, _∙_}
 use mathlib.Core.List.{List}
 use native.Mathlib.Omega.{arith}
 use lib.ListN.{length, getElem?}
 use Rattle.ports.specs.declared.Form.{Form}
 use Rattle.ports.specs.Ports.{formOf}
-use Rattle.base.specs.Bytes.{u16}
 use Rattle.graph.specs.Look.{findFunction}
 use Rattle.graph.specs.Format.{version1}
 use Rattle.graph.specs.Types.{outputsOf}

@@ -1,7 +1,6 @@
 use borrow.Author.Needs.{needs}
 use Prim.Native.Nat.{ℕ}
 use mathlib.Core.Path.{ap, sym, _∙_}
-use mathlib.Core.Option.{Option}
 use Rattle.ports.specs.Ports.{own}
 use Rattle.checker.specs.declared.PortType.{PortType}
 use Rattle.checker.specs.Answers.{portOf}

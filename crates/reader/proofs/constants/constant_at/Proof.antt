@@ -1,6 +1,5 @@
-use borrow.Author.Needs.{needs}
 use Prim.Native.Nat.{ℕ, _+_, _*_, _≤_}
-use mathlib.Core.Path.{_≡_, ap, _∙_, subst}
+use mathlib.Core.Path.{ap, _∙_, subst}
 use lib.ListN.{length}
 use Rattle.value.specs.declared.Value.the-variants.{Scalar, Vector, Matrix}
 use Rattle.reader.proofs.Words.{vector-constant, other-constant}

@@ -1,13 +1,13 @@
 use borrow.Author.Needs.{needs}
 use Prim.Native.Nat.{ℕ, _+_, _-_, _≤_, _<_}
-use mathlib.Core.Path.{_≡_, refl, ap, sym, _∙_, subst}
+use mathlib.Core.Path.{_≡_, ap, sym, _∙_, subst}
 use mathlib.Core.List.{List}
 use native.Mathlib.Omega.{arith}
 use lib.ListN.{length, getD}
 use Rattle.base.specs.Limits.{kindLimit}
-use Rattle.reader.specs.Sizes.{nodeSize, nodeSizes}
-use Rattle.base.specs.Bytes.{byte, u16}
-use Rattle.reader.specs.Layout.{nodesAt, nodeEnd, kindAt}
+use Rattle.reader.specs.Sizes.{nodeSizes}
+use Rattle.base.specs.Bytes.{byte}
+use Rattle.reader.specs.Layout.{nodesAt}
 use Rattle.reader.specs.Find.{ReadsNode, ReadsNodes, nodeFound}
 use Rattle.reader.proofs.Passed.{head-fits, kind-below, size-of, first-reads, rest-reads, node-hit, node-miss}
 use Rattle.reader.proofs.lookup.find_node.Statement.{statement}

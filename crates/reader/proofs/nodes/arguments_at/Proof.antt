@@ -3,7 +3,6 @@ use Prim.Native.Nat.{ℕ, _+_, _≤_}
 use mathlib.Core.Path.{_≡_, ap, sym, subst}
 use native.Mathlib.Omega.{arith}
 use lib.ListN.{length}
-use Rattle.reader.specs.declared.Reads.{Reads}
 use Rattle.reader.specs.Records.{argumentsAt}
 use Rattle.reader.specs.Find.{ReadsOf}
 use Rattle.reader.proofs.Passed.{callee-fits}

@@ -1,9 +1,7 @@
 use borrow.Author.Needs.{needs}
-use Prim.Native.Nat.{ℕ, _+_, _≤_}
-use mathlib.Core.Path.{_≡_, sym, ap, _∙_}
+use Prim.Native.Nat.{_+_, _≤_}
 use native.Mathlib.Omega.{arith}
 use lib.ListN.{length}
-use Rattle.reader.specs.Layout.{nodeAt}
 use Rattle.reader.proofs.Passed.{head-fits}
 use Rattle.reader.proofs.AsRead.{node-kept}
 use Rattle.reader.proofs.nodes.node_at.Statement.{statement}

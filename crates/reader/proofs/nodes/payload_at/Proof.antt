@@ -1,20 +1,17 @@
 use borrow.Author.Needs.{needs}
 use Prim.Native.Nat.{ℕ, _+_, _*_, _≤_}
-use mathlib.Core.Path.{_≡_, refl, sym, ap, _∙_, subst}
+use mathlib.Core.Path.{_≡_, sym, ap, _∙_, subst}
 use native.Mathlib.Omega.{arith}
 use lib.ListN.{length}
 use Rattle.ports.specs.declared.Ports.{Ports}
 use Rattle.ports.specs.declared.Form.{Form}
-use Rattle.ports.specs.declared.Form as Forms
-use Rattle.ports.specs.Ports.{width, portsOf, formOf}
+use Rattle.ports.specs.Ports.{width, formOf}
 use Rattle.base.specs.Bytes.{u16, constants}
 use Rattle.value.specs.Values.{valueOf}
-use Rattle.value.specs.declared.Value.{Value}
 use Rattle.reader.specs.declared.Reads.{Reads}
-use Rattle.reader.specs.declared.Payload.{Payload}
 use Rattle.reader.specs.declared.Payload.the-variants.{Constant, Call, References}
 use Rattle.reader.specs.Layout.{kindAt}
-use Rattle.reader.specs.Records.{argumentsAt, operandsAt}
+use Rattle.reader.specs.Records.{operandsAt}
 use Rattle.reader.proofs.Passed.{head-fits, form-is}
 use Rattle.reader.proofs.AsRead.{kept-absent, kept-constant, kept-references, kept-call, constant-fits}
 use Rattle.reader.proofs.nodes.payload_at.Statement.{statement}

@@ -5,7 +5,6 @@ use Rattle.ports.specs.declared.Ports.{Ports}
 use Rattle.ports.specs.declared.Form.the-variants.{Call}
 use Rattle.ports.specs.Ports.{formOf}
 use Rattle.reader.specs.Layout.{kindAt}
-use Rattle.reader.specs.Find.{ReadsOf}
 use Rattle.reader.proofs.Passed.{head-fits}
 use Rattle.reader.proofs.AsRead.{other-reads, calling-call, call-calling}
 use Rattle.reader.proofs.nodes.reads_at.Statement.{statement}

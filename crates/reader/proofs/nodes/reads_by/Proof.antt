@@ -1,8 +1,6 @@
 use borrow.Author.Needs.{needs}
-use mathlib.Core.Path.{_≡_, sym, ap, _∙_}
+use mathlib.Core.Path.{_∙_}
 use native.Mathlib.Omega.{arith}
-use Rattle.reader.specs.declared.Reads.{Reads}
-use Rattle.reader.specs.Find.{ReadsOf}
 use Rattle.reader.proofs.Passed.{head-fits, zero-call, call-zero}
 use Rattle.reader.proofs.AsRead.{other-reads}
 use Rattle.reader.proofs.nodes.reads_by.Statement.{statement}

@@ -1,10 +1,8 @@
 use borrow.Author.Needs.{needs}
-use Prim.Native.Nat.{ℕ, _+_, _≤_}
-use mathlib.Core.Path.{_≡_, ap, sym, _∙_, subst}
+use mathlib.Core.Path.{ap, _∙_}
 use native.Mathlib.Omega.{arith}
 use Rattle.ports.specs.declared.Ports.{Ports}
 use Rattle.reader.specs.Records.{operandsAt}
-use Rattle.reader.specs.Find.{ReadsOf}
 use Rattle.reader.proofs.Passed.{head-fits, form-is}
 use Rattle.reader.proofs.AsRead.{operand-reads}
 use Rattle.reader.proofs.nodes.references_at.Statement.{statement}

@@ -1,4 +1,3 @@
-use borrow.Author.Needs.{needs}
 use borrow.Author.Tests.{le-leb, lt-leb}
 use Rattle.reader.proofs.records.in_range.Statement.{statement}
 use Rattle.reader.proofs.records.in_range.Tie as tie

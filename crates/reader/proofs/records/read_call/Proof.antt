@@ -1,11 +1,10 @@
 use borrow.Author.Needs.{needs}
 use Prim.Native.Nat.{ℕ, _+_, _-_, _*_, _≤_, _<_}
-use mathlib.Core.Path.{_≡_, ap, sym, _∙_, subst}
+use mathlib.Core.Path.{_≡_, ap, sym, _∙_}
 use native.Mathlib.Omega.{arith}
 use lib.ListN.{length}
 use Rattle.ports.specs.Kinds.{kindOf}
-use Rattle.base.specs.Bytes.{byte, u16}
-use Rattle.reader.specs.declared.Payload.the-variants.{Call}
+use Rattle.base.specs.Bytes.{byte}
 use Rattle.reader.specs.declared.PayloadRead.{PayloadRead}
 use Rattle.reader.specs.Records.{payloadRead}
 use Rattle.reader.proofs.Extents.{ends, short}

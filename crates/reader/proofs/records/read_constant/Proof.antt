@@ -5,7 +5,6 @@ use lib.ListN.{length}
 use borrow.Author.Tests.{not-true, not-false}
 use Rattle.ports.specs.Kinds.{kindOf}
 use Rattle.ports.specs.Ports.{width, portsOf, constantWords}
-use Rattle.ports.specs.declared.Form.{Form}
 use Rattle.ports.specs.declared.Form.the-variants.{Constant}
 use Rattle.ports.specs.declared.Ports.{Ports}
 use Rattle.value.specs.Values.{valueOf}

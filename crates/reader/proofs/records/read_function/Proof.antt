@@ -1,5 +1,5 @@
 use borrow.Author.Needs.{needs}
-use Prim.Native.Nat.{ℕ, _+_, _*_, _≤_}
+use Prim.Native.Nat.{_+_, _*_, _≤_}
 use mathlib.Core.Path.{_≡_, ap, sym, _∙_}
 use mathlib.Core.Bool.{true}
 use native.Mathlib.Omega.{arith}
@@ -7,9 +7,8 @@ use lib.ListN.{length}
 use borrow.Author.Tests.{not-true, not-false}
 use Rattle.base.specs.Bytes.{byte, u16}
 use Rattle.graph.specs.Format.{version1}
-use Rattle.graph.specs.Read.{inRange, inputs, outputs, nodes}
+use Rattle.graph.specs.Read.{inRange, inputs, outputs}
 use Rattle.reader.specs.Records.{next, behind}
-use Rattle.reader.specs.declared.Next.{Next}
 use Rattle.reader.proofs.Extents.{ends, short}
 use Rattle.reader.proofs.Functions.{function-short, function-bad, inputs-fault, outputs-fault, function-nodes, behind-place}
 use Rattle.reader.proofs.records.read_function.Statement.{statement}

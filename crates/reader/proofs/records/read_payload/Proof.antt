@@ -7,7 +7,6 @@ use Rattle.ports.specs.declared.Form.{Form}
 use Rattle.ports.specs.declared.Ports.{Ports}
 use Rattle.ports.specs.Ports.{portsOf, formOf}
 use Rattle.graph.specs.Read.{payload}
-use Rattle.reader.specs.declared.PayloadRead.{PayloadRead}
 use Rattle.reader.specs.Records.{payloadRead}
 use Rattle.reader.proofs.records.read_payload.Statement.{statement}
 use Rattle.reader.proofs.records.read_payload.Tie as tie

@@ -1,6 +1,6 @@
 use borrow.Author.Needs.{needs}
 use Prim.Native.Nat.{ℕ}
-use mathlib.Core.Path.{_≡_, ap, sym, _∙_}
+use mathlib.Core.Path.{ap, sym, _∙_}
 use Rattle.ports.specs.Kinds.{kindOf}
 use Rattle.ports.specs.declared.Ports.{Ports}
 use Rattle.reader.specs.declared.Payload.the-variants.{References}
