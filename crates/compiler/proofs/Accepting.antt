@@ -14,7 +14,7 @@ use Rattle.reader.specs.Layout.{nodesAt, nodeCount, nodesPlace, functionAt, ear
 use Rattle.reader.specs.Find.{ReadsNodes}
 use Rattle.reader.proofs.Passed.{function-holds}
 use Rattle.sums.specs.Position.{placeOf, functionIn, before, Accepted}
-use Rattle.sums.proofs.Accepted.{functions-are, read-below, fit-below}
+use Rattle.sums.proofs.Accepted.{functions-are, read-below}
 use Rattle.compiler.proofs.Locations.{Single, accepted-single}
 
 module _ (s : List ℕ) (k : ℕ) (acc : Accepted s k) where
@@ -33,4 +33,4 @@ module _ (s : List ℕ) (k : ℕ) (acc : Accepted s k) where
   pub nodes-held : (j : ℕ) → j < k → {n at : ℕ} → n ≡ nodeCount s (placeOf s j) → at ≡ nodesPlace s (placeOf s j)
       → (n ≤ nodeLimit) × ReadsNodes n s at × (fresh [] (nodesAt n s at) ≡ ok tt)
   unfolding functionAt
-  nodes-held j l en ea = rw (en, ea) (fit-below s k acc j l .count, function-holds s (placeOf s j) (read-below s k acc j l) .nodes, distinct-fresh (functionIn s j .nodes) (single-at j l))
+  nodes-held j l en ea = let h = function-holds s (placeOf s j) (read-below s k acc j l) in rw (en, ea) (h .few, h .nodes, distinct-fresh (functionIn s j .nodes) (single-at j l))

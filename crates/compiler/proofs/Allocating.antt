@@ -13,7 +13,7 @@ use lib.Dec.{eqb}
 use lib.ListN.{length, getD, set, replicate, getElem?, length-map, length-set, length-replicate}
 use lib.Seq.{sets, length-sets, getD-set-same, getD-set-other}
 use borrow.Author.Tests.{eqb-false}
-use Rattle.compiler.specs.Sizes.{orderLimit, nodePortLimit}
+use Rattle.compiler.specs.Sizes.{addressLimit, orderLimit, nodePortLimit}
 use Rattle.base.specs.Limits.{nodeLimit, referenceLimit, wordLimit}
 use Rattle.base.specs.Lists.{Each, member, Is}
 use Rattle.ports.specs.Kinds.{kindOf}
@@ -34,10 +34,13 @@ use Rattle.order.specs.Indices.{indexOrder}
 use Rattle.order.specs.Resolve.{Resolves}
 use Rattle.order.proofs.Nodes.{at-is, at-below, ref-member}
 use Rattle.order.proofs.Scheduled.{schedule-is}
-use Rattle.compiler.specs.declared.Reads.{Reads}
+use Rattle.reader.specs.declared.Reads.{Reads}
+use Rattle.reader.specs.Find.{ReadsNode, ReadsOf}
+use Rattle.reader.proofs.Passed.{head-fits, place-reads, Holds, function-holds}
 use Rattle.compiler.specs.Static.{Location, nowhere, input, offset, Located, locationOf, Summary, Callee, nodeSummary, summary, allocate, Allocation, Agrees}
-use Rattle.sums.specs.Position.{placeOf, functionIn, before, positionOf, NodeFit, Accepted}
-use Rattle.compiler.specs.Locating.{ReadsOf, Places, Slots, readCodes, nodeCodes, Codes, PortsCoded, AllOuts, Knows, readCount, NodesAllocated}
+use Rattle.sums.specs.Position.{placeOf, functionIn, before, positionOf, Accepted}
+use Rattle.compiler.specs.Locating.{Places, Slots, readCodes, nodeCodes, Codes, PortsCoded, AllOuts, Knows, readCount, NodesAllocated}
+use Rattle.sums.specs.declared.Sums.{Sums}
 use Rattle.sums.specs.Capped.{wordsAt, addsWords}
 use Rattle.compiler.specs.Emit.{Stands, locationTable, Coded, Placed, summaryAt}
 use Rattle.base.proofs.Stores.{sets-in, sets-below}
@@ -45,14 +48,13 @@ use Rattle.compiler.proofs.Bounds.{Within, outputs-within, reads-within
 use Rattle.compiler.proofs.Locations.{Single, function-agrees}
 use Rattle.compiler.proofs.Words.{summary-words, function-words}
 use Rattle.sums.proofs.Rows.{narrow}
-use Rattle.compiler.proofs.References.{few-reads}
+use Rattle.compiler.proofs.References.{count-reads, few-reads}
 use Rattle.sums.proofs.Positions.{words-at}
 use Rattle.sums.proofs.Summing.{added-words, sums-are}
 use Rattle.resolver.proofs.Rows.{length-nodes}
 use Rattle.checker.proofs.Whole.{node-at}
-use Rattle.compiler.proofs.Filling.{fit-index}
 use Rattle.compiler.proofs.Coding.{AllCodes, codes-length, codes-stored, reads-coded, node-coded, node-few, knows-step}
-use Rattle.sums.proofs.Accepted.{few, sound-below, fit-below}
+use Rattle.sums.proofs.Accepted.{few, read-below, sound-below, short}
 use Rattle.compiler.proofs.Accepting.{single-at}
 
 -- ---- ids are single
@@ -139,6 +141,9 @@ module _ (s : List ℕ) (k c : ℕ) (acc : Accepted s (suc k)) (outs ts places i
   unfolding earlier
   sound = sound-below s (suc k) acc k (omega arith)
 
+  holds : Holds s (placeOf s k)
+  holds = function-holds s (placeOf s k) (read-below s (suc k) acc k (omega arith))
+
   k16 : k < 16
   k16 = let l = few s (suc k) acc in omega arith
 
@@ -180,7 +185,7 @@ module _ (s : List ℕ) (k c : ℕ) (acc : Accepted s (suc k)) (outs ts places i
   resolves : Slots s at n ts → Resolves ts ns
   unfolding functionAt
   resolves h =
-      let f = fit-below s (suc k) acc k (omega arith) .count in
+      let f = holds .few in
       let l : length (nodesAt n s at) ≡ n = length-nodes n s at in
       record {
         few = omega arith;
@@ -201,7 +206,7 @@ module _ (s : List ℕ) (k c : ℕ) (acc : Accepted s (suc k)) (outs ts places i
       subst (λ (m : ℕ). map (λ i. getElem? ns i) (indexOrder ts m) ≡ map some (schedule ns)) l (schedule-is ts ns (resolves h) (sound .0 .resolved .own)) in
       let same : length (indexOrder ts n) ≡ length (schedule ns) =
       sym (length-map (indexOrder ts n) (λ i. getElem? ns i)) ∙ ap length along ∙ length-map (schedule ns) some in
-      let f = fit-below s (suc k) acc k (omega arith) .count in (
+      let f = holds .few in (
         schedule ns,
         indexOrder ts n,
         [],
@@ -213,7 +218,7 @@ module _ (s : List ℕ) (k c : ℕ) (acc : Accepted s (suc k)) (outs ts places i
           final = refl;
           within = λ x i. schedule-within ns x i;
           known = λ v x g. record { few = omega arith; coded = λ q ql. tt };
-          words = let a = right .total (addsWords s k) in let b = sums-are s k .1 in omega arith;
+          words = let a = right .total (addsWords s k) in let b = ap (λ (x : Sums). x .words) (sums-are s k) in omega arith;
           unread = let a = right .total sizeOf in omega arith;
           sizes = (lo, ls, ll);
           old-order = λ q ql. refl;
@@ -245,12 +250,13 @@ module _ (s : List ℕ) (k c : ℕ) (acc : Accepted s (suc k)) (outs ts places i
       unfolding functionAt
       node-is = let e : some (nodeAt s (nodePlace s at i)) ≡ some x = sym (node-at n s at i low) ∙ stands in ap (nodeAt s) place-is ∙ cc
 
-      node-fit : NodeFit s p
-      node-fit = subst (NodeFit s) (sym place-is) (fit-index n s at i low (fit-below s (suc k) acc k (omega arith) .nodes))
+      node-read : ReadsNode s p
+      node-read = subst (ReadsNode s) (sym place-is) (place-reads s n i at low (holds .nodes))
 
       -- what the code needs to know at this node
       pub record Here : Type 0 where
-        pub fits : NodeFit s p
+        pub was-read : ReadsNode s p
+        pub near : p < addressLimit
         pub narrow-reads : length (reads (nodeAt s p)) ≤ 16
         pub free : here + length (reads (nodeAt s p)) ≤ referenceLimit
         pub short : d + addsWords s k (nodeAt s p) ≤ wordLimit
@@ -258,8 +264,9 @@ module _ (s : List ℕ) (k c : ℕ) (acc : Accepted s (suc k)) (outs ts places i
       pub here-is : Here
       here-is =
           record {
-            fits = node-fit;
-            narrow-reads = few-reads s p node-fit;
+            was-read = node-read;
+            near = let a = head-fits s p node-read in let b = short s (suc k) acc in omega arith;
+            narrow-reads = few-reads s p node-read;
             free = rw node-is (let a = st .unread in omega arith);
             short = rw node-is (let a = st .words in omega arith);
           }
@@ -292,7 +299,7 @@ module _ (s : List ℕ) (k c : ℕ) (acc : Accepted s (suc k)) (outs ts places i
         reads-are = ap reads (sym node-is) ∙ er .refs
 
         pub count-is : r .count ≡ length (reads (nodeAt s p))
-        count-is = sym (ap length (er .refs) ∙ refs-length (r .count) s (r .first))
+        count-is = count-reads s p r er
 
         abbrev codes : List ℕ
         codes = readCodes s ts allocated (16 * i) (r .count) (r .first)
@@ -301,7 +308,7 @@ module _ (s : List ℕ) (k c : ℕ) (acc : Accepted s (suc k)) (outs ts places i
         unfolding functionAt
         codes-are =
             let l : length (nodesAt n s at) ≡ n = length-nodes n s at in
-            let f = fit-below s (suc k) acc k (omega arith) .count in
+            let f = holds .few in
             reads-coded ns (omega arith) allocated located (st .known) s ts i x (λ j jl. lent .slots .slots i j x stands jl)
             (λ q w g. sound-closed (before s k) (functionIn s k) (sound .0) .closed x (q .node) (at-is ns i x stands) (ref-member (reads x) w q g))
             (r .count) (r .first) reads-are (let z = here-is .narrow-reads in let y = count-is in omega arith)
@@ -330,11 +337,11 @@ module _ (s : List ℕ) (k c : ℕ) (acc : Accepted s (suc k)) (outs ts places i
           ports-are : AllCodes ports (one .outputs)
           ports-are =
               subst (λ (y : Node). AllCodes ports (nodeSummary call located d y (y .payload) .outputs)) node-is
-              (node-coded s outs locations' k p here d located node-fit (let z = k16 in omega arith) (let z = here-is .short in omega arith) inner given)
+              (node-coded s outs locations' k p here d located node-read (let z = k16 in omega arith) (let z = here-is .short in omega arith) inner given)
 
           ports-few : length (one .outputs) ≤ 8
           ports-few =
-              let a = node-few s outs locations' k p here d located node-fit (let z = k16 in omega arith) (let z = here-is .short in omega arith) inner given in
+              let a = node-few s outs locations' k p here d located node-read (let z = k16 in omega arith) (let z = here-is .short in omega arith) inner given in
               let b = codes-length ports (one .outputs) ports-are in
               omega arith
 
@@ -344,7 +351,7 @@ module _ (s : List ℕ) (k c : ℕ) (acc : Accepted s (suc k)) (outs ts places i
             next = record { id = x .id; locations = one .outputs } ∷ located
 
             low-m : m < 256
-            low-m = let a = st .count in let f = fit-below s (suc k) acc k (omega arith) .count in omega arith
+            low-m = let a = st .count in let f = holds .few in omega arith
 
             order-below : (q : ℕ) → q < nodeLimit * k + m → getD order' q 0 ≡ getD order q 0
             order-below q l = ap (λ (ys : List ℕ). getD ys q 0) eo ∙ getD-set-other order (nodeLimit * k + m) q p 0 (λ e. omega arith)
@@ -366,7 +373,6 @@ module _ (s : List ℕ) (k c : ℕ) (acc : Accepted s (suc k)) (outs ts places i
             coded : (locations'' : List ℕ) → ((q : ℕ) → q < here' → getD locations'' q 0 ≡ getD locations' q 0) → Coded locations'' table here (reads x)
             unfolding earlier functionAt
             coded locations'' hs =
-                let f = fit-below s (suc k) acc k (omega arith) .inputs in
                 let a = sound .0 .resolved .formed .inputs in
                 let w : summaryAt s k .words ≡ wordsAt s k = words-of-summary in
                 coded-reads (length (functionIn s k .inputs)) table located locations'' here (reads x) codes a
@@ -389,7 +395,7 @@ module _ (s : List ℕ) (k c : ℕ) (acc : Accepted s (suc k)) (outs ts places i
                   known = subst (λ (ys : List ℕ). Knows ns ys next) (sym el)
                       (knows-step ns allocated located i x ports (one .outputs) (st .known) stands
                       (λ v y gv e. single-index ns (single-at s (suc k) acc k (omega arith)) v i y x gv stands e) ports-are ports-few
-                      (let a = st .sizes .2 in let b = low in let f = fit-below s (suc k) acc k (omega arith) .count in omega arith));
+                      (let a = st .sizes .2 in let b = low in let f = holds .few in omega arith));
                   words = let a = st .words in let b = ap (addsWords s k) node-is in omega arith;
                   unread = let a = st .unread in let b = size-x in omega arith;
                   sizes = (
@@ -411,7 +417,7 @@ module _ (s : List ℕ) (k c : ℕ) (acc : Accepted s (suc k)) (outs ts places i
                     let e : getD order'' (nodeLimit * k + m) 0 ≡ p = ho (nodeLimit * k + m) (omega arith) ∙ order-here in
                     let z : nodeLimit * k + (m + 1) ≡ nodeLimit * k + m + 1 = omega arith in
                     let y : here' ≡ here + length (reads x) = eh ∙ ap (λ (w : ℕ). here + w) (sym size-x) in (
-                      (ap (nodeAt s) e ∙ node-is, subst (NodeFit s) (sym e) node-fit, coded locations'' hs),
+                      (ap (nodeAt s) e ∙ node-is, subst (ReadsNode s) (sym e) node-read, coded locations'' hs),
                       subst (λ (b : ℕ). Placed s order'' locations'' table b (here + length (reads x)) xs) z (subst (λ (b : ℕ). Placed s order'' locations'' table (nodeLimit * k + (m + 1)) b xs) y rest),
                     )
 
@@ -434,13 +440,13 @@ module _ {s : List ℕ} {k c : ℕ} {acc : Accepted s (suc k)} {outs ts places i
 
     -- the node at hand, which stands at p
     pub node-fits : Lent s k c outs ts places → State s k c acc outs ts places index order₀ locations₀ order locations allocated here d m → m < nodeCount s (placeOf s k) → {i p : ℕ} → i ≡ getD index m 0 → p ≡ getD places i 0
-        → NodeFit s p × (length (reads (nodeAt s p)) ≤ 16) × (here + length (reads (nodeAt s p)) ≤ referenceLimit) × (d + addsWords s k (nodeAt s p) ≤ wordLimit)
+        → ReadsNode s p × (p < addressLimit) × (here + length (reads (nodeAt s p)) ≤ referenceLimit) × (d + addsWords s k (nodeAt s p) ≤ wordLimit)
     node-fits lent ([], left, located, st) lt e ep = let a = st .count in absurd (omega arith)
     node-fits lent (x ∷ xs, [], located, st) lt e ep = let z : _≡_ {A = ℕ} 0 1 = let q = st .along in cc in absurd (omega arith)
     node-fits lent (x ∷ xs, v ∷ vs, located, st) lt {i} {p} e ep =
         let b : i ≡ v = e ∙ index-is s k c acc outs ts places index order₀ locations₀ x xs v vs located order locations allocated here d m st lent in
         let h = here-is s k c acc outs ts places index order₀ locations₀ x xs v vs located order locations allocated here d m st lent p (ep ∙ ap (λ (q : ℕ). getD places q 0) b) in
-        (h .fits, h .narrow-reads, h .free, h .short)
+        (h .was-read, h .near, h .free, h .short)
 
     pub advance : Lent s k c outs ts places → State s k c acc outs ts places index order₀ locations₀ order locations allocated here d m → m < nodeCount s (placeOf s k) → {i p : ℕ} → i ≡ getD index m 0 → p ≡ getD places i 0
         → {r : Reads} → ReadsOf s p r → {locations' allocated' : List ℕ} {d' : ℕ} → locations' ≡ sets locations here (readCodes s ts allocated (16 * i) (r .count) (r .first))

@@ -29,7 +29,9 @@ use Rattle.order.specs.Indices.{slot}
 use Rattle.order.specs.Resolve.{indexOf, target}
 use Rattle.order.proofs.Nodes.{index-of, in-index}
 use Rattle.compiler.specs.Static.{Location, nowhere, input, offset, rebase, Located, locationsOf, locationOf, Summary, Callee, nodeSummary, summary}
-use Rattle.sums.specs.Position.{placeOf, functionIn, before, positionOf, NodeFit}
+use Rattle.reader.specs.Find.{ReadsNode}
+use Rattle.reader.proofs.Passed.{callee-fits}
+use Rattle.sums.specs.Position.{placeOf, functionIn, before, positionOf}
 use Rattle.compiler.specs.Emit.{summaryAt}
 use Rattle.compiler.specs.Locating.{portCode, readCodes, rebasedCode, rebasedCodes, resultCodes, calleeCodes, nodeCodes, Codes, PortsCoded, Knows}
 use Rattle.base.proofs.Stores.{sets-in, sets-below, sets-above}
@@ -203,7 +205,7 @@ module _ (s outs locations : List ℕ) (k p cell d : ℕ) (located : List Locate
   unfolding nodeAt
   plain-node f = plain-by (formOf (kindAt s p)) refl f
 
-  module _ (fit : NodeFit s p) (b16 : k ≤ 16) (near : d ≤ wordLimit)
+  module _ (fit : ReadsNode s p) (b16 : k ≤ 16) (near : d ≤ wordLimit)
       (inner : calling (formOf (kindAt s p)) ≡ true → positionOf s k (u16 s (p + 4)) < k
       → (inputs : ℕ) × Each (Within inputs 8192) (summaryAt s (positionOf s k (u16 s (p + 4))) .outputs) × PortsCoded (summaryAt s (positionOf s k (u16 s (p + 4))) .outputs) outs (8 * positionOf s k (u16 s (p + 4))))
       (given : (j : ℕ) → j < length (reads (nodeAt s p)) → Codes (getD locations (cell + j) 0) (getD (map (locationOf located) (reads (nodeAt s p))) j nowhere)) where
@@ -221,7 +223,7 @@ module _ (s outs locations : List ℕ) (k p cell d : ℕ) (located : List Locate
         payload = call-payload s p (byte s (p + 2)) (portsOf (kindAt s p)) refl refl f
 
         few : byte s (p + 4 + 2) ≤ 8
-        few = fit .arguments (call-form (formOf (kindAt s p)) f)
+        few = callee-fits s p fit (call-form (formOf (kindAt s p)) f) .1
 
         args : List Location
         args = map (locationOf located) rs

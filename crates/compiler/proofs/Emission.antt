@@ -19,7 +19,8 @@ use Rattle.bytecode.specs.Run.{Instruction}
 use Rattle.bytecode.specs.Code.{instructionsCode}
 use Rattle.compiler.specs.declared.Reached.{Reached}
 use Rattle.compiler.specs.Static.{Location, nowhere, input, offset, addressAt, Callee, Located, nodeSummary, summary, allocate, emitNodes}
-use Rattle.sums.specs.Position.{placeOf, functionIn, before, NodeFit}
+use Rattle.reader.specs.Find.{ReadsNode}
+use Rattle.sums.specs.Position.{placeOf, functionIn, before}
 use Rattle.compiler.specs.Emit.{Stands, addressOf, addressesIn, inlineWith, nodeInlined, functionInlined, Room, Emits, locationTable, Coded, Placed, summaryAt, Allocated}
 use Rattle.base.proofs.Stores.{sets-append}
 use Rattle.compiler.proofs.Locations.{node-next, inlined-follows, function-next, function-table}
@@ -165,10 +166,10 @@ module _ (s order locations : List ℕ) (k : ℕ) (ins code₀ : List ℕ) (at n
         words : one .next ≤ wordLimit
         words = let a = next-is in let b = h .words in let d = st .words in omega arith
 
-    pub ready-one : Room code₀ at whole → Room code here (nodeInlined s locations k p cell ins next₀ word) × NodeFit s p × (cell + length (reads (nodeAt s p)) ≤ referenceLimit)
+    pub ready-one : Room code₀ at whole → Room code here (nodeInlined s locations k p cell ins next₀ word) × ReadsNode s p × (cell + length (reads (nodeAt s p)) ≤ referenceLimit)
     ready-one h = (
       node-room h,
-      subst (NodeFit s) (sym ep) (st .placed .0 .1),
+      subst (ReadsNode s) (sym ep) (st .placed .0 .1),
       subst (λ (y : Node). cell + length (reads y) ≤ referenceLimit) (sym stands) (coded-room locations table cell (reads x) (st .placed .0 .2)),
     )
 
@@ -199,7 +200,7 @@ module _ (s order locations : List ℕ) (k : ℕ) (ins code₀ : List ℕ) (at n
 
 module _ {s order locations : List ℕ} {k : ℕ} {ins code₀ : List ℕ} {at next₀ : ℕ} {code : List ℕ} {cell here word i n : ℕ} where
   pub node-ready : {p : ℕ} → State s order locations k ins code₀ at next₀ code cell here word i n → i < n → p ≡ getD order (nodeLimit * k + i) 0 → Room code₀ at (functionInlined s k ins next₀)
-      → Room code here (nodeInlined s locations k p cell ins next₀ word) × NodeFit s p × (cell + length (reads (nodeAt s p)) ≤ referenceLimit)
+      → Room code here (nodeInlined s locations k p cell ins next₀ word) × ReadsNode s p × (cell + length (reads (nodeAt s p)) ≤ referenceLimit)
   node-ready ([], st, le) lt ep h = let c = st .count in absurd (omega arith)
   node-ready {p} (x ∷ xs, st, le) lt ep h = ready-one s order locations k ins code₀ at next₀ x xs code cell here word i n p st ep h
 

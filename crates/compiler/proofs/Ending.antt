@@ -41,7 +41,7 @@ module _ (s outs ins : List ℕ) (first b n entries : ℕ) (code₀ : List ℕ) 
   -- j of the n outputs are written, and those at q come next
   pub record Outgoing (code : List ℕ) (q here j : ℕ) : Type 0 where
     pub index : j ≤ n
-    pub near : q ≤ entries + 4 * j
+    pub place : q ≡ entries + 4 * j
     pub end : here + 2 * widths (typesBy 4 (n - j) s q) ≡ at + 2 * widths (typesBy 4 n s entries)
     pub run : Run (allBytes 2 (spans (typesBy 4 n s entries) (addressesIn outs ins first b n))) code₀ at code here (allBytes 2 (left j q))
 
@@ -49,7 +49,7 @@ module _ (s outs ins : List ℕ) (first b n entries : ℕ) (code₀ : List ℕ) 
   out-start =
       let z : n - 0 ≡ n = omega arith in
       let y : b + 0 ≡ b = omega arith in
-      record { index = omega arith; near = omega arith; end = rw z refl; run = run-start refl (rw (z, y)) }
+      record { index = omega arith; place = omega arith; end = rw z refl; run = run-start refl (rw (z, y)) }
 
 module _ {s outs ins : List ℕ} {first b n entries : ℕ} {code₀ : List ℕ} {at : ℕ} {code : List ℕ} {q here j : ℕ} (h : Outgoing s outs ins first b n entries code₀ at code q here j) where
   -- the words of the output at hand
@@ -66,7 +66,7 @@ module _ {s outs ins : List ℕ} {first b n entries : ℕ} {code₀ : List ℕ} 
       ∙ ap (λ (x : ℕ). span a x ++ rest) (sym ew) in
       record {
         index = omega arith;
-        near = let m = h .near in omega arith;
+        place = let m = h .place in omega arith;
         end = let e = ap widths (types-next 4 s q lt) in let d = h .end in omega arith;
         run = run-more (h .run) (allBytes 2 (span a w)) (ap (allBytes 2) next ∙ bytes-append (span a w) rest) ec (ap (λ (x : ℕ). here + x) (sym (span-bytes a w)));
       }

@@ -15,13 +15,12 @@ use Rattle.base.specs.Bytes.{byte}
 use Rattle.base.specs.Lists.{span}
 use Rattle.graph.specs.Graph.{Node}
 use Rattle.graph.specs.Read.{reference}
-use Rattle.reader.specs.Layout.{nodeEnd, nodesAt, nodePlace}
+use Rattle.reader.specs.Layout.{nodesAt}
 use Rattle.reader.specs.Find.{nodeFound}
 use Rattle.reader.specs.declared.Found.{Found}
 use Rattle.reader.specs.declared.Found.the-variants.{At, Nothing}
 use Rattle.order.specs.Indices.{slot}
 use Rattle.order.specs.Resolve.{indexOf, target}
-use Rattle.sums.specs.Position.{NodeFit, NodesFit}
 use Rattle.sums.specs.Answers.{typesBy}
 use Rattle.compiler.specs.Emit.{copied, addressOf, addressesIn}
 use Rattle.compiler.specs.Locating.{Places, Slots, portCode, readCodes, rebasedCode, rebasedCodes, resultCodes, outputCodes}
@@ -98,14 +97,6 @@ pub outputs-next : (s allocated : List ℕ) (xs : List Node) (q : ℕ) {m j a : 
     → outputCodes s allocated xs (m - j) q ≡ a ∷ outputCodes s allocated xs (m - (j + 1)) (q + 4)
 unfolding outputCodes
 outputs-next s allocated xs q {m} {j} h e = rw e (ap (λ (x : ℕ). outputCodes s allocated xs x q) (one-less m j h))
-
--- ---- nodes by their index
-
-pub fit-index : (n : ℕ) (s : List ℕ) (at i : ℕ) → i < n → NodesFit s n at → NodeFit s (nodePlace s at i)
-unfolding nodePlace
-fit-index zero s at i h f = absurd (omega arith)
-fit-index (suc n) s at zero h f = f .0
-fit-index (suc n) s at (suc i) h f = fit-index n s (nodeEnd s at) i (omega arith) (f .1)
 
 -- ---- the index of an id
 

@@ -9,15 +9,13 @@ use lib.Dec.{eqb}
 use lib.ListN.{length, getD, replicate, length-replicate, getD-replicate, List·getD-eq-default}
 use lib.Seq.{sets}
 use Rattle.base.proofs.Numbers.{lt-or-le}
-use Rattle.ports.specs.declared.Ports.{Ports}
-use Rattle.ports.specs.Kinds.{kindOf}
-use Rattle.ports.specs.Ports.{portsOf, calling}
+use Rattle.ports.specs.Ports.{portsOf, formOf, calling}
 use Rattle.base.specs.Bytes.{byte, u16}
 use Rattle.graph.specs.Graph.{Ref, Payload, consts, refs, calls, Node, Function}
 use Rattle.graph.specs.Look.{readsOf, reads, outputRefs}
 use Rattle.graph.specs.Schedule.{schedule}
 use Rattle.graph.proofs.Formed.{refs-length}
-use Rattle.reader.specs.Layout.{nodeAt, functionAt, earlier}
+use Rattle.reader.specs.Layout.{kindAt, nodeAt, functionAt, earlier}
 use Rattle.lowering.specs.Compile.{Written, portsAt, address, Inlined, Inline, single, inlineNode, Body, also, behind, inlineNodes, inlineFunction, inlined}
 use Rattle.sums.specs.Position.{placeOf, functionIn, before, positionOf}
 use Rattle.compiler.specs.Emit.{addressesIn, inlineWith, nodeInlined, functionInlined}
@@ -105,10 +103,9 @@ module _ (s : List ℕ) (ins : List ℕ) (next : ℕ) where
   inlined-none k c h =
       no-position s (λ early d. inlined early d ins next) (λ m. functionInlined s m ins next) (nothing next) inlined-nil inlined-one k c h
 
-module _ (s locations : List ℕ) (k p cell : ℕ) (ins : List ℕ) (first next kind : ℕ) (row : Ports) (ek : kind ≡ byte s (p + 2)) (er : row ≡ portsOf (kindOf kind))
-    (f : calling (row .form) ≡ true) (n c : ℕ) (en : n ≡ byte s (p + 4 + 2)) (ec : c ≡ u16 s (p + 4)) where
+module _ (s locations : List ℕ) (k p cell : ℕ) (ins : List ℕ) (first next : ℕ) (f : calling (formOf (kindAt s p)) ≡ true) (n c : ℕ) (en : n ≡ byte s (p + 4 + 2)) (ec : c ≡ u16 s (p + 4)) where
   pub count-is : length (reads (nodeAt s p)) ≡ n
-  count-is = ap (λ (y : Payload). length (readsOf y)) (call-payload s p kind row ek er f) ∙ refs-length (byte s (p + 4 + 2)) s (p + 4 + 3) ∙ sym en
+  count-is = ap (λ (y : Payload). length (readsOf y)) (call-payload s p (byte s (p + 2)) (portsOf (kindAt s p)) refl refl f) ∙ refs-length (byte s (p + 4 + 2)) s (p + 4 + 3) ∙ sym en
 
   abbrev given : List ℕ
   given = addressesIn locations ins first cell n
@@ -117,7 +114,7 @@ module _ (s locations : List ℕ) (k p cell : ℕ) (ins : List ℕ) (first next 
   unfolding nodeInlined
   inlined-here =
       ap (λ (m : ℕ). inlineWith (inlined (before s k)) (addressesIn locations ins first cell m) next (nodeAt s p) (nodeAt s p .payload)) count-is
-      ∙ ap (inlineWith (inlined (before s k)) given next (nodeAt s p)) (call-payload s p kind row ek er f)
+      ∙ ap (inlineWith (inlined (before s k)) given next (nodeAt s p)) (call-payload s p (byte s (p + 2)) (portsOf (kindAt s p)) refl refl f)
       ∙ ap (λ (d : ℕ). inlined (before s k) d given next) (sym ec)
 
   -- the call is the function at its callee's position, on these addresses; where there is none, nothing

@@ -17,6 +17,7 @@ use Rattle.graph.specs.Schedule.{schedule}
 use Rattle.graph.specs.Sound.{Wired}
 use Rattle.graph.proofs.Order.{reads-in}
 use Rattle.reader.specs.Layout.{nodesAt, nodesPlace, nodeCount, outputsAt, outputCount, outputsPlace, functionAt, earlier}
+use Rattle.reader.proofs.Passed.{function-holds}
 use Rattle.compiler.specs.Static.{nowhere, Located, locationOf, summary, allocate}
 use Rattle.sums.specs.Position.{placeOf, functionIn, before, Accepted}
 use Rattle.compiler.specs.Emit.{summaryAt}
@@ -24,7 +25,7 @@ use Rattle.compiler.specs.Locating.{outputCodes, Codes, Knows, NodesAllo
 use Rattle.base.proofs.Stores.{sets-below}
 use Rattle.resolver.proofs.Rows.{length-nodes}
 use Rattle.compiler.proofs.Coding.{AllCodes, codes-length, codes-stored, port-coded, summary-size}
-use Rattle.sums.proofs.Accepted.{few, sound-below, fit-below}
+use Rattle.sums.proofs.Accepted.{few, few-ports, read-below, sound-below}
 
 abbrev Inside : List Node → Ref → Type 0
 Inside ns r = (r .node ≡ 0) ⊎ Is (r .node) (ids ns)
@@ -53,7 +54,7 @@ module _ (s : List ℕ) (k c : ℕ) (acc : Accepted s (suc k)) (order₀ order l
   unfolding functionAt earlier
   codes-are h =
       let l : length (nodesAt (nodeCount s p) s (nodesPlace s p)) ≡ nodeCount s p = length-nodes (nodeCount s p) s (nodesPlace s p) in
-      let f = fit-below s (suc k) acc k (omega arith) .count in
+      let f = function-holds s p (read-below s (suc k) acc k (omega arith)) .few in
       let sound = sound-below s (suc k) acc k (omega arith) .0 in
       outputs-coded s allocated (functionIn s k .nodes) (allocate (summary (before s k)) (schedule (functionIn s k .nodes)) [] 0 .located) (omega arith) (h .known) (outputCount s p) (outputsPlace s p)
       (wired-inside (before s k) (functionIn s k) (outputTypes (functionIn s k .outputs)) (outputRefs (functionIn s k .outputs)) (sound .resolved .answers))
@@ -64,7 +65,7 @@ module _ (s : List ℕ) (k c : ℕ) (acc : Accepted s (suc k)) (order₀ order l
       let e : outs ≡ sets outs₀ (8 * k) codes = eo ∙ rw (eq, en, ea) in
       let a : length codes ≡ length (summaryAt s k .outputs) = codes-length codes (summaryAt s k .outputs) (codes-are h) in
       let b : length (summaryAt s k .outputs) ≡ outputCount s p = summary-size s k in
-      let f = fit-below s (suc k) acc k (omega arith) .outputs in
+      let f = few-ports s p (read-below s (suc k) acc k (omega arith)) .1 in
       let m = few s (suc k) acc in
       record {
         placed = h .placed;

@@ -1,67 +1,90 @@
--- The references of a node, as the code meets them.
+-- What a node that was read reads, and what it is as read.
 use Prim.Native.Nat.{ℕ, _+_, _≤_}
 use mathlib.Core.Path.{_≡_, refl, sym, ap, _∙_}
 use mathlib.Core.Bool.{Bool, true, false}
 use mathlib.Core.List.{List}
 use native.Mathlib.Omega.{arith}
 use lib.ListN.{length}
-use borrow.Author.Tests.{eqb-true}
 use Rattle.base.specs.Limits.{operandLimit}
+use Rattle.base.specs.Bytes.{byte, u16}
 use Rattle.ports.specs.declared.Form.{Form}
 use Rattle.ports.specs.declared.Form.the-variants.{Absent, Constant, References, Call}
-use Rattle.ports.specs.declared.Ports.{Ports}
-use Rattle.ports.specs.Kinds.{Kind, kindOf}
 use Rattle.ports.specs.Ports.{portsOf, arity, formOf, calling}
-use Rattle.base.specs.Bytes.{byte}
-use Rattle.graph.specs.Graph.{Payload}
-use Rattle.graph.specs.Look.{readsOf, reads}
+use Rattle.value.specs.declared.Value.{Value}
+use Rattle.graph.specs.Look.{reads}
 use Rattle.graph.specs.Read.{references}
 use Rattle.graph.proofs.Formed.{refs-length}
+use Rattle.reader.specs.declared.Node.{Node}
+use Rattle.reader.specs.declared.Payload.{Payload}
+use Rattle.reader.specs.declared.Payload as Payloads
+use Rattle.reader.specs.declared.Reads.{Reads}
 use Rattle.reader.specs.Layout.{kindAt, payloadAt, nodeAt}
-use Rattle.sums.specs.Position.{NodeFit}
-use Rattle.sums.proofs.Rows.{operandsBy}
-use Rattle.sums.proofs.Nodes.{row-narrow, operands-are, called, call-payload, plain-form, by-form}
-use Rattle.compiler.specs.Locating.{ReadsOf}
+use Rattle.reader.specs.Records.{payloadOf, argumentsAt, operandsAt, nodeOf}
+use Rattle.reader.specs.Find.{ReadsNode, ReadsOf}
+use Rattle.reader.proofs.AsRead.{calling-call, call-calling, call-reads, other-reads}
 
-payload-reads : (s : List ℕ) (at : ℕ) (k : Kind) (f : Form) → calling f ≡ false → operandsBy f (arity k) ≡ true → readsOf (payloadAt f k s at) ≡ references (arity k) s at
-payload-reads s at k Absent c e = sym (ap (λ (n : ℕ). references n s at) (eqb-true (arity k) 0 e))
-payload-reads s at k Constant c e = sym (ap (λ (n : ℕ). references n s at) (eqb-true (arity k) 0 e))
-payload-reads s at k References c e = refl
-payload-reads s at k Call c e = let z : _≡_ {A = ℕ} 0 1 = cc in absurd (omega arith)
+-- ---- how many
 
--- of the node at p, whose kind has this row
-module _ (s : List ℕ) (p kind : ℕ) (row : Ports) (ek : kind ≡ byte s (p + 2)) (er : row ≡ portsOf (kindOf kind)) where
-  pub call-reads : calling (row .form) ≡ true → (n : ℕ) → n ≡ byte s (p + 4 + 2) → n ≤ operandLimit → ReadsOf s p (record { first = p + 4 + 3; count = n })
-  call-reads c n e l =
-      record { refs = ap readsOf (call-payload s p kind row ek er c) ∙ ap (λ (m : ℕ). references m s (p + 4 + 3)) (sym e); first = omega arith; count = l }
+pub count-reads : (s : List ℕ) (p : ℕ) (r : Reads) → ReadsOf s p r → r .count ≡ length (reads (nodeAt s p))
+count-reads s p r h = sym (ap length (h .refs) ∙ refs-length (r .count) s (r .first))
 
-  pub plain-reads : calling (row .form) ≡ false → (n : ℕ) → n ≡ row .operands → ReadsOf s p (record { first = p + 4; count = n })
-  unfolding nodeAt
-  plain-reads c n e =
-      let l = row-narrow s p kind row ek er .operands in
-      record {
-        refs =
-            payload-reads s (p + 4) (kindAt s p) (formOf (kindAt s p)) (plain-form s p kind row ek er c) (by-form s p kind row ek er c)
-            ∙ ap (λ (m : ℕ). references m s (p + 4)) (sym (e ∙ operands-are s p kind row ek er));
-        first = omega arith;
-        count = omega arith;
-      }
-
--- a node that can be taken reads at most 16 values
-pub few-reads : (s : List ℕ) (p : ℕ) → NodeFit s p → length (reads (nodeAt s p)) ≤ operandLimit
-few-reads s p h = pickOne (calling (row .form)) refl
+-- a node that was read reads at most 16 values
+pub few-reads : (s : List ℕ) (p : ℕ) → ReadsNode s p → length (reads (nodeAt s p)) ≤ operandLimit
+few-reads s p h = pickOne (calling (formOf (kindAt s p))) refl
   where
-    row : Ports
-    row = portsOf (kindAt s p)
+    few : (r : Reads) → ReadsOf s p r → length (reads (nodeAt s p)) ≤ operandLimit
+    few r o = let a = count-reads s p r o in let b = o .few in omega arith
 
-    pickOne : (b : Bool) → calling (row .form) ≡ b → length (reads (nodeAt s p)) ≤ operandLimit
-    pickOne true e =
-        let a : length (reads (nodeAt s p)) ≡ byte s (p + 4 + 2) =
-        ap (λ (y : Payload). length (readsOf y)) (call-payload s p (byte s (p + 2)) row refl refl e) ∙ refs-length (byte s (p + 4 + 2)) s (p + 4 + 3) in
-        let b = h .arguments (called s p (byte s (p + 2)) row refl refl e) in
-        omega arith
-    pickOne false e =
-        let a : length (reads (nodeAt s p)) ≡ row .operands =
-        ap length (plain-reads s p (byte s (p + 2)) row refl refl e (row .operands) refl .refs) ∙ refs-length (row .operands) s (p + 4) in
-        let b = row-narrow s p (byte s (p + 2)) row refl refl .operands in
-        omega arith
+    pickOne : (b : Bool) → calling (formOf (kindAt s p)) ≡ b → length (reads (nodeAt s p)) ≤ operandLimit
+    pickOne true e = few (argumentsAt s p) (call-reads s p h (calling-call s p (portsOf (kindAt s p)) refl e))
+    pickOne false e = few (operandsAt p (arity (kindAt s p))) (other-reads s p h (call-calling s p (portsOf (kindAt s p)) refl e) (arity (kindAt s p)) refl)
+
+-- ---- the node as read
+
+module _ (s : List ℕ) (p : ℕ) (n : Node) (e : n ≡ nodeOf (nodeAt s p)) where
+  pub kind-is : n .kind ≡ byte s (p + 2)
+  unfolding nodeAt
+  kind-is = ap (λ (m : Node). m .kind) e
+
+  pub type-is : n .ty ≡ byte s (p + 3)
+  unfolding nodeAt
+  type-is = ap (λ (m : Node). m .ty) e
+
+  abbrev payloadBy : Form → Payload
+  payloadBy f = payloadOf (kindAt s p) (p + 4) (payloadAt f (kindAt s p) s (p + 4))
+
+  payload-is : n .payload ≡ payloadBy (formOf (kindAt s p))
+  unfolding nodeAt
+  payload-is = ap (λ (m : Node). m .payload) e
+
+  -- constants and references are no call's
+  pub constant-plain : (v : Value) → n .payload ≡ Payloads.Payload.Constant v → calling (formOf (kindAt s p)) ≡ false
+  constant-plain v q = pickOne (formOf (kindAt s p)) (sym q ∙ payload-is)
+    where
+      pickOne : (f : Form) → Payloads.Payload.Constant v ≡ payloadBy f → calling f ≡ false
+      pickOne Absent z = refl
+      pickOne Constant z = refl
+      pickOne References z = refl
+      pickOne Call z = let y : _≡_ {A = ℕ} 0 1 = cc in absurd (omega arith)
+
+  pub references-plain : (r : Reads) → n .payload ≡ Payloads.Payload.References r → calling (formOf (kindAt s p)) ≡ false
+  references-plain r q = pickOne (formOf (kindAt s p)) (sym q ∙ payload-is)
+    where
+      pickOne : (f : Form) → Payloads.Payload.References r ≡ payloadBy f → calling f ≡ false
+      pickOne Absent z = refl
+      pickOne Constant z = refl
+      pickOne References z = refl
+      pickOne Call z = let y : _≡_ {A = ℕ} 0 1 = cc in absurd (omega arith)
+
+  -- a call: its callee, and how many arguments it has
+  pub call-is : (c : ℕ) (r : Reads) → n .payload ≡ Payloads.Payload.Call c r → (calling (formOf (kindAt s p)) ≡ true) × (c ≡ u16 s (p + 4)) × (r .count ≡ byte s (p + 4 + 2))
+  call-is c r q = pickOne (formOf (kindAt s p)) (sym q ∙ payload-is)
+    where
+      pickOne : (f : Form) → Payloads.Payload.Call c r ≡ payloadBy f → (calling f ≡ true) × (c ≡ u16 s (p + 4)) × (r .count ≡ byte s (p + 4 + 2))
+      pickOne Absent z = let y : _≡_ {A = ℕ} 0 1 = cc in absurd (omega arith)
+      pickOne Constant z = let y : _≡_ {A = ℕ} 0 1 = cc in absurd (omega arith)
+      pickOne References z = let y : _≡_ {A = ℕ} 0 1 = cc in absurd (omega arith)
+      pickOne Call z =
+          let a : c ≡ u16 s (p + 4) = cc in
+          let b : r ≡ record { first = p + 4 + 3; count = length (references (byte s (p + 4 + 2)) s (p + 4 + 3)) } = cc in
+          (refl, a, ap (λ (x : Reads). x .count) b ∙ refs-length (byte s (p + 4 + 2)) s (p + 4 + 3))

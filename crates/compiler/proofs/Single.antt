@@ -14,11 +14,11 @@ use Rattle.ports.specs.declared.Form.{Form}
 use Rattle.ports.specs.declared.Form.the-variants.{Absent, Constant, References, Call}
 use Rattle.ports.specs.declared.Ports.{Ports}
 use Rattle.ports.specs.Kinds.{Kind, kindOf}
-use Rattle.ports.specs.Ports.{widths, gives, portsOf, formOf, constantIn, constantWords, calling}
+use Rattle.ports.specs.Ports.{widths, gives, portsOf, arity, formOf, constantIn, constantWords, calling}
 use Rattle.ports.specs.Ports as PortList
 use Rattle.ports.proofs.Laws.{words-given}
 use Rattle.base.specs.Bytes.{byte, u64, constants, bytesOf, allBytes}
-use Rattle.graph.specs.Look.{reads}
+use Rattle.graph.specs.Look.{readsOf, reads}
 use Rattle.graph.proofs.Formed.{refs-length}
 use Rattle.reader.specs.Layout.{kindAt, payloadAt, nodeAt}
 use Rattle.lowering.specs.Compile.{Inlined, Inline, inlined}
@@ -27,8 +27,7 @@ use Rattle.sums.specs.Position.{before}
 use Rattle.compiler.specs.Emit.{copied, addressesIn, inlineWith, nodeInlined, Emits}
 use Rattle.base.proofs.Stores.{sets-append}
 use Rattle.sums.proofs.Rows.{operandsBy}
-use Rattle.sums.proofs.Nodes.{row-is, row-narrow, form-is}
-use Rattle.compiler.proofs.References.{plain-reads}
+use Rattle.sums.proofs.Nodes.{row-is, row-narrow, form-is, operands-are, by-form}
 
 -- ---- bytes
 
@@ -111,6 +110,12 @@ module _ (s locations : List ℕ) (k p c : ℕ) (ins : List ℕ) (first next : �
   unfolding nodeInlined nodeAt
   at-form f e = ap (λ (g : Form). inlineWith go (addressesIn locations ins first c (length (reads (nodeAt s p)))) next (nodeAt s p) (payloadAt g word s (p + 4))) e
 
+  count-by : (f : Form) → calling f ≡ false → operandsBy f (arity word) ≡ true → length (readsOf (payloadAt f word s (p + 4))) ≡ arity word
+  count-by Absent q h = sym (eqb-true (arity word) 0 h)
+  count-by Constant q h = sym (eqb-true (arity word) 0 h)
+  count-by References q h = refs-length (arity word) s (p + 4)
+  count-by Call q h = let z : _≡_ {A = ℕ} 0 1 = cc in absurd (omega arith)
+
   text-by : (f : Form) → formOf word ≡ f → calling f ≡ false → (xs : List ℕ) → (operandsBy f (length xs) ≡ true)
       → instructionsCode (inlineWith go xs next (nodeAt s p) (payloadAt f word s (p + 4)) .code)
       ≡ byte s (p + 2) ∷ byte s (p + 3) ∷ allBytes 2 xs ++ copied (8 * constantIn f (portsOf word .words)) s (p + 4)
@@ -137,10 +142,11 @@ module _ (s locations : List ℕ) (k p c : ℕ) (ins : List ℕ) (first next : �
   module _ (kind ty : ℕ) (row : Ports) (ek : kind ≡ byte s (p + 2)) (et : ty ≡ byte s (p + 3)) (er : row ≡ portsOf (kindOf kind)) (plain : calling (formOf word) ≡ false)
       (n v w : ℕ) (en : n ≡ row .operands) (ev : v ≡ constantIn (row .form) (row .words)) (ew : w ≡ PortList.resultWords row ty) where
     read : Taken s locations k p c ins first next kind ty n v w
+    unfolding nodeAt
     read =
         let r : row ≡ portsOf word = row-is s p kind row ek er in
         let f : calling (row .form) ≡ false = ap calling (form-is s p kind row ek er) ∙ plain in
-        let count : length (reads (nodeAt s p)) ≡ n = ap length (plain-reads s p kind row ek er f n en .refs) ∙ refs-length n s (p + 4) in
+        let count : length (reads (nodeAt s p)) ≡ n = count-by (formOf word) plain (by-form s p kind row ek er f) ∙ sym (en ∙ operands-are s p kind row ek er) in
         let xs = addressesIn locations ins first c n in
         let l : length xs ≡ n = addresses-length locations ins first c n in
         let by : operandsBy (formOf word) (length xs) ≡ true =

@@ -3,7 +3,6 @@
 -- four bytes besides.
 use Prim.Native.Nat.{ℕ, zero, suc, _+_, _-_, _*_, _≤_, _<_}
 use mathlib.Core.Path.{_≡_, refl, sym, ap, _∙_, subst}
-use mathlib.Core.Bool.{Bool, true, false}
 use mathlib.Core.List.{List, [], _∷_}
 use mathlib.Core.Logic.{⊎-elim}
 use native.Mathlib.Omega.{arith}
@@ -12,28 +11,30 @@ use lib.Seq.{getD-set-same, getD-set-other}
 use Rattle.compiler.specs.Sizes.{orderLimit, outputLimit}
 use Rattle.base.specs.Limits.{nodeLimit, referenceLimit, wordLimit}
 use Rattle.base.proofs.Numbers.{lt-or-eq}
-use Rattle.ports.specs.Ports.{portsOf, constantIn, calling}
+use Rattle.ports.specs.declared.Form.{Form}
+use Rattle.ports.specs.declared.Form.the-variants.{Absent, Constant, References, Call}
+use Rattle.ports.specs.Kinds.{Kind}
+use Rattle.ports.specs.Ports.{arity, formOf}
 use Rattle.base.specs.Bytes.{byte}
-use Rattle.graph.specs.Graph.{Ref, Payload, Node}
+use Rattle.graph.specs.Graph.{Ref, Node}
 use Rattle.graph.specs.Look.{reads, readsOf}
 use Rattle.graph.specs.Schedule.{schedule}
 use Rattle.graph.specs.Sums.{sum}
 use Rattle.graph.proofs.Formed.{refs-length}
 use Rattle.graph.proofs.Order.{scheduled}
-use Rattle.reader.specs.Layout.{kindAt, nodeAt, nodeEnd, nodesAt, nodePlace, nodesPlace, nodeCount, functionAt, functionEnd, functionPlace, earlier}
-use Rattle.reader.specs.Find.{ReadsNodes}
+use Rattle.reader.specs.Layout.{kindAt, payloadAt, payloadEnd, nodeAt, nodeEnd, nodesAt, nodePlace, nodesPlace, nodeCount, functionAt, functionEnd, functionPlace, earlier}
+use Rattle.reader.specs.Find.{ReadsNode, ReadsNodes}
 use Rattle.reader.proofs.Passed.{end-fits, first-reads, rest-reads, function-holds}
 use Rattle.compiler.specs.Static.{Location, nowhere, summary}
-use Rattle.sums.specs.Position.{placeOf, functionIn, before, NodeFit, NodesFit, Accepted}
+use Rattle.sums.specs.Position.{placeOf, functionIn, before, Accepted}
 use Rattle.sums.specs.Capped.{wordsAt}
 use Rattle.compiler.specs.Emit.{Stands, locationTable, Coded, Placed, summaryAt, Allocated}
 use Rattle.compiler.specs.Locating.{Codes, PortsCoded, readCount, FunctionAllocated, AllocatedTo}
 use Rattle.compiler.proofs.Locations.{function-agrees}
 use Rattle.compiler.proofs.Words.{function-words}
-use Rattle.sums.proofs.Nodes.{call-payload, call-end, plain-end}
-use Rattle.compiler.proofs.References.{few-reads, plain-reads}
+use Rattle.compiler.proofs.References.{few-reads}
 use Rattle.resolver.proofs.Rows.{length-nodes}
-use Rattle.sums.proofs.Accepted.{few, sound-below, fit-below, read-below, short, fewer}
+use Rattle.sums.proofs.Accepted.{few, sound-below, read-below, short, fewer}
 use Rattle.compiler.proofs.Accepting.{single-at}
 
 -- ---- what a later store leaves
@@ -51,35 +52,31 @@ placed-keep : (s order order' locations locations' : List ℕ) (table : Ref → 
 placed-keep s order order' locations locations' table b c [] ho hs x = x
 placed-keep s order order' locations locations' table b c (n ∷ ns) ho hs ((e, f, x), xs) =
     let z : getD order' b 0 ≡ getD order b 0 = ho b (omega arith) in (
-      (ap (nodeAt s) z ∙ e, subst (NodeFit s) (sym z) f, coded-keep locations locations' table c (reads n) (λ q l. hs q (omega arith)) x),
+      (ap (nodeAt s) z ∙ e, subst (ReadsNode s) (sym z) f, coded-keep locations locations' table c (reads n) (λ q l. hs q (omega arith)) x),
       placed-keep s order order' locations locations' table (b + 1) (c + length (reads n)) ns (λ q l. ho q (omega arith)) (λ q l. hs q (omega arith)) xs,
     )
 
 -- ---- how many references fit into a table
 
-node-space : (s : List ℕ) (p : ℕ) → p + 4 + 3 * length (reads (nodeAt s p)) ≤ nodeEnd s p
-node-space s p = pickOne (calling (portsOf (kindAt s p) .form)) refl
-  where
-    pickOne : (b : Bool) → calling (portsOf (kindAt s p) .form) ≡ b → p + 4 + 3 * length (reads (nodeAt s p)) ≤ nodeEnd s p
-    pickOne true f =
-        let a : length (reads (nodeAt s p)) ≡ byte s (p + 4 + 2) =
-        ap (λ (y : Payload). length (readsOf y)) (call-payload s p (byte s (p + 2)) (portsOf (kindAt s p)) refl refl f) ∙ refs-length (byte s (p + 4 + 2)) s (p + 4 + 3) in
-        let b : p + 4 + 3 + 3 * byte s (p + 4 + 2) ≡ nodeEnd s p = call-end s p (byte s (p + 2)) (portsOf (kindAt s p)) refl refl f (byte s (p + 4 + 2)) refl in
-        omega arith
-    pickOne false f =
-        let n = portsOf (kindAt s p) .operands in
-        let w = constantIn (portsOf (kindAt s p) .form) (portsOf (kindAt s p) .words) in
-        let a : length (reads (nodeAt s p)) ≡ n = ap length (plain-reads s p (byte s (p + 2)) (portsOf (kindAt s p)) refl refl f n refl .refs) ∙ refs-length n s (p + 4) in
-        let b : p + 4 + 3 * n + 8 * w ≡ nodeEnd s p = plain-end s p (byte s (p + 2)) (portsOf (kindAt s p)) refl refl f n w refl refl in
-        omega arith
+payload-space : (f : Form) (k : Kind) (s : List ℕ) (at : ℕ) → at + 3 * length (readsOf (payloadAt f k s at)) ≤ payloadEnd f k s at
+payload-space Absent k s at = omega arith
+payload-space Constant k s at = omega arith
+payload-space References k s at = let a = refs-length (arity k) s at in omega arith
+payload-space Call k s at = let a = refs-length (byte s (at + 2)) s (at + 3) in omega arith
 
-nodes-space : (s : List ℕ) (n at : ℕ) → NodesFit s n at → 13 * sum sizeOf (nodesAt n s at) + 4 * at ≤ 4 * nodePlace s at n
+node-space : (s : List ℕ) (p : ℕ) → p + 4 + 3 * length (reads (nodeAt s p)) ≤ nodeEnd s p
+unfolding nodeAt nodeEnd
+node-space s p = payload-space (formOf (kindAt s p)) (kindAt s p) s (p + 4)
+
+nodes-space : (s : List ℕ) (n at : ℕ) → ReadsNodes n s at → 13 * sum sizeOf (nodesAt n s at) + 4 * at ≤ 4 * nodePlace s at n
 unfolding nodesAt nodePlace
 nodes-space s zero at h = omega arith
-nodes-space s (suc n) at (f, h) =
-    let a = nodes-space s n (nodeEnd s at) h in
+nodes-space s (suc n) at h =
+    let z : suc n - 1 ≡ n = omega arith in
+    let y = rest-reads s (suc n) at (omega arith) h in
+    let a = nodes-space s n (nodeEnd s at) (rw z at y) in
     let b = node-space s at in
-    let e = few-reads s at f in
+    let e = few-reads s at (first-reads s (suc n) at (omega arith) h) in
     omega arith
 
 nodes-end-low : (s : List ℕ) (n at : ℕ) → ReadsNodes n s at → at ≤ length s → nodePlace s at n ≤ length s
@@ -94,9 +91,8 @@ module _ (s : List ℕ) (j : ℕ) (acc : Accepted s (suc j)) where
   function-space : (13 * readCount s j + 4 * placeOf s j ≤ 4 * placeOf s (suc j)) × (placeOf s (suc j) < 65536)
   unfolding functionPlace functionEnd functionAt
   function-space =
-      let f = fit-below s (suc j) acc j (omega arith) in
-      let a = nodes-space s (nodeCount s (placeOf s j)) (nodesPlace s (placeOf s j)) (f .nodes) in
       let h = function-holds s (placeOf s j) (read-below s (suc j) acc j (omega arith)) in
+      let a = nodes-space s (nodeCount s (placeOf s j)) (nodesPlace s (placeOf s j)) (h .nodes) in
       let b = nodes-end-low s (nodeCount s (placeOf s j)) (nodesPlace s (placeOf s j)) (h .nodes) (h .outputs) in
       let m = short s (suc j) acc in
       (omega arith, omega arith)
@@ -146,7 +142,7 @@ module _ {s : List ℕ} {j : ℕ} (acc : Accepted s (suc j)) {outs order locatio
     unfolding earlier
     here =
         record {
-          count = fit-below s (suc j) acc j (omega arith) .count;
+          count = function-holds s (placeOf s j) (read-below s (suc j) acc j (omega arith)) .few;
           size = schedule-size s j acc .0;
           nodes = subst (λ (b : ℕ). Placed s order' locations' (locationTable s j) (nodeLimit * j) b (schedule (functionIn s j .nodes))) (sym begin-here) (f .placed);
           agrees = function-agrees (summary (before s j)) (before s j) (functionIn s j) (sound-below s (suc j) acc j (omega arith) .0) (single-at s (suc j) acc j (omega arith));

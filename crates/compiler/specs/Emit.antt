@@ -12,11 +12,13 @@ use Rattle.graph.specs.Graph.{Ref, Payload, consts, refs, calls, Node}
 use Rattle.graph.specs.Look.{reads}
 use Rattle.graph.specs.Schedule.{schedule}
 use Rattle.reader.specs.Layout.{nodeAt, nodeCount}
+use Rattle.reader.specs.Find.{ReadsNode}
+use Rattle.compiler.specs.Sizes.{addressLimit}
 use Rattle.lowering.specs.Compile.{Inlined, Inline, single, inlineFunction, inlined}
 use Rattle.bytecode.specs.Code.{instructionsCode}
 use Rattle.compiler.specs.declared.Reached.{Reached}
 use Rattle.compiler.specs.Static.{Location, nowhere, input, offset, locationOf, Summary, functionSummary, summary, allocate, Agrees}
-use Rattle.sums.specs.Position.{placeOf, functionIn, before, NodeFit}
+use Rattle.sums.specs.Position.{placeOf, functionIn, before}
 
 -- n bytes from a place on
 unfoldable pub copied : ℕ → List ℕ → ℕ → List ℕ
@@ -32,7 +34,7 @@ Stands e (offset d) = (e ≡ portLimit + d) × (d ≤ wordLimit)
 
 -- the address of a location, where the inputs have these addresses and the results begin at `first`
 abbrev pub addressOf : List ℕ → ℕ → ℕ → ℕ
-addressOf ins first e = cond (ltb e portLimit) (getD ins e 0) ((first + (e - portLimit)) % 65536)
+addressOf ins first e = cond (ltb e portLimit) (getD ins e 0) ((first + (e - portLimit)) % addressLimit)
 
 -- of the n locations from c on
 unfoldable pub addressesIn : List ℕ → List ℕ → ℕ → ℕ → ℕ → List ℕ
@@ -83,7 +85,7 @@ Coded locations table c (r ∷ rs) = Stands (getD locations c 0) (table r) × Co
 abbrev pub Placed : List ℕ → List ℕ → List ℕ → (Ref → Location) → ℕ → ℕ → List Node → Type 0
 Placed s order locations table b c [] = Unit {0}
 Placed s order locations table b c (n ∷ ns) =
-    ((nodeAt s (getD order b 0) ≡ n) × NodeFit s (getD order b 0) × Coded locations table c (reads n))
+    ((nodeAt s (getD order b 0) ≡ n) × ReadsNode s (getD order b 0) × Coded locations table c (reads n))
     × Placed s order locations table (b + 1) (c + length (reads n)) ns
 
 -- the words of the results of the function at position j

@@ -6,7 +6,7 @@ use mathlib.Core.List.{List, [], _∷_}
 use mathlib.Core.Option.{some}
 use lib.Dec.{ltb, leb}
 use lib.ListN.{length, getD, getElem?}
-use Rattle.compiler.specs.Sizes.{orderLimit, outputLimit}
+use Rattle.compiler.specs.Sizes.{addressLimit, orderLimit, outputLimit}
 use Rattle.base.specs.Limits.{functionLimit, nodeLimit, operandLimit, portLimit, referenceLimit, slotLimit, wordLimit}
 use Rattle.ports.specs.Ports.{width, own, portsOf, formOf, calling}
 use Rattle.base.specs.Outcome.{ok}
@@ -14,24 +14,17 @@ use Rattle.base.specs.Bytes.{Bytes, byte, u16}
 use Rattle.graph.specs.Graph.{Node}
 use Rattle.graph.specs.Judge.{table}
 use Rattle.graph.specs.Look.{reads}
-use Rattle.graph.specs.Read.{reference, references}
+use Rattle.graph.specs.Read.{reference}
 use Rattle.graph.specs.Schedule.{schedule}
 use Rattle.graph.specs.Sound.{AllSound}
 use Rattle.graph.specs.Sums.{sum}
 use Rattle.reader.specs.Layout.{kindAt, nodeAt, nodesAt, nodePlace, outputCount}
 use Rattle.order.specs.Indices.{slot}
 use Rattle.order.specs.Resolve.{target}
-use Rattle.compiler.specs.declared.Reads.{Reads}
 use Rattle.compiler.specs.Static.{Location, nowhere, input, offset, Located, locationsOf, summary, allocate}
 use Rattle.sums.specs.Position.{placeOf, functionIn, before, positionOf}
 use Rattle.sums.specs.Capped.{wordCap, wordsAt}
 use Rattle.compiler.specs.Emit.{locationTable, Placed, summaryAt, AllAllocated}
-
--- where a node's references begin, and how many there are
-pub record ReadsOf (s : List ℕ) (p : ℕ) (r : Reads) : Type 0 where
-  pub refs : reads (nodeAt s p) ≡ references (r .count) s (r .first)
-  pub first : r .first ≤ p + 7
-  pub count : r .count ≤ operandLimit
 
 -- ---- arrays that are read
 
@@ -62,7 +55,7 @@ outputCodes s allocated ns (suc n) q = portCode allocated (target ns (some (refe
 
 -- a callee's location seen from its caller: the call's n arguments stand from `location` on, and its results begin at d
 abbrev pub rebasedCode : List ℕ → ℕ → ℕ → ℕ → ℕ → ℕ
-rebasedCode locations cell n d e = cond (ltb e portLimit) (cond (ltb e n) (getD locations (cell + e) 0) 0) ((e + d) % 65536)
+rebasedCode locations cell n d e = cond (ltb e portLimit) (cond (ltb e n) (getD locations (cell + e) 0) 0) ((e + d) % addressLimit)
 
 unfoldable pub rebasedCodes : List ℕ → List ℕ → ℕ → ℕ → ℕ → ℕ → ℕ → List ℕ
 rebasedCodes outs locations cell n d b zero = []

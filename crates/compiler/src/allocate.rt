@@ -1,24 +1,24 @@
 // Where each value of a function lies: an input, or an offset from where its results begin.
 ghost use mathlib.Core.Path.{_≡_};
 ghost use mathlib.Core.Option.{some};
-ghost use Prim.Native.Nat.{suc, _+_, _*_, _<_, _≤_, _^_};
+ghost use Prim.Native.Nat.{suc, _+_, _*_, _<_, _≤_};
 ghost use lib.ListN.{length, replicate};
 ghost use lib.Seq.{sets};
 ghost use Rattle.base.specs.Limits.{functionLimit, nodeLimit, operandLimit, portLimit, referenceLimit, valueLimit, wordLimit};
-ghost use Rattle.compiler.specs.Sizes.{orderLimit, nodePortLimit, outputLimit};
+ghost use Rattle.compiler.specs.Sizes.{addressLimit, orderLimit, nodePortLimit, outputLimit};
 ghost use Rattle.graph.specs.Look.{reads};
 ghost use Rattle.graph.specs.Read.{reference};
 ghost use Rattle.order.specs.Resolve as Resolve;
-ghost use Rattle.reader.specs.Find.{ReadsNodes};
+ghost use Rattle.reader.specs.Find.{ReadsNode, ReadsNodes, ReadsFunction, Started};
 ghost use Rattle.order.specs.Indices.{indexOrder};
-ghost use Rattle.compiler.specs.Locating.{ReadsOf, NodesAllocated, FunctionAllocated, AllocatedTo, readCount, outputCodes, Places, Slots, portCode, readCodes, rebasedCode, rebasedCodes, resultCodes, nodeCodes, AllOuts};
+ghost use Rattle.compiler.specs.Locating.{NodesAllocated, FunctionAllocated, AllocatedTo, readCount, outputCodes, Places, Slots, portCode, readCodes, rebasedCode, rebasedCodes, resultCodes, nodeCodes, AllOuts};
 ghost use Rattle.reader.specs.Layout.{outputCount, outputsPlace, nodeAt, nodesAt, nodesPlace, nodeCount};
-ghost use Rattle.sums.specs.Position.{placeOf, Starts, NodeFit, AllFit, Accepted};
+ghost use Rattle.sums.specs.Position.{placeOf, Accepted};
 ghost use Rattle.sums.specs.Capped.{wordsAt, addsWords, WordsHeld};
+use super::ADDRESS_LIMIT;
 use super::NODE_PORT_LIMIT;
 use super::ORDER_LIMIT;
 use super::OUTPUT_LIMIT;
-use super::Reads;
 use base::FUNCTION_LIMIT;
 use base::NO_NODE;
 use base::NODE_LIMIT;
@@ -27,39 +27,18 @@ use base::PORT_LIMIT;
 use base::REFERENCE_LIMIT;
 use base::SLOT_LIMIT;
 use base::WORD_LIMIT;
-use base::padded_byte;
-use base::padded_u16;
+use base::u16_at;
 use base::wide;
 use base::wide16;
 use base::wide32;
 use reader::Found;
 
-// The references of the node at p.
-fn reads_at(table: &[u8], p: usize) -> Reads
-    requires { ⌜ NodeFit (now table) p ⌝ }
-    ensures { λ r. ⌜ ReadsOf (now (table .entry)) p r ⌝ }
-{
-    let row = ports::ports_of(padded_byte(table, p + 2));
-    let form = row.form;
-    if ports::is_call(form) {
-        Reads {
-            first: p + 4 + 3,
-            count: wide(padded_byte(table, p + 4 + 2)),
-        }
-    } else {
-        Reads {
-            first: p + 4,
-            count: wide(row.operands),
-        }
-    }
-}
-
 // The index of the node that the reference at q reads, or `NO_NODE` for an input.
 fn target(table: &[u8], at: usize, n: usize, q: usize) -> u16
-    requires { ⌜ (n ≤ nodeLimit) × (q < 2 ^ 31) × ReadsNodes n (now table) at ⌝ }
+    requires { ⌜ (n ≤ nodeLimit) × (q + 2 ≤ length (now table)) × ReadsNodes n (now table) at ⌝ }
     ensures { λ r. ⌜ r ≡ Resolve.target (nodesAt n (now (table .entry)) at) (some (reference (now (table .entry)) q)) ⌝ }
 {
-    let id = padded_u16(table, q);
+    let id = u16_at(table, q);
     if id == 0 {
         return NO_NODE;
     }
@@ -95,7 +74,7 @@ fn allocate_reads(
     locations: &mut [u16; REFERENCE_LIMIT],
     cell: usize,
 )
-    requires { ⌜ (i < nodeLimit) × (n ≤ operandLimit) × (first < 2 ^ 20) × (cell + n ≤ referenceLimit) ⌝ }
+    requires { ⌜ (i < nodeLimit) × (n ≤ operandLimit) × (first + 3 * n ≤ length (now table)) × (cell + n ≤ referenceLimit) ⌝ }
     ensures { λ _. ⌜ now (locations .exit) ≡ sets (now (locations .entry)) cell
         (readCodes (now (table .entry)) (now (targets .entry)) (now (allocated .entry)) (operandLimit * i) n first) ⌝ }
 {
@@ -103,7 +82,7 @@ fn allocate_reads(
     let mut j = 0;
     while j < n {
         let v = wide16(targets[OPERAND_LIMIT * i + j]);
-        let port = wide(padded_byte(table, q + 2));
+        let port = wide(table[q + 2]);
         locations[cell + j] = location_of(allocated, v, port);
         q += 3;
         j += 1;
@@ -112,13 +91,13 @@ fn allocate_reads(
 
 // A callee's location seen from its caller.
 fn rebase(locations: &[u16; REFERENCE_LIMIT], cell: usize, n: usize, d: usize, e: usize) -> u16
-    requires { ⌜ (cell + n ≤ referenceLimit) × (d ≤ wordLimit) × (e < 65536) ⌝ }
+    requires { ⌜ (cell + n ≤ referenceLimit) × (d ≤ wordLimit) × (e < addressLimit) ⌝ }
     ensures { λ r. ⌜ r ≡ rebasedCode (now (locations .entry)) cell n d e ⌝ }
 {
     if e < PORT_LIMIT {
         if e < n { locations[cell + e] } else { 0 }
     } else {
-        ((e + d) % 65536) as u16
+        ((e + d) % ADDRESS_LIMIT) as u16
     }
 }
 
@@ -168,7 +147,7 @@ fn allocate_results(
 // The ports of the i-th node, which stands at p; the answer is the offset behind its results.
 fn allocate_node(
     table: &[u8],
-    starts: &[u16; FUNCTION_LIMIT],
+    starts: &[usize; FUNCTION_LIMIT],
     words: &[u32; FUNCTION_LIMIT],
     outs: &[u16; OUTPUT_LIMIT],
     locations: &[u16; REFERENCE_LIMIT],
@@ -180,19 +159,18 @@ fn allocate_node(
     allocated: &mut [u16; NODE_PORT_LIMIT],
     d: usize,
 ) -> usize
-    requires { ⌜ (k ≤ functionLimit) × (i < nodeLimit) × NodeFit (now table) p × Starts (now table) (now starts) k × WordsHeld (now table) (now words) k ⌝ }
-    requires { ⌜ AllFit (now table) k × AllOuts (now table) (now outs) k × (cell + n ≤ referenceLimit) × (n ≡ length (reads (nodeAt (now table) p))) ⌝ }
+    requires { ⌜ (k ≤ functionLimit) × (i < nodeLimit) × ReadsNode (now table) p × Started (now table) (now starts) k × WordsHeld (now table) (now words) k ⌝ }
+    requires { ⌜ AllOuts (now table) (now outs) k × (cell + n ≤ referenceLimit) × (n ≡ length (reads (nodeAt (now table) p))) ⌝ }
     requires { ⌜ d + addsWords (now table) k (nodeAt (now table) p) ≤ wordLimit ⌝ }
     ensures { λ r. ⌜ now (allocated .exit) ≡ sets (now (allocated .entry)) (portLimit * i) (nodeCodes (now (table .entry)) (now (outs .entry)) (now (locations .entry)) k p cell d) ⌝ }
     ensures { λ r. ⌜ r ≡ d + addsWords (now (table .entry)) k (nodeAt (now (table .entry)) p) ⌝ }
 {
-    let row = ports::ports_of(padded_byte(table, p + 2));
+    let row = ports::ports_of(table[p + 2]);
     let form = row.form;
     if ports::is_call(form) {
-        let c = padded_u16(table, p + 4);
-        let g = sums::position_of(table, starts, k, c);
+        let g = sums::position_of(table, starts, k, reader::callee_at(table, p));
         if g < k {
-            let count = wide(padded_byte(table, wide16(starts[g]) + 3));
+            let count = wide(table[starts[g] + 3]);
             let w = wide32(words[g]);
             allocate_call(outs, g, count, locations, cell, n, allocated, i, d);
             d + w
@@ -200,7 +178,7 @@ fn allocate_node(
             d
         }
     } else {
-        let ty = padded_byte(table, p + 3);
+        let ty = table[p + 3];
         let w = ports::width(ports::own(ty, row.result));
         let count = wide(row.results);
         let all = ports::result_words(row, ty);
@@ -212,7 +190,7 @@ fn allocate_node(
 // The nodes of the function at position k in their order; the answer is the place behind their locations.
 fn allocate_nodes(
     table: &[u8],
-    starts: &[u16; FUNCTION_LIMIT],
+    starts: &[usize; FUNCTION_LIMIT],
     words: &[u32; FUNCTION_LIMIT],
     outs: &[u16; OUTPUT_LIMIT],
     targets: &[u16; SLOT_LIMIT],
@@ -226,7 +204,7 @@ fn allocate_nodes(
     cell: usize,
 ) -> usize
     requires { ⌜ Accepted (now table) (suc k) × (n ≡ nodeCount (now table) (placeOf (now table) k)) × (wordsAt (now table) k ≤ wordLimit) × (cell + readCount (now table) k ≤ referenceLimit) ⌝ }
-    requires { ⌜ Starts (now table) (now starts) k × WordsHeld (now table) (now words) k × AllOuts (now table) (now outs) k ⌝ }
+    requires { ⌜ Started (now table) (now starts) k × WordsHeld (now table) (now words) k × AllOuts (now table) (now outs) k ⌝ }
     requires { ⌜ Slots (now table) (nodesPlace (now table) (placeOf (now table) k)) n (now targets) × Places (now table) (nodesPlace (now table) (placeOf (now table) k)) (now places) n
         × (now index ≡ sets (replicate nodeLimit 0) 0 (indexOrder (now targets) n)) ⌝ }
     requires { ⌜ (length (now order) ≡ orderLimit) × (length (now locations) ≡ referenceLimit) × (length (now allocated) ≡ nodePortLimit) ⌝ }
@@ -239,7 +217,7 @@ fn allocate_nodes(
         let i = wide16(index[m]);
         let p = wide32(places[i]);
         order[NODE_LIMIT * k + m] = p as u16;
-        let r = reads_at(table, p);
+        let r = reader::reads_at(table, p);
         let count = r.count;
         allocate_reads(
             table,
@@ -281,16 +259,16 @@ fn allocate_outputs(
     k: usize,
     outs: &mut [u16; OUTPUT_LIMIT],
 )
-    requires { ⌜ (k < functionLimit) × (p < 65536) × (outputCount (now table) p ≤ portLimit) × (n ≤ nodeLimit) × ReadsNodes n (now table) at ⌝ }
+    requires { ⌜ (k < functionLimit) × ReadsFunction (now table) p × (n ≤ nodeLimit) × ReadsNodes n (now table) at ⌝ }
     ensures { λ _. ⌜ now (outs .exit) ≡ sets (now (outs .entry)) (portLimit * k)
         (outputCodes (now (table .entry)) (now (allocated .entry)) (nodesAt n (now (table .entry)) at) (outputCount (now (table .entry)) p) (outputsPlace (now (table .entry)) p)) ⌝ }
 {
-    let count = wide(padded_byte(table, p + 3));
-    let mut q = p + 6 + wide(padded_byte(table, p + 2));
+    let count = wide(table[p + 3]);
+    let mut q = p + 6 + wide(table[p + 2]);
     let mut j = 0;
     while j < count {
         let v = wide16(target(table, at, n, q + 1));
-        let port = wide(padded_byte(table, q + 1 + 2));
+        let port = wide(table[q + 1 + 2]);
         outs[PORT_LIMIT * k + j] = location_of(allocated, v, port);
         q += 4;
         j += 1;
@@ -300,7 +278,7 @@ fn allocate_outputs(
 // The function at position k; the answer is the place behind its locations.
 fn allocate_function(
     table: &[u8],
-    starts: &[u16; FUNCTION_LIMIT],
+    starts: &[usize; FUNCTION_LIMIT],
     words: &[u32; FUNCTION_LIMIT],
     k: usize,
     outs: &mut [u16; OUTPUT_LIMIT],
@@ -309,13 +287,13 @@ fn allocate_function(
     cell: usize,
 ) -> usize
     requires { ⌜ Accepted (now table) (suc k) × (wordsAt (now table) k ≤ wordLimit) × (cell + readCount (now table) k ≤ referenceLimit) ⌝ }
-    requires { ⌜ Starts (now table) (now starts) (suc k) × WordsHeld (now table) (now words) k × AllOuts (now table) (now outs) k ⌝ }
+    requires { ⌜ Started (now table) (now starts) (suc k) × WordsHeld (now table) (now words) k × AllOuts (now table) (now outs) k ⌝ }
     requires { ⌜ (length (now outs) ≡ outputLimit) × (length (now order) ≡ orderLimit) × (length (now locations) ≡ referenceLimit) ⌝ }
     ensures { λ r. ⌜ FunctionAllocated (now (table .entry)) k cell (now (order .entry)) (now (order .exit)) (now (locations .entry)) (now (locations .exit)) (now (outs .entry)) (now (outs .exit)) r ⌝ }
 {
-    let p = wide16(starts[k]);
-    let n = padded_u16(table, p + 4);
-    let at = sums::nodes_place(table, p);
+    let p = starts[k];
+    let n = u16_at(table, p + 4);
+    let at = reader::nodes_place(table, p);
     let mut places = [0u32; NODE_LIMIT];
     let mut targets = [0u16; SLOT_LIMIT];
     let mut index = [0u16; NODE_LIMIT];
@@ -345,7 +323,7 @@ fn allocate_function(
 // The function at position j, where it is within the word limit; the answer is the place behind all locations.
 pub fn allocate_next(
     table: &[u8],
-    starts: &[u16; FUNCTION_LIMIT],
+    starts: &[usize; FUNCTION_LIMIT],
     words: &[u32; FUNCTION_LIMIT],
     j: usize,
     outs: &mut [u16; OUTPUT_LIMIT],
@@ -354,7 +332,7 @@ pub fn allocate_next(
     begins: &mut [u16; FUNCTION_LIMIT],
     cell: usize,
 ) -> usize
-    requires { ⌜ Accepted (now table) (suc j) × Starts (now table) (now starts) (suc j) × WordsHeld (now table) (now words) (suc j) ⌝ }
+    requires { ⌜ Accepted (now table) (suc j) × Started (now table) (now starts) (suc j) × WordsHeld (now table) (now words) (suc j) ⌝ }
     requires { ⌜ AllocatedTo (now table) j (now outs) (now order) (now locations) (now begins) cell ⌝ }
     ensures { λ r. ⌜ AllocatedTo (now (table .entry)) (suc j) (now (outs .exit)) (now (order .exit)) (now (locations .exit)) (now (begins .exit)) r ⌝ }
 {
@@ -369,7 +347,7 @@ pub fn allocate_next(
 // The functions before k that are within the word limit; the answer is the place behind all locations.
 pub fn allocate_functions(
     table: &[u8],
-    starts: &[u16; FUNCTION_LIMIT],
+    starts: &[usize; FUNCTION_LIMIT],
     words: &[u32; FUNCTION_LIMIT],
     k: usize,
     outs: &mut [u16; OUTPUT_LIMIT],
@@ -377,7 +355,7 @@ pub fn allocate_functions(
     locations: &mut [u16; REFERENCE_LIMIT],
     begins: &mut [u16; FUNCTION_LIMIT],
 ) -> usize
-    requires { ⌜ Accepted (now table) k × Starts (now table) (now starts) k × WordsHeld (now table) (now words) k ⌝ }
+    requires { ⌜ Accepted (now table) k × Started (now table) (now starts) k × WordsHeld (now table) (now words) k ⌝ }
     requires { ⌜ (length (now outs) ≡ outputLimit) × (length (now order) ≡ orderLimit) × (length (now locations) ≡ referenceLimit) × (length (now begins) ≡ functionLimit) ⌝ }
     ensures { λ r. ⌜ AllocatedTo (now (table .entry)) k (now (outs .exit)) (now (order .exit)) (now (locations .exit)) (now (begins .exit)) r ⌝ }
 {

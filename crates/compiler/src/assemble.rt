@@ -1,6 +1,6 @@
 // What stands around the instructions: the header, the addresses of the arguments and of the outputs.
 ghost use mathlib.Core.Path.{_≡_};
-ghost use Prim.Native.Nat.{ℕ, _+_, _*_, _<_, _≤_, _^_};
+ghost use Prim.Native.Nat.{ℕ, _+_, _*_, _<_, _≤_};
 ghost use lib.ListN.{length, getD};
 ghost use lib.Seq.{sets};
 ghost use Rattle.base.specs.Limits.{functionLimit, portLimit, wordLimit};
@@ -10,17 +10,17 @@ ghost use Rattle.base.specs.Lists.{span};
 ghost use Rattle.bytecode.specs.Run.{places, spans};
 ghost use Rattle.bytecode.specs.Code.{headerCode};
 ghost use Rattle.sums.specs.Answers.{typesBy};
+ghost use Rattle.compiler.specs.Sizes.{addressLimit, headerLength};
 ghost use Rattle.compiler.specs.Emit.{addressOf, addressesIn};
 use super::OUTPUT_LIMIT;
 use super::emit::address;
 use base::PORT_LIMIT;
-use base::padded_byte;
 use base::put16;
 use base::wide16;
 
 // The addresses of n arguments, by their type bytes.
 pub fn input_places(table: &[u8], at: usize, n: usize, ins: &mut [u16; PORT_LIMIT])
-    requires { ⌜ (at < 2 ^ 20) × (n ≤ portLimit) ⌝ }
+    requires { ⌜ (at + n ≤ length (now table)) × (n ≤ portLimit) ⌝ }
     ensures { λ _. ⌜ now (ins .exit) ≡ sets (now (ins .entry)) 0 (places 0 (typesBy 1 n (now (table .entry)) at)) ⌝ }
 {
     let mut q = at;
@@ -28,7 +28,7 @@ pub fn input_places(table: &[u8], at: usize, n: usize, ins: &mut [u16; PORT_LIMI
     let mut j = 0;
     while j < n {
         ins[j] = w as u16;
-        w += ports::width(padded_byte(table, q));
+        w += ports::width(table[q]);
         q += 1;
         j += 1;
     }
@@ -36,7 +36,7 @@ pub fn input_places(table: &[u8], at: usize, n: usize, ins: &mut [u16; PORT_LIMI
 
 // n addresses, one after another.
 fn put_span(code: &mut [u8], at: usize, a: usize, n: usize)
-    requires { ⌜ (at + 2 * n ≤ length (now code)) × (a + n ≤ 65536) ⌝ }
+    requires { ⌜ (at + 2 * n ≤ length (now code)) × (a + n ≤ addressLimit) ⌝ }
     ensures { λ _. ⌜ now (code .exit) ≡ sets (now (code .entry)) at (allBytes 2 (span a n)) ⌝ }
 {
     let mut j = 0;
@@ -58,7 +58,7 @@ pub fn put_outputs(
     code: &mut [u8],
     at: usize,
 )
-    requires { ⌜ (entries < 2 ^ 20) × (n ≤ portLimit) × (k < functionLimit) × (first ≤ wordLimit) × ((j : ℕ) → j < n → addressOf (now ins) first (getD (now outs) (portLimit * k + j) 0) ≤ 2 * wordLimit) ⌝ }
+    requires { ⌜ (entries + 4 * n ≤ length (now table)) × (n ≤ portLimit) × (k < functionLimit) × (first ≤ wordLimit) × ((j : ℕ) → j < n → addressOf (now ins) first (getD (now outs) (portLimit * k + j) 0) ≤ 2 * wordLimit) ⌝ }
     requires { ⌜ at + 2 * widths (typesBy 4 n (now table) entries) ≤ length (now code) ⌝ }
     ensures { λ _. ⌜ now (code .exit) ≡ sets (now (code .entry)) at
         (allBytes 2 (spans (typesBy 4 n (now (table .entry)) entries) (addressesIn (now (outs .entry)) (now (ins .entry)) first (portLimit * k) n))) ⌝ }
@@ -69,7 +69,7 @@ pub fn put_outputs(
     while j < n {
         let e = wide16(outs[PORT_LIMIT * k + j]);
         let a = wide16(address(ins, first, e));
-        let w = ports::width(padded_byte(table, q));
+        let w = ports::width(table[q]);
         put_span(code, here, a, w);
         here += 2 * w;
         q += 4;
@@ -78,7 +78,7 @@ pub fn put_outputs(
 }
 
 pub fn put_header(code: &mut [u8], arguments: u8, outputs: u8, count: u16, words: u16)
-    requires { ⌜ 12 ≤ length (now code) ⌝ }
+    requires { ⌜ headerLength ≤ length (now code) ⌝ }
     ensures { λ _. ⌜ now (code .exit) ≡ sets (now (code .entry)) 0 (headerCode arguments outputs count words) ⌝ }
 {
     code[0] = 0x49;

@@ -6,32 +6,34 @@ ghost use lib.ListN.{length};
 ghost use lib.Seq.{sets};
 ghost use Rattle.base.specs.Limits.{functionLimit, portLimit, referenceLimit, wordLimit};
 ghost use Rattle.ports.specs.Ports.{formOf, calling};
-ghost use Rattle.base.specs.Bytes.{allBytes};
+ghost use Rattle.base.specs.Bytes.{byte, allBytes};
 ghost use Rattle.graph.specs.Look.{reads};
-ghost use Rattle.reader.specs.Layout.{kindAt, nodeAt, nodeEnd};
-ghost use Rattle.sums.specs.Position.{Starts, NodeFit};
+ghost use Rattle.reader.specs.Layout.{kindAt, nodeAt};
+ghost use Rattle.reader.specs.Find.{ReadsNode, Started};
+ghost use Rattle.compiler.specs.Sizes.{addressLimit};
 ghost use Rattle.compiler.specs.Emit.{copied, addressOf, addressesIn, nodeInlined, functionInlined, Room, Emits, AllAllocated};
+use super::ADDRESS_LIMIT;
 use super::ORDER_LIMIT;
 use super::Reached;
 use base::FUNCTION_LIMIT;
 use base::NODE_LIMIT;
 use base::PORT_LIMIT;
 use base::REFERENCE_LIMIT;
-use base::padded_byte;
-use base::padded_u16;
 use base::put16;
+use base::u16_at;
 use base::wide;
 use base::wide16;
+use reader::Payload;
 
 // The address of a location.
 pub fn address(ins: &[u16; PORT_LIMIT], first: usize, e: usize) -> u16
-    requires { ⌜ (first ≤ wordLimit) × (e < 65536) ⌝ }
+    requires { ⌜ (first ≤ wordLimit) × (e < addressLimit) ⌝ }
     ensures { λ r. ⌜ r ≡ addressOf (now (ins .entry)) first e ⌝ }
 {
     if e < PORT_LIMIT {
         ins[e]
     } else {
-        ((first + (e - PORT_LIMIT)) % 65536) as u16
+        ((first + (e - PORT_LIMIT)) % ADDRESS_LIMIT) as u16
     }
 }
 
@@ -87,12 +89,14 @@ fn copy(table: &[u8], from: usize, n: usize, code: &mut [u8], at: usize)
     }
 }
 
-// The node at p, which is no call.
+// The node at p, which is no call, by its kind and type.
 fn emit_single(
     table: &[u8],
     locations: &[u16; REFERENCE_LIMIT],
     k: usize,
     p: usize,
+    kind: u8,
+    ty: u8,
     cell: usize,
     ins: &[u16; PORT_LIMIT],
     first: usize,
@@ -100,17 +104,14 @@ fn emit_single(
     at: usize,
     next: usize,
 ) -> Reached
-    requires { ⌜ (p < 65536) × (calling (formOf (kindAt (now table) p)) ≡ false) × (nodeEnd (now table) p ≤ length (now table)) ⌝ }
+    requires { ⌜ ReadsNode (now table) p × (kind ≡ byte (now table) (p + 2)) × (ty ≡ byte (now table) (p + 3)) × (calling (formOf (kindAt (now table) p)) ≡ false) ⌝ }
     requires { ⌜ (first ≤ wordLimit) × (cell + length (reads (nodeAt (now table) p)) ≤ referenceLimit) ⌝ }
     requires { ⌜ Room (now code) at (nodeInlined (now table) (now locations) k p cell (now ins) first next) ⌝ }
     ensures { λ r. ⌜ Emits (now (code .entry)) (now (code .exit)) at
         (nodeInlined (now (table .entry)) (now (locations .entry)) k p cell (now (ins .entry)) first next) r ⌝ }
     ensures { λ r. ⌜ r .cell ≡ cell + length (reads (nodeAt (now (table .entry)) p)) ⌝ }
 {
-    let kind = padded_byte(table, p + 2);
-    let ty = padded_byte(table, p + 3);
     let row = ports::ports_of(kind);
-    let form = row.form;
     let n = wide(row.operands);
     let m = 8 * ports::constant_words(row);
     let w = ports::result_words(row, ty);
@@ -128,7 +129,7 @@ fn emit_single(
 // The node at p of the function at position k, whose results begin at `first`.
 fn emit_node(
     table: &[u8],
-    starts: &[u16; FUNCTION_LIMIT],
+    starts: &[usize; FUNCTION_LIMIT],
     begins: &[u16; FUNCTION_LIMIT],
     order: &[u16; ORDER_LIMIT],
     locations: &[u16; REFERENCE_LIMIT],
@@ -141,7 +142,7 @@ fn emit_node(
     at: usize,
     next: usize,
 ) -> Reached
-    requires { ⌜ (k < functionLimit) × Starts (now table) (now starts) k × NodeFit (now table) p ⌝ }
+    requires { ⌜ (k < functionLimit) × Started (now table) (now starts) k × ReadsNode (now table) p ⌝ }
     requires { ⌜ (first ≤ wordLimit) × (cell + length (reads (nodeAt (now table) p)) ≤ referenceLimit) ⌝ }
     requires { ⌜ AllAllocated (now table) (now begins) (now order) (now locations) k ⌝ }
     requires { ⌜ Room (now code) at (nodeInlined (now table) (now locations) k p cell (now ins) first next) ⌝ }
@@ -149,48 +150,75 @@ fn emit_node(
         (nodeInlined (now (table .entry)) (now (locations .entry)) k p cell (now (ins .entry)) first next) r ⌝ }
     ensures { λ r. ⌜ r .cell ≡ cell + length (reads (nodeAt (now (table .entry)) p)) ⌝ }
 {
-    let row = ports::ports_of(padded_byte(table, p + 2));
-    let form = row.form;
-    if ports::is_call(form) {
-        let n = wide(padded_byte(table, p + 4 + 2));
-        let c = padded_u16(table, p + 4);
-        let mut args = [0u16; PORT_LIMIT];
-        arguments(locations, cell, n, ins, first, &mut args);
-        let g = sums::position_of(table, starts, k, c);
-        if g < k {
-            let r = emit(
-                table,
-                starts,
-                begins,
-                order,
-                locations,
-                g,
-                &args,
-                code,
-                at,
-                next,
-            );
-            Reached {
-                at: r.at,
-                next: r.next,
-                cell: cell + n,
-            }
-        } else {
-            Reached {
-                at,
-                next,
-                cell: cell + n,
+    let node = reader::node_at(table, p);
+    let payload = node.payload;
+    match payload {
+        Payload::Constant(_) => emit_single(
+            table,
+            locations,
+            k,
+            p,
+            node.kind,
+            node.ty,
+            cell,
+            ins,
+            first,
+            code,
+            at,
+            next,
+        ),
+        Payload::References(_) => emit_single(
+            table,
+            locations,
+            k,
+            p,
+            node.kind,
+            node.ty,
+            cell,
+            ins,
+            first,
+            code,
+            at,
+            next,
+        ),
+        Payload::Call(callee, read) => {
+            let n = read.count;
+            let mut args = [0u16; PORT_LIMIT];
+            arguments(locations, cell, n, ins, first, &mut args);
+            let g = sums::position_of(table, starts, k, callee);
+            if g < k {
+                let r = emit(
+                    table,
+                    starts,
+                    begins,
+                    order,
+                    locations,
+                    g,
+                    &args,
+                    code,
+                    at,
+                    next,
+                );
+                Reached {
+                    at: r.at,
+                    next: r.next,
+                    cell: cell + n,
+                }
+            } else {
+                Reached {
+                    at,
+                    next,
+                    cell: cell + n,
+                }
             }
         }
-    } else {
-        emit_single(table, locations, k, p, cell, ins, first, code, at, next)
     }
 }
 
 // The function at position k, with the addresses of its arguments.
 pub fn emit(
     table: &[u8],
-    starts: &[u16; FUNCTION_LIMIT],
+    starts: &[usize; FUNCTION_LIMIT],
     begins: &[u16; FUNCTION_LIMIT],
     order: &[u16; ORDER_LIMIT],
     locations: &[u16; REFERENCE_LIMIT],
@@ -200,12 +228,12 @@ pub fn emit(
     at: usize,
     next: usize,
 ) -> Reached
-    requires { ⌜ (k < functionLimit) × Starts (now table) (now starts) (suc k) ⌝ }
+    requires { ⌜ (k < functionLimit) × Started (now table) (now starts) (suc k) ⌝ }
     requires { ⌜ AllAllocated (now table) (now begins) (now order) (now locations) (suc k) ⌝ }
     requires { ⌜ Room (now code) at (functionInlined (now table) k (now ins) next) ⌝ }
     ensures { λ r. ⌜ Emits (now (code .entry)) (now (code .exit)) at (functionInlined (now (table .entry)) k (now (ins .entry)) next) r ⌝ }
 {
-    let n = padded_u16(table, wide16(starts[k]) + 4);
+    let n = u16_at(table, starts[k] + 4);
     let mut cell = wide16(begins[k]);
     let mut here = at;
     let mut word = next;

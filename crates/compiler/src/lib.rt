@@ -4,7 +4,8 @@ ghost use Prim.Native.Nat.{suc, _≤_};
 ghost use lib.ListN.{length};
 ghost use lib.Seq.{sets};
 ghost use Rattle.compiler.specs.Whole.{codeAt, Measured};
-ghost use Rattle.sums.specs.Position.{Starts, Accepted};
+ghost use Rattle.reader.specs.Find.{Started};
+ghost use Rattle.sums.specs.Position.{Accepted};
 ghost use Rattle.sums.specs.Capped.{WordsHeld};
 use allocate::allocate_functions;
 use allocate::allocate_next;
@@ -15,9 +16,7 @@ use base::FUNCTION_LIMIT;
 use base::NODE_LIMIT;
 use base::PORT_LIMIT;
 use base::REFERENCE_LIMIT;
-use base::padded_byte;
 use base::wide;
-use base::wide16;
 use base::wide32;
 use emit::emit;
 use sums::Sizes;
@@ -35,13 +34,14 @@ const NODE_PORT_LIMIT: usize = NODE_LIMIT * PORT_LIMIT;
 // Outputs of all functions.
 const OUTPUT_LIMIT: usize = FUNCTION_LIMIT * PORT_LIMIT;
 
-// ---- what functions answer
+// ---- numbers of a code; `specs/Sizes.antt` has the same
 
-// Where the references of a node begin, and how many there are.
-pub struct Reads {
-    pub first: usize,
-    pub count: usize,
-}
+// Addresses, and the numbers of locations, take 16 bits.
+const ADDRESS_LIMIT: usize = 65536;
+// The bytes of a code's header.
+const HEADER_LENGTH: usize = 12;
+
+// ---- what functions answer
 
 // The byte behind what was written, the next free word, and the location behind those that were read.
 pub struct Reached {
@@ -56,19 +56,19 @@ pub struct Reached {
 // to fit the buffer.
 pub fn compile(
     table: &[u8],
-    starts: &[u16; FUNCTION_LIMIT],
+    starts: &[usize; FUNCTION_LIMIT],
     words: &[u32; FUNCTION_LIMIT],
     k: usize,
     sizes: Sizes,
     code: &mut [u8],
 )
-    requires { ⌜ Accepted (now table) (suc k) × Starts (now table) (now starts) (suc k) × WordsHeld (now table) (now words) (suc k) ⌝ }
+    requires { ⌜ Accepted (now table) (suc k) × Started (now table) (now starts) (suc k) × WordsHeld (now table) (now words) (suc k) ⌝ }
     requires { ⌜ Measured (now table) k (sizes .instructions) (sizes .arguments) (sizes .outputs) × (length (codeAt (now table) k) ≤ length (now code)) ⌝ }
     ensures { λ _. ⌜ now (code .exit) ≡ sets (now (code .entry)) 0 (codeAt (now (table .entry)) k) ⌝ }
 {
-    let p = wide16(starts[k]);
-    let input_count = wide(padded_byte(table, p + 2));
-    let output_count = wide(padded_byte(table, p + 3));
+    let p = starts[k];
+    let input_count = wide(table[p + 2]);
+    let output_count = wide(table[p + 3]);
     let count = sizes.instructions;
     let inputs = sizes.arguments;
     let outputs = sizes.outputs;
@@ -110,7 +110,7 @@ pub fn compile(
         k,
         &ins,
         code,
-        12,
+        HEADER_LENGTH,
         inputs,
     );
     put_outputs(

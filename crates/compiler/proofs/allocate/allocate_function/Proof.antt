@@ -3,16 +3,18 @@ use Prim.Native.Nat.{ℕ, suc, _+_, _≤_, _<_}
 use mathlib.Core.Path.{_≡_, sym, ap, _∙_, subst}
 use mathlib.Core.List.{[]}
 use native.Mathlib.Omega.{arith}
-use lib.ListN.{length-replicate}
+use lib.ListN.{length, getD, length-replicate}
 use Rattle.compiler.specs.Sizes.{nodePortLimit}
 use Rattle.base.specs.Limits.{nodeLimit, slotLimit}
 use Rattle.base.specs.Outcome.{ok}
 use Rattle.base.specs.Bytes.{u16}
 use Rattle.graph.specs.Judge.{fresh}
-use Rattle.reader.specs.Layout.{nodesAt, nodesPlace, nodeCount, outputCount}
-use Rattle.reader.specs.Find.{ReadsNodes}
+use Rattle.reader.specs.Layout.{nodesAt, nodesPlace, nodeCount}
+use Rattle.reader.specs.Find.{ReadsNodes, ReadsFunction}
+use Rattle.reader.proofs.Passed.{function-fits}
 use Rattle.sums.specs.Position.{placeOf}
-use Rattle.sums.proofs.Accepted.{few, fit-below, short}
+use Rattle.sums.proofs.Accepted.{few, short}
+use Rattle.sums.proofs.Tabulate.{fewer-starts}
 use Rattle.compiler.proofs.Filling.{places-are, slots-are}
 use Rattle.compiler.proofs.Accepting.{nodes-held}
 use Rattle.compiler.proofs.Outputs.{function-allocated}
@@ -21,10 +23,10 @@ use Rattle.compiler.proofs.allocate.allocate_function.Tie as tie
 
 -- ---- places: from one back to another
 
-abbrev entry-of-place : tie.After-wide16 → tie.Start
-entry-of-place c = c .before .before .before
+abbrev entry-of-place : tie.After-p → tie.Start
+entry-of-place c = c .before .before
 
-abbrev place-of-begin : tie.After-nodes-place → tie.After-wide16
+abbrev place-of-begin : tie.After-nodes-place → tie.After-p
 place-of-begin c = c .before .before
 
 abbrev entry-of-begin : tie.After-nodes-place → tie.Start
@@ -58,16 +60,22 @@ low : (c : tie.Start) → c .args .k < 16
 low c = let l = few (c .args .table .now) (suc (c .args .k)) (c .pre .0 .0) in omega arith
 
 -- the function's place, its node count, and where its nodes begin
-place : (c : tie.After-wide16) → let a = entry-of-place c .args in c .wide16 .result ≡ placeOf (a .table .now) (a .k)
-place c = let e = entry-of-place c in c .wide16 .ensures .0 ∙ e .pre .1 .0 .0 (e .args .k) (omega arith)
+place : (b : tie.Start) → getD (b .args .starts .now) (b .args .k) 0 ≡ placeOf (b .args .table .now) (b .args .k)
+place b = b .pre .1 .0 .0 .places (b .args .k) (omega arith)
 
-count : (c : tie.After-padded-u16) → let a = entry-of-place (c .before) .args in c .padded-u16 .result ≡ nodeCount (a .table .now) (placeOf (a .table .now) (a .k))
-count c = c .padded-u16 .ensures .0 ∙ ap (λ (q : ℕ). u16 (entry-of-place (c .before) .args .table .now) (q + 4)) (place (c .before))
+was-read : (b : tie.Start) → ReadsFunction (b .args .table .now) (getD (b .args .starts .now) (b .args .k) 0)
+was-read b = subst (ReadsFunction (b .args .table .now)) (sym (place b)) (b .pre .1 .0 .0 .reads (b .args .k) (omega arith))
+
+fits : (b : tie.Start) → getD (b .args .starts .now) (b .args .k) 0 + 6 ≤ length (b .args .table .now)
+fits b = function-fits (b .args .table .now) (getD (b .args .starts .now) (b .args .k) 0) (was-read b)
+
+count : (c : tie.After-u16-at) → let a = entry-of-place (c .before) .args in c .u16-at .result ≡ nodeCount (a .table .now) (placeOf (a .table .now) (a .k))
+count c = let b = entry-of-place (c .before) in c .u16-at .ensures .0 ∙ ap (λ (q : ℕ). u16 (b .args .table .now) (q + 4)) (place b)
 
 begin : (c : tie.After-nodes-place) → let a = entry-of-begin c .args in c .nodes-place .result ≡ nodesPlace (a .table .now) (placeOf (a .table .now) (a .k))
-begin c = c .nodes-place .ensures .0 ∙ ap (nodesPlace (entry-of-begin c .args .table .now)) (place (place-of-begin c))
+begin c = let b = entry-of-begin c in c .nodes-place .ensures ∙ ap (nodesPlace (b .args .table .now)) (place b)
 
-nodes : (c : tie.After-nodes-place) → let n = c .before .padded-u16 .result in let s = entry-of-begin c .args .table .now in let at = c .nodes-place .result in
+nodes : (c : tie.After-nodes-place) → let n = c .before .u16-at .result in let s = entry-of-begin c .args .table .now in let at = c .nodes-place .result in
     (n ≤ nodeLimit) × ReadsNodes n s at × (fresh [] (nodesAt n s at) ≡ ok tt)
 nodes c = let e = entry-of-begin c in nodes-held (e .args .table .now) (suc (e .args .k)) (e .pre .0 .0) (e .args .k) (omega arith) (count (c .before)) (begin c)
 
@@ -92,7 +100,7 @@ allocate-nodes-requires c κs =
     let few = nodes b .0 in (
       (e .pre .0 .0, count (b .before), e .pre .0 .1, e .pre .0 .2),
       (
-        ((λ j l. e .pre .1 .0 .0 j (omega arith)), e .pre .1 .0 .1, e .pre .1 .0 .2),
+        (fewer-starts _ _ _ _ (e .pre .1 .0 .0) (omega arith), e .pre .1 .0 .1, e .pre .1 .0 .2),
         (
           (slots-are _ few (begin b) (o .before .before .before .resolve .ensures), places-are _ few (begin b) (r .before .places2 .ensures), o .schedule .ensures .1),
           (e .pre .1 .1 .1, e .pre .1 .1 .2, length-replicate {A = ℕ} nodePortLimit 0),
@@ -103,21 +111,19 @@ allocate-nodes-requires c κs =
 allocate-outputs-requires : tie.Need-allocate-outputs-requires
 allocate-outputs-requires c κs =
     let b = begin-of-outputs c in
-    let p = place-of-begin b in
-    let e = entry-of-place p in
+    let e = entry-of-begin b in
     let (few, read, single) = nodes b in
-    let f = fit-below (e .args .table .now) (suc (e .args .k)) (e .pre .0 .0) (e .args .k) (omega arith) .outputs in
-    (low e, p .wide16 .ensures .1, subst (λ (q : ℕ). outputCount (e .args .table .now) q ≤ 8) (sym (place p)) f, few, read)
+    (low e, was-read e, few, read)
 
 returns : tie.Need-returns
 returns c =
     let b = begin-of-outputs (c .before) in
     let e = entry-of-begin b in
     let v = c .before .before .before .allocate-nodes in
-    function-allocated (e .args .table .now) (e .args .k) (e .args .cell) (e .pre .0 .0) _ _ _ _ _ _ _ (v .result) (v .ensures) (place (place-of-begin b)) (count (b .before)) (begin b) (c .allocate-outputs .ensures) (e .pre .1 .1 .0)
+    function-allocated (e .args .table .now) (e .args .k) (e .args .cell) (e .pre .0 .0) _ _ _ _ _ _ _ (v .result) (v .ensures) (place e) (count (b .before)) (begin b) (c .allocate-outputs .ensures) (e .pre .1 .1 .0)
 
 pub allocate-function-spec : {M : Type 1} → statement M
 allocate-function-spec =
     tie.close
-    (tie.spec (λ c. let l = low (c .before) in omega arith) (λ c. let l = low (c .before) in omega arith) (λ c κs. search needs) (λ c. search needs) (λ c κs. search needs) (λ c κs. search needs)
+    (tie.spec (λ c. let l = low (c .before) in omega arith) (λ c. let l = low (c .before) in omega arith) (λ c. omega (arith, fits (entry-of-place c))) (λ c κs. omega (arith, fits (entry-of-place c))) (λ c κs. was-read (entry-of-place (c .before)))
     places-requires resolve-requires (λ c κs. nodes (begin-of-index c) .0) allocate-nodes-requires allocate-outputs-requires returns)

@@ -4,6 +4,7 @@ use mathlib.Core.Path.{_≡_}
 use native.Mathlib.Omega.{arith}
 use Rattle.compiler.specs.Locating.{AllocatedTo}
 use Rattle.sums.proofs.Accepted.{few, fewer}
+use Rattle.sums.proofs.Tabulate.{fewer-starts}
 use Rattle.compiler.proofs.Tables.{allocated-none}
 use Rattle.compiler.proofs.allocate.allocate_functions.Statement.{statement}
 use Rattle.compiler.proofs.allocate.allocate_functions.Tie as tie
@@ -28,7 +29,7 @@ allocate-next-requires c κs =
     let b = entry-of-loop d in
     let l = d .before .loop in
     let t : l .j < b .args .k = d .loop-test .taken in
-    ((fewer (b .args .table .now) (b .args .k) (suc (l .j)) (b .pre .0 .0) (omega arith), (λ j l. b .pre .0 .1 j (omega arith)), (λ j l. b .pre .0 .2 j (omega arith))), l .inv .1)
+    ((fewer (b .args .table .now) (b .args .k) (suc (l .j)) (b .pre .0 .0) (omega arith), fewer-starts _ _ _ _ (b .pre .0 .1) (omega arith), (λ j l. b .pre .0 .2 j (omega arith))), l .inv .1)
 
 add-j : tie.Need-add-j Inv-loop μ-loop
 add-j c =

@@ -6,13 +6,16 @@ use lib.ListN.{length, replicate}
 use lib.Seq.{sets}
 use Rattle.base.specs.Limits.{nodeLimit, referenceLimit, wordLimit}
 use Rattle.graph.specs.Look.{reads}
-use Rattle.graph.proofs.Formed.{refs-length}
 use Rattle.reader.specs.Layout.{nodeAt, nodesPlace, nodeCount}
 use Rattle.order.specs.Indices.{indexOrder}
-use Rattle.sums.specs.Position.{placeOf, NodeFit, Accepted}
+use Rattle.reader.specs.Find.{ReadsNode}
+use Rattle.reader.proofs.Passed.{function-holds}
+use Rattle.compiler.specs.Sizes.{addressLimit}
+use Rattle.sums.specs.Position.{placeOf, Accepted}
 use Rattle.sums.specs.Capped.{addsWords}
 use Rattle.compiler.specs.Locating.{Slots, Places}
-use Rattle.sums.proofs.Accepted.{few, fit-below}
+use Rattle.sums.proofs.Accepted.{few, read-below}
+use Rattle.compiler.proofs.References.{count-reads}
 use Rattle.compiler.proofs.Allocating.{Lent, State, start, index-low, node-fits, advance, finished}
 use Rattle.compiler.proofs.allocate.allocate_nodes.Statement.{statement}
 use Rattle.compiler.proofs.allocate.allocate_nodes.Tie as tie
@@ -65,7 +68,7 @@ small : (c : tie.Start Inv-loop μ-loop) → let a = c .args in let n = nodeCoun
 small c =
     let a = c .args in
     let l = few (a .table .now) (suc (a .k)) (c .pre .0 .0) in
-    (c .pre .0 .1, fit-below (a .table .now) (suc (a .k)) (c .pre .0 .0) (a .k) (omega arith) .count, omega arith)
+    (c .pre .0 .1, function-holds (a .table .now) (placeOf (a .table .now) (a .k)) (read-below (a .table .now) (suc (a .k)) (c .pre .0 .0) (a .k) (omega arith)) .few, omega arith)
 
 loop-holds : tie.Need-loop-holds Inv-loop μ-loop
 loop-holds c =
@@ -98,24 +101,23 @@ fits : (c : tie.After-wide32 Inv-loop μ-loop) →
     let a = entry-of-loop l .args in
     let s = a .table .now in
     let p = c .wide32 .result in
-    NodeFit s p × (length (reads (nodeAt s p)) ≤ 16) × (l .before .loop .here + length (reads (nodeAt s p)) ≤ referenceLimit) × (l .before .loop .d + addsWords s (a .k) (nodeAt s p) ≤ wordLimit)
+    ReadsNode s p × (p < addressLimit) × (l .before .loop .here + length (reads (nodeAt s p)) ≤ referenceLimit) × (l .before .loop .d + addsWords s (a .k) (nodeAt s p) ≤ wordLimit)
 fits c =
     let l = loop-of-place c in
     node-fits (lent (entry-of-loop l)) (l .before .loop .inv .1) (more l) (index-of-place c .wide16 .ensures .0) (c .wide32 .ensures .0)
 
 -- its references
 count : (c : tie.After-reads-at Inv-loop μ-loop) → c .reads-at .result .count ≡ length (reads (nodeAt (entry-of-loop (loop-of-place (c .before)) .args .table .now) (c .before .wide32 .result)))
-count c = let r = c .reads-at in sym (ap length (r .ensures .refs) ∙ refs-length (r .result .count) (entry-of-loop (loop-of-place (c .before)) .args .table .now) (r .result .first))
+count c = let r = c .reads-at in count-reads (entry-of-loop (loop-of-place (c .before)) .args .table .now) (c .before .wide32 .result) (r .result) (r .ensures)
 
 allocate-reads-requires : tie.Need-allocate-reads-requires Inv-loop μ-loop
 allocate-reads-requires c κs =
     let r = c .before .before in
     let l = low (index-of-place (r .before)) in
-    let (fit, narrow, room, words) = fits (r .before) in
+    let (read, near, room, words) = fits (r .before) in
     let n = count r in
-    let near = fit .near in
-    let first = r .reads-at .ensures .first in
-    (omega arith, omega arith, omega arith, omega arith)
+    let o = r .reads-at .ensures in
+    (omega arith, o .few, o .fits, omega arith)
 
 allocate-node-requires : tie.Need-allocate-node-requires Inv-loop μ-loop
 allocate-node-requires c κs =
@@ -123,16 +125,16 @@ allocate-node-requires c κs =
     let b = entry-of-loop (loop-of-place (r .before)) in
     let l = low (index-of-place (r .before)) in
     let (e, f, k16) = small b in
-    let (fit, narrow, room, words) = fits (r .before) in
+    let (read, near, room, words) = fits (r .before) in
     let n = count r in (
-      (omega arith, omega arith, fit, b .pre .1 .0 .0, b .pre .1 .0 .1),
-      (((λ j jl. fit-below (b .args .table .now) (suc (b .args .k)) (b .pre .0 .0) j (omega arith)), b .pre .1 .0 .2, omega arith, n), words),
+      (omega arith, omega arith, read, b .pre .1 .0 .0, b .pre .1 .0 .1),
+      ((b .pre .1 .0 .2, omega arith, n), words),
     )
 
 add-here : tie.Need-add-here Inv-loop μ-loop
 add-here c =
     let r = reads-of-node (c .before) in
-    let (fit, narrow, room, words) = fits (r .before) in
+    let (read, near, room, words) = fits (r .before) in
     let n = count r in
     omega arith
 
@@ -153,6 +155,6 @@ pub allocate-nodes-spec : {M : Type 1} → statement M
 allocate-nodes-spec =
     tie.close
     (tie.spec Inv-loop μ-loop loop-holds (λ c. let (m, k) = slot c in omega arith) (λ c. let (m, k) = slot c in omega arith) (λ c κs. search needs) (λ c. let l = low c in omega arith) (λ c. let l = low c in omega arith)
-    (λ c κs. search needs) (λ c. let h = fits c .0 .near in omega arith) (λ c. let (m, k) = slot (loop-of-place c) in omega arith) (λ c. let (m, k) = slot (loop-of-place c) in omega arith)
+    (λ c κs. search needs) (λ c. let l = fits c .1 in omega arith) (λ c. let (m, k) = slot (loop-of-place c) in omega arith) (λ c. let (m, k) = slot (loop-of-place c) in omega arith)
     (λ c. let (m, k) = slot (loop-of-place c) in omega arith) (λ c. let (m, k) = slot (loop-of-place c) in omega arith) (λ c κs. fits c .0) allocate-reads-requires
     allocate-node-requires add-here (λ c. let (m, k) = slot (loop-of-place (reads-of-node (c .before) .before)) in omega arith) (λ c. search needs) loop-again returns)

@@ -10,7 +10,7 @@ use Rattle.compiler.proofs.allocate.allocate_reads.Tie as tie
 
 abbrev Inv-loop : tie.InvT-loop
 Inv-loop table targets allocated i first n locations₀ cell q₀ j₀ locations q j =
-    (j ≤ n) × (q ≤ first + 3 * j) × Run (readCodes table targets allocated (16 * i) n first) locations₀ cell locations (cell + j) (readCodes table targets allocated (16 * i + j) (n - j) q)
+    (j ≤ n) × (q ≡ first + 3 * j) × Run (readCodes table targets allocated (16 * i) n first) locations₀ cell locations (cell + j) (readCodes table targets allocated (16 * i + j) (n - j) q)
 
 abbrev μ-loop : tie.MeasureT-loop
 μ-loop table targets allocated i first n locations₀ cell q₀ j₀ locations q j = n - j
@@ -41,7 +41,7 @@ loop-again c =
     let l = d .before .loop in
     let e =
     c .location-of .ensures ∙ ap (λ (v : ℕ). portCode (a .allocated .now) v (c .before .wide .result)) (v .wide16 .ensures .0)
-    ∙ ap (portCode (a .allocated .now) (getD (a .targets .now) (16 * a .i + l .j) 0)) (c .before .wide .ensures .0 ∙ c .before .before .padded-byte .ensures) in
+    ∙ ap (portCode (a .allocated .now) (getD (a .targets .now) (16 * a .i + l .j) 0)) (c .before .wide .ensures .0) in
     (omega arith, omega arith, run-step (l .inv .2) (reads-next (a .table .now) (a .targets .now) (a .allocated .now) (16 * a .i) (l .q) (d .loop-test .taken) e) (omega arith))
 
 returns : tie.Need-returns Inv-loop μ-loop
@@ -55,5 +55,5 @@ pub allocate-reads-spec : {M : Type 1} → statement M
 allocate-reads-spec =
     tie.close
     (tie.spec Inv-loop μ-loop loop-holds (λ c. search needs) (λ c. search needs) (λ c. search needs) (λ c. search needs)
-    (λ c κs. search needs) (λ c. search needs) (λ c κs. search needs) (λ c κs. search needs) (λ c κs. search needs) (λ c. search needs)
+    (λ c κs. search needs) (λ c. search needs) (λ c. search needs) (λ c κs. search needs) (λ c κs. search needs) (λ c. search needs)
     (λ c. search needs) (λ c. search needs) (λ c. search needs) (λ c. search needs) (λ c. search needs) loop-again returns)

@@ -14,10 +14,10 @@ use Rattle.compiler.proofs.allocate.target.Tie as tie
 
 -- ---- places: from one back to another
 
-abbrev entry-of-id : tie.After-padded-u16 → tie.Start
+abbrev entry-of-id : tie.After-u16-at → tie.Start
 entry-of-id c = c .before .before
 
-abbrev id-of-search : tie.After-find-node → tie.After-padded-u16
+abbrev id-of-search : tie.After-find-node → tie.After-u16-at
 id-of-search c = c .before .before
 
 abbrev search-of-found : tie.After-known-told → tie.After-find-node
@@ -27,21 +27,21 @@ abbrev entry-of-found : tie.After-known-told → tie.Start
 entry-of-found c = entry-of-id (id-of-search (search-of-found c))
 
 returns : tie.Need-returns
-returns c = let a = entry-of-id (c .before) .args in rw (eq-eqb (u16 (a .table .now) (a .q)) 0 (sym (c .before .padded-u16 .ensures .0) ∙ c .if1 .taken))
+returns c = let a = entry-of-id (c .before) .args in rw (eq-eqb (u16 (a .table .now) (a .q)) 0 (sym (c .before .u16-at .ensures .0) ∙ c .if1 .taken))
 
 -- the reference names a node
 named : (c : tie.After-find-node) → let a = entry-of-id (id-of-search c) .args in u16 (a .table .now) (a .q) ≡ 0 → ⊥
-named c z = c .before .if1 .left (id-of-search c .padded-u16 .ensures .0 ∙ z)
+named c z = c .before .if1 .left (id-of-search c .u16-at .ensures .0 ∙ z)
 
 -- what was found
 index : (c : tie.After-known-told) →
     let a = entry-of-found c .args in
-    let i = indexOf (id-of-search (search-of-found c) .padded-u16 .result) (nodesAt (a .n) (a .table .now) (a .at)) in
+    let i = indexOf (id-of-search (search-of-found c) .u16-at .result) (nodesAt (a .n) (a .table .now) (a .at)) in
     (c .before .found .given .0 .0 ≡ i) × (i < length (nodesAt (a .n) (a .table .now) (a .at)))
 index c =
     let a = entry-of-found c .args in
     let s = search-of-found c in
-    found-index (id-of-search s .padded-u16 .result) (nodesAt (a .n) (a .table .now) (a .at)) (c .before .found .given .0 .0) _ (sym (c .before .found .given .1) ∙ s .find-node .ensures)
+    found-index (id-of-search s .u16-at .result) (nodesAt (a .n) (a .table .now) (a .at)) (c .before .found .given .0 .0) _ (sym (c .before .found .given .1) ∙ s .find-node .ensures)
 
 cast-result : tie.Need-cast-result
 cast-result c =
@@ -55,7 +55,7 @@ returns-2 : tie.Need-returns-2
 returns-2 c =
     let s = search-of-found c in
     let a = entry-of-found c .args in
-    rw (ne-eqb (u16 (a .table .now) (a .q)) 0 (named s)) (index c .0 ∙ ap (λ (i : ℕ). indexOf i (nodesAt (a .n) (a .table .now) (a .at))) (id-of-search s .padded-u16 .ensures .0))
+    rw (ne-eqb (u16 (a .table .now) (a .q)) 0 (named s)) (index c .0 ∙ ap (λ (i : ℕ). indexOf i (nodesAt (a .n) (a .table .now) (a .at))) (id-of-search s .u16-at .ensures .0))
 
 returns-3 : tie.Need-returns-3
 returns-3 c =
@@ -63,8 +63,8 @@ returns-3 c =
     let i = id-of-search s in
     let a = entry-of-id i .args in
     let ns = nodesAt (a .n) (a .table .now) (a .at) in
-    let x = none-index (i .padded-u16 .result) ns (sym (c .enum-told .given .1) ∙ s .find-node .ensures) in
-    rw (ne-eqb (u16 (a .table .now) (a .q)) 0 (named s)) (sym (ap (λ (i : ℕ). indexOf i ns) (sym (i .padded-u16 .ensures .0)) ∙ x ∙ length-nodes (a .n) (a .table .now) (a .at)))
+    let x = none-index (i .u16-at .result) ns (sym (c .enum-told .given .1) ∙ s .find-node .ensures) in
+    rw (ne-eqb (u16 (a .table .now) (a .q)) 0 (named s)) (sym (ap (λ (i : ℕ). indexOf i ns) (sym (i .u16-at .ensures .0)) ∙ x ∙ length-nodes (a .n) (a .table .now) (a .at)))
 
 pub target-spec : {M : Type 1} → statement M
 target-spec =

@@ -3,7 +3,6 @@ use Prim.Native.Nat.{ℕ, _+_, _-_, _*_, _≤_}
 use mathlib.Core.Path.{_≡_, refl, sym, ap, _∙_}
 use mathlib.Core.List.{_∷_}
 use native.Mathlib.Omega.{arith}
-use Rattle.ports.specs.Ports.{width}
 use Rattle.bytecode.specs.Run.{places}
 use Rattle.sums.specs.Answers.{typesBy}
 use Rattle.compiler.proofs.Filling.{Run, run-start, run-step, run-done, none-left, types-next}
@@ -12,7 +11,7 @@ use Rattle.compiler.proofs.assemble.input_places.Tie as tie
 
 abbrev Inv-loop : tie.InvT-loop
 Inv-loop table at n ins₀ q₀ w₀ j₀ ins q w j =
-    (j ≤ n) × (q ≤ at + 4 * j) × (w ≤ 16 * j) × Run (places 0 (typesBy 1 n table at)) ins₀ 0 ins j (places w (typesBy 1 (n - j) table q))
+    (j ≤ n) × (q ≡ at + j) × (w ≤ 16 * j) × Run (places 0 (typesBy 1 n table at)) ins₀ 0 ins j (places w (typesBy 1 (n - j) table q))
 
 abbrev μ-loop : tie.MeasureT-loop
 μ-loop table at n ins₀ q₀ w₀ j₀ ins q w j = n - j
@@ -32,7 +31,7 @@ loop-again c =
     let a = d .before .before .before .args in
     let l = d .before .loop in
     let s = a .table .now in
-    let y = c .width .ensures .0 ∙ ap width (c .before .padded-byte .ensures) in
+    let y = c .width .ensures .0 in
     let b = c .width .ensures .1 in (
       omega arith,
       omega arith,
@@ -49,5 +48,5 @@ returns c =
 pub input-places-spec : {M : Type 1} → statement M
 input-places-spec =
     tie.close
-    (tie.spec Inv-loop μ-loop loop-holds (λ c. search needs) (λ c. search needs) (λ c. search needs) (λ c κs. search needs)
+    (tie.spec Inv-loop μ-loop loop-holds (λ c. search needs) (λ c. search needs) (λ c. search needs) (λ c. search needs)
     (λ c κs. search needs) (λ c. search needs) (λ c. search needs) (λ c. search needs) (λ c. search needs) loop-again returns)

@@ -44,7 +44,7 @@ addressed : (c : tie.After-wide162 Inv-loop μ-loop) →
 addressed c = let a = entry-of-head (loop-of-address c .before) .args in c .wide162 .ensures .0 ∙ c .before .address .ensures ∙ ap (addressOf (a .ins .now) (a .first)) (c .before .before .wide16 .ensures .0)
 
 wide : (c : tie.After-width Inv-loop μ-loop) → let l = loop-of-width c .before in c .width .result ≡ width (byte (entry-of-head l .args .table .now) (l .loop .q))
-wide c = c .width .ensures .0 ∙ ap width (c .before .padded-byte .ensures)
+wide c = c .width .ensures .0
 
 -- there is room for the words at hand
 room : (c : tie.After-width Inv-loop μ-loop) →
@@ -71,12 +71,20 @@ put-span-requires c κs =
     let w = c .before .width .ensures .1 in
     (omega arith, omega arith)
 
+read-width : tie.Need-shared-slice-read-width Inv-loop μ-loop
+read-width c =
+    let d = loop-of-address (c .before) in
+    let x = d .before .loop .inv .place in
+    let e = entry-of-head (d .before) .pre .0 .0 in
+    let t = d .loop-test .taken in
+    omega arith
+
 add-q : tie.Need-add-q Inv-loop μ-loop
 add-q c =
     let d = loop-of-width (put-of-end c .before) in
-    let x = d .before .loop .inv .near in
+    let x = d .before .loop .inv .place in
     let e = entry-of-head (d .before) .pre .0 .0 in
-    let (j, k) = output d in
+    let t = d .loop-test .taken in
     omega arith
 
 loop-again : tie.Need-loop-again Inv-loop μ-loop
@@ -89,6 +97,6 @@ pub put-outputs-spec : {M : Type 1} → statement M
 put-outputs-spec =
     tie.close
     (tie.spec Inv-loop μ-loop (λ c. out-start _ _ _ _ _ _ _ _ _) (λ c. search needs) (λ c. let (j, k) = output c in omega arith) (λ c. search needs) (λ c. let (j, k) = output c in omega arith) (λ c κs. search needs)
-    (λ c κs. (entry-of-head (loop-of-location c .before) .pre .0 .3, c .wide16 .ensures .1)) (λ c κs. search needs) (λ c κs. search needs) (λ c κs. search needs) put-span-requires (λ c. search needs)
+    (λ c κs. (entry-of-head (loop-of-location c .before) .pre .0 .3, c .wide16 .ensures .1)) (λ c κs. search needs) read-width (λ c κs. search needs) put-span-requires (λ c. search needs)
     (λ c. let (x, y) = room (put-of-end c .before) in omega arith) add-q (λ c. let (j, k) = output (loop-of-width (put-of-end c .before)) in omega arith) (λ c. search needs) loop-again
     (λ c. c .before .loop .inv .run .same) (λ c. out-done (c .before .loop .inv) (c .loop-test .left)))
