@@ -6,7 +6,7 @@ use mathlib.Core.List.{List}
 use lib.Dec.{leb}
 use lib.ListN.{length}
 use Rattle.base.specs.Limits.{operationLimit, wordLimit, withinLimits}
-use Rattle.base.specs.Outcome.{Outcome, ok, fault, orElse}
+use Rattle.base.specs.Outcome.{Outcome, ok, fault, _>>=_, orElse}
 use Rattle.ports.specs.Ports.{widths}
 use Rattle.graph.specs.Types.{outputTypes}
 use Rattle.graph.specs.Judge.{table}

@@ -10,7 +10,7 @@ use Rattle.base.specs.Bytes.{Bytes}
 use Rattle.base.specs.Lists.{every}
 use Rattle.value.specs.Values.{argumentWord}
 use Rattle.quetlapin.specs.Measures.{chosenAt, ReadyAt, Readies}
-use Rattle.quetlapin.proofs.Compiling.{code-is}
+use Rattle.quetlapin.proofs.Compiling.{code-is, measured as measures}
 use Rattle.quetlapin.proofs.Evaluating.{Sized, sized, refused-table, refused-17, refused-19, refused-20, refused-work, refused-out, completed}
 use Rattle.quetlapin.proofs.evaluate.Statement.{statement}
 use Rattle.quetlapin.proofs.evaluate.Tie as tie
