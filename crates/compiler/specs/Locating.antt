@@ -1,5 +1,5 @@
 -- What the layout fills in: the numbers of locations, by what its arrays hold.
-use Prim.Native.Nat.{ℕ, zero, suc, _+_, _*_, _%_, _≤_, _<_, min}
+use Prim.Native.Nat.{ℕ, zero, suc, _+_, _*_, _%_, _≤_, _<_}
 use mathlib.Core.Path.{_≡_}
 use mathlib.Core.Bool.{cond}
 use mathlib.Core.List.{List, [], _∷_}
@@ -9,21 +9,18 @@ use lib.ListN.{length, getD, getElem?}
 use Rattle.compiler.specs.Sizes.{addressLimit, orderLimit, outputLimit}
 use Rattle.base.specs.Limits.{functionLimit, nodeLimit, operandLimit, portLimit, referenceLimit, slotLimit, wordLimit}
 use Rattle.ports.specs.Ports.{width, own, portsOf, formOf, calling}
-use Rattle.base.specs.Outcome.{ok}
-use Rattle.base.specs.Bytes.{Bytes, byte, u16}
+use Rattle.base.specs.Bytes.{byte, u16}
 use Rattle.graph.specs.Graph.{Node}
-use Rattle.graph.specs.Judge.{table}
 use Rattle.graph.specs.Look.{reads}
 use Rattle.graph.specs.Read.{reference}
 use Rattle.graph.specs.Schedule.{schedule}
-use Rattle.graph.specs.Sound.{AllSound}
 use Rattle.graph.specs.Sums.{sum}
-use Rattle.reader.specs.Layout.{kindAt, nodeAt, nodesAt, nodePlace, outputCount}
+use Rattle.reader.specs.Layout.{kindAt, nodesAt, nodePlace, outputCount}
 use Rattle.order.specs.Indices.{slot}
 use Rattle.order.specs.Resolve.{target}
 use Rattle.compiler.specs.Static.{Location, nowhere, input, offset, Located, locationsOf, summary, allocate}
 use Rattle.sums.specs.Position.{placeOf, functionIn, before, positionOf}
-use Rattle.sums.specs.Capped.{wordCap, wordsAt}
+use Rattle.sums.specs.Capped.{wordsAt}
 use Rattle.compiler.specs.Emit.{locationTable, Placed, summaryAt, AllAllocated}
 
 -- ---- arrays that are read

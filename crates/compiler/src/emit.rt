@@ -181,8 +181,8 @@ fn emit_node(
             at,
             next,
         ),
-        Payload::Call(callee, read) => {
-            let n = read.count;
+        Payload::Call(callee, reads) => {
+            let n = reads.count;
             let mut args = [0u16; PORT_LIMIT];
             arguments(locations, cell, n, ins, first, &mut args);
             let g = sums::position_of(table, starts, k, callee);

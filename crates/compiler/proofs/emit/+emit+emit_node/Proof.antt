@@ -3,13 +3,12 @@ use mathlib.Core.Path.{_≡_, refl, sym, ap, _∙_, subst}
 use borrow.Author.Needs.{needs}
 use native.Mathlib.Omega.{arith}
 use lib.ListN.{length, getD}
-use mathlib.Core.Bool.{true, false}
+use mathlib.Core.Bool.{true}
 use Rattle.ports.specs.Ports.{formOf, calling}
 use Rattle.base.specs.Bytes.{byte, u16}
 use Rattle.graph.specs.Look.{reads}
 use Rattle.reader.specs.Layout.{kindAt, nodeAt}
 use Rattle.reader.proofs.Passed.{callee-fits, function-fits}
-use Rattle.reader.proofs.AsRead.{calling-call}
 use Rattle.lowering.specs.Compile.{Inlined}
 use Rattle.compiler.specs.Emit.{Room, Emits, nodeInlined, functionInlined}
 use Rattle.sums.specs.Position.{placeOf}
