@@ -49,9 +49,21 @@ instructionLimit = 2 + 2 * operandLimit + 8 * valueLimit
 abbrev pub codeLimit : ℕ
 codeLimit = operationLimit * instructionLimit
 
+-- the bytes of a code's header
+abbrev pub headerLength : ℕ
+headerLength = 12
+
+-- addresses in a code take 16 bits
+abbrev pub addressLimit : ℕ
+addressLimit = 65536
+
+-- a table's length field takes 16 bits
+abbrev pub tableLimit : ℕ
+tableLimit = 65536
+
 -- references of a table's nodes
 abbrev pub referenceLimit : ℕ
-referenceLimit = 65536 * operandLimit / (4 + 3 * operandLimit) + 1
+referenceLimit = tableLimit * operandLimit / (4 + 3 * operandLimit) + 1
 
 -- words of all inputs, and of all outputs
 abbrev pub portWordLimit : ℕ

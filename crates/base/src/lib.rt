@@ -31,8 +31,14 @@ pub const VALUE_LIMIT: usize = 16;
 pub const INSTRUCTION_LIMIT: usize = 2 + 2 * OPERAND_LIMIT + 8 * VALUE_LIMIT;
 
 pub const CODE_LIMIT: usize = OPERATION_LIMIT * INSTRUCTION_LIMIT;
-// References of a table's nodes: they are densest in nodes with the most operands, 16 in 52 of less than 65,536 bytes.
-pub const REFERENCE_LIMIT: usize = 65536 * OPERAND_LIMIT / (4 + 3 * OPERAND_LIMIT) + 1;
+// The bytes of a code's header.
+pub const HEADER_LENGTH: usize = 12;
+// Addresses in a code take 16 bits.
+pub const ADDRESS_LIMIT: usize = 65536;
+// A table's length field takes 16 bits.
+pub const TABLE_LIMIT: usize = 65536;
+// References of a table's nodes: they are densest in nodes with the most operands, 16 in 52 bytes.
+pub const REFERENCE_LIMIT: usize = TABLE_LIMIT * OPERAND_LIMIT / (4 + 3 * OPERAND_LIMIT) + 1;
 // Words of all inputs, and of all outputs.
 pub const PORT_WORD_LIMIT: usize = PORT_LIMIT * VALUE_LIMIT;
 // No node: an index that no node has.
@@ -106,19 +112,6 @@ pub fn u64_at(s: &[u8], at: usize) -> u64
 }
 
 // ---- reading anywhere: 0 past the end
-
-pub fn padded_byte(s: &[u8], at: usize) -> u8
-    ensures { λ r. ⌜ r ≡ byte (now (s .entry)) at ⌝ }
-{
-    if at < s.len() { s[at] } else { 0 }
-}
-
-pub fn padded_u16(s: &[u8], at: usize) -> usize
-    requires { ⌜ at < 2 ^ 32 ⌝ }
-    ensures { λ r. ⌜ (r ≡ u16 (now (s .entry)) at) × (r < 65536) ⌝ }
-{
-    wide(padded_byte(s, at)) + wide(padded_byte(s, at + 1)) * 256
-}
 
 // ---- writing
 

@@ -12,7 +12,7 @@ use Rattle.base.specs.Lists.{every}
 use Rattle.base.specs.Bytes.{byte, u16, constants, bytesOf, allBytes}
 use Rattle.base.specs.Outcome.{Part}
 use Rattle.bytecode.specs.Run.{Instruction, BoardList}
-use Rattle.base.specs.Limits.{portWordLimit, withinLimits}
+use Rattle.base.specs.Limits.{portWordLimit, withinLimits, headerLength}
 
 -- ---- writing
 
@@ -110,11 +110,11 @@ countsFit arguments outputs count words = leb arguments portWordLimit && leb 1 o
 
 abbrev pub readCounts : List ℕ → ℕ → ℕ → ℕ → ℕ → Option BoardList
 readCounts s arguments outputs count words =
-    guard (countsFit arguments outputs count words) (then (readInstructions count s 12 arguments) (readOutputs s arguments outputs words))
+    guard (countsFit arguments outputs count words) (then (readInstructions count s headerLength arguments) (readOutputs s arguments outputs words))
 
 -- mark, version and zero byte
 abbrev pub marked : List ℕ → Bool
 marked s = eqb (byte s 0) 0x49 && eqb (byte s 1) 0x46 && eqb (byte s 2) 0x52 && eqb (u16 s 3) 1 && eqb (byte s 7) 0
 
 unfoldable pub decode : List ℕ → Option BoardList
-decode s = guard (leb 12 (length s)) (guard (marked s) (readCounts s (byte s 5) (byte s 6) (u16 s 8) (u16 s 10)))
+decode s = guard (leb headerLength (length s)) (guard (marked s) (readCounts s (byte s 5) (byte s 6) (u16 s 8) (u16 s 10)))

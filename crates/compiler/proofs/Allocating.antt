@@ -13,8 +13,8 @@ use lib.Dec.{eqb}
 use lib.ListN.{length, getD, set, replicate, getElem?, length-map, length-set, length-replicate}
 use lib.Seq.{sets, length-sets, getD-set-same, getD-set-other}
 use borrow.Author.Tests.{eqb-false}
-use Rattle.compiler.specs.Sizes.{addressLimit, orderLimit, nodePortLimit}
-use Rattle.base.specs.Limits.{nodeLimit, referenceLimit, wordLimit}
+use Rattle.compiler.specs.Sizes.{orderLimit, nodePortLimit}
+use Rattle.base.specs.Limits.{nodeLimit, referenceLimit, wordLimit, addressLimit}
 use Rattle.base.specs.Lists.{Each, member, Is}
 use Rattle.ports.specs.Kinds.{kindOf}
 use Rattle.ports.specs.Ports.{portsOf, formOf, calling}

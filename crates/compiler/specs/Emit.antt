@@ -6,14 +6,13 @@ use mathlib.Core.List.{List, [], _∷_}
 use lib.Dec.{ltb}
 use lib.ListN.{length, getD}
 use lib.Seq.{sets}
-use Rattle.base.specs.Limits.{nodeLimit, portLimit, referenceLimit, wordLimit}
+use Rattle.base.specs.Limits.{nodeLimit, portLimit, referenceLimit, wordLimit, addressLimit}
 use Rattle.base.specs.Bytes.{byte}
 use Rattle.graph.specs.Graph.{Ref, Payload, consts, refs, calls, Node}
 use Rattle.graph.specs.Look.{reads}
 use Rattle.graph.specs.Schedule.{schedule}
 use Rattle.reader.specs.Layout.{nodeAt, nodeCount}
 use Rattle.reader.specs.Find.{ReadsNode}
-use Rattle.compiler.specs.Sizes.{addressLimit}
 use Rattle.lowering.specs.Compile.{Inlined, Inline, single, inlineFunction, inlined}
 use Rattle.bytecode.specs.Code.{instructionsCode}
 use Rattle.compiler.specs.declared.Reached.{Reached}

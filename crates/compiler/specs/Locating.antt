@@ -6,8 +6,8 @@ use mathlib.Core.List.{List, [], _∷_}
 use mathlib.Core.Option.{some}
 use lib.Dec.{ltb, leb}
 use lib.ListN.{length, getD, getElem?}
-use Rattle.compiler.specs.Sizes.{addressLimit, orderLimit, outputLimit}
-use Rattle.base.specs.Limits.{functionLimit, nodeLimit, operandLimit, portLimit, referenceLimit, slotLimit, wordLimit}
+use Rattle.compiler.specs.Sizes.{orderLimit, outputLimit}
+use Rattle.base.specs.Limits.{functionLimit, nodeLimit, operandLimit, portLimit, referenceLimit, slotLimit, wordLimit, addressLimit}
 use Rattle.ports.specs.Ports.{width, own, portsOf, formOf, calling}
 use Rattle.base.specs.Bytes.{byte, u16}
 use Rattle.graph.specs.Graph.{Node}

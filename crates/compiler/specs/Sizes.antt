@@ -13,11 +13,3 @@ nodePortLimit = nodeLimit * portLimit
 -- outputs of all functions
 abbrev pub outputLimit : ℕ
 outputLimit = functionLimit * portLimit
-
--- addresses, and the numbers of locations, take 16 bits
-abbrev pub addressLimit : ℕ
-addressLimit = 65536
-
--- the bytes of a code's header
-abbrev pub headerLength : ℕ
-headerLength = 12

@@ -13,6 +13,7 @@ use assemble::input_places;
 use assemble::put_header;
 use assemble::put_outputs;
 use base::FUNCTION_LIMIT;
+use base::HEADER_LENGTH;
 use base::NODE_LIMIT;
 use base::PORT_LIMIT;
 use base::REFERENCE_LIMIT;
@@ -35,11 +36,6 @@ const NODE_PORT_LIMIT: usize = NODE_LIMIT * PORT_LIMIT;
 const OUTPUT_LIMIT: usize = FUNCTION_LIMIT * PORT_LIMIT;
 
 // ---- numbers of a code; `specs/Sizes.antt` has the same
-
-// Addresses, and the numbers of locations, take 16 bits.
-const ADDRESS_LIMIT: usize = 65536;
-// The bytes of a code's header.
-const HEADER_LENGTH: usize = 12;
 
 // ---- what functions answer
 

@@ -3,9 +3,11 @@
 ghost use mathlib.Core.Path.{_≡_};
 ghost use Prim.Native.Nat.{_+_};
 ghost use Rattle.base.specs.Bytes.{byte};
+ghost use Rattle.base.specs.Limits.{headerLength};
 ghost use Rattle.bytecode.specs.Code.{readInstructions};
 ghost use Rattle.executor.specs.Execution.{Executable, Executed};
 ghost use Rattle.executor.specs.Instructions.{Instructions, afterAll};
+use base::HEADER_LENGTH;
 
 mod dispatch;
 mod operands;
@@ -34,12 +36,12 @@ pub fn execute(code: &[u8], at: usize, result: usize, work: &mut [u64]) -> Exten
     }
 }
 
-// All instructions, from the byte 12 and the word `first` on.
+// All instructions, from behind the header and the word `first` on.
 pub fn execute_all(code: &[u8], count: usize, first: usize, work: &mut [u64])
     requires { ⌜ Instructions (now code) count first (now work) ⌝ }
-    ensures { λ _. ⌜ now (work .exit) ≡ afterAll (readInstructions count (now (code .entry)) 12 first) (now (work .entry)) ⌝ }
+    ensures { λ _. ⌜ now (work .exit) ≡ afterAll (readInstructions count (now (code .entry)) headerLength first) (now (work .entry)) ⌝ }
 {
-    let mut at = 12;
+    let mut at = HEADER_LENGTH;
     let mut result = first;
     let mut left = count;
     while 0 < left {

@@ -5,6 +5,7 @@ ghost use Prim.Native.Nat.{_+_, _*_, _≤_, _<_};
 ghost use lib.ListN.{length, replicate};
 ghost use lib.Seq.{sets};
 ghost use Rattle.ports.specs.Ports.{types};
+ghost use Rattle.base.specs.Limits.{headerLength};
 ghost use Rattle.base.specs.Lists.{wordAt, every};
 ghost use Rattle.value.specs.Values.{argumentWord};
 ghost use Rattle.bytecode.specs.Code as Code;
@@ -12,6 +13,7 @@ ghost use Rattle.bytecode.specs.Code.{addresses, allBelow, allLess, readInstruc
 ghost use Rattle.bytecode.specs.Answers.{ran};
 ghost use Rattle.runner.specs.Checks.{passedOf, endedOf, checkedOf, Exactly, Begun, headerCounts};
 ghost use Rattle.runner.specs.Runs.{Answered, Refused18, Runnable, OutputsReady, memoryOf, outputsOf};
+use base::HEADER_LENGTH;
 use ports::Ports;
 
 // The counts that a code says.
@@ -130,13 +132,13 @@ fn check_instruction(s: &[u8], at: usize, result: usize, row: Ports) -> Progress
     })
 }
 
-// All instructions, from the byte 12 and the word `first` on: what stands behind them.
+// All instructions, from behind the header and the word `first` on: what stands behind them.
 fn check_instructions(s: &[u8], count: usize, first: usize) -> Progress
-    requires { ⌜ (12 ≤ length (now s)) × (count ≤ 65535) × (first ≤ 255) ⌝ }
-    ensures { λ r. ⌜ r ≡ endedOf (readInstructions count (now (s .entry)) 12 first) ⌝ }
+    requires { ⌜ (headerLength ≤ length (now s)) × (count ≤ 65535) × (first ≤ 255) ⌝ }
+    ensures { λ r. ⌜ r ≡ endedOf (readInstructions count (now (s .entry)) headerLength first) ⌝ }
 {
     let rows = ports::PORTS;
-    let mut at = 12;
+    let mut at = HEADER_LENGTH;
     let mut result = first;
     let mut left = count;
     while 0 < left {
@@ -160,7 +162,7 @@ fn check_instructions(s: &[u8], count: usize, first: usize) -> Progress
 
 // Mark, version and zero byte.
 fn marked(s: &[u8]) -> bool
-    requires { ⌜ 12 ≤ length (now s) ⌝ }
+    requires { ⌜ headerLength ≤ length (now s) ⌝ }
     ensures { λ r. ⌜ r ≡ Code.marked (now (s .entry)) ⌝ }
 {
     if s[0] != 0x49 {
@@ -179,7 +181,7 @@ fn marked(s: &[u8]) -> bool
 }
 
 fn header_counts(s: &[u8]) -> Counts
-    requires { ⌜ 12 ≤ length (now s) ⌝ }
+    requires { ⌜ headerLength ≤ length (now s) ⌝ }
     ensures { λ r. ⌜ (r ≡ headerCounts (now (s .entry))) × (r .arguments ≤ 255) × (r .outputs ≤ 255) × (r .instructions ≤ 65535) ⌝ }
 {
     let arguments = base::byte_at(s, 5);
@@ -215,7 +217,7 @@ pub fn check_code(s: &[u8]) -> Checked
     ensures { λ r. ⌜ r ≡ checkedOf (decode (now (s .entry))) ⌝ }
     ensures { λ r. ⌜ Exactly (now (s .entry)) r ⌝ }
 {
-    if s.len() < 12 {
+    if s.len() < HEADER_LENGTH {
         return Checked::Malformed;
     }
     if !marked(s) {

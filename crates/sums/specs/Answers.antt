@@ -10,7 +10,7 @@ use Rattle.graph.specs.Graph.{Function}
 use Rattle.graph.specs.Types.{outputTypes}
 use Rattle.graph.specs.Sums.{functionOperations, operationsOf, functionWords}
 use Rattle.lowering.specs.Compile.{boardListOf}
-use Rattle.base.specs.Limits.{portWordLimit, withinLimits}
+use Rattle.base.specs.Limits.{portWordLimit, withinLimits, headerLength}
 use Rattle.bytecode.specs.Code.{encode}
 use Rattle.reader.specs.Layout.{functionAt}
 use Rattle.reader.specs.Find.{ReadsFunction}
@@ -33,7 +33,7 @@ pub record PortWordsAt (s : List ℕ) (p : ℕ) (r : PortWords) : Type 0 where
 
 -- the header, the instructions, and an address for each output word
 unfoldable pub codeLength : ℕ → ℕ → ℕ → ℕ → ℕ
-codeLength operations words bytes outputs = cond (withinLimits operations words) (12 + bytes + 2 * outputs) 0
+codeLength operations words bytes outputs = cond (withinLimits operations words) (headerLength + bytes + 2 * outputs) 0
 
 -- ---- of a function over those before it
 

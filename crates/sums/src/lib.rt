@@ -12,6 +12,7 @@ ghost use Rattle.sums.specs.Capped.{Small, both, capSums, sumsAt, plainS
 ghost use Rattle.sums.specs.Answers.{typesBy, codeLength, PortWordsAt, Measures};
 use base::CODE_LIMIT;
 use base::FUNCTION_LIMIT;
+use base::HEADER_LENGTH;
 use base::OPERATION_LIMIT;
 use base::WORD_LIMIT;
 use base::u16_at;
@@ -288,7 +289,7 @@ fn code_length(operations: usize, words: usize, bytes: usize, outputs: usize) ->
     ensures { λ r. ⌜ r ≡ codeLength operations words bytes outputs ⌝ }
 {
     if within_limits(operations, words) {
-        12 + bytes + 2 * outputs
+        HEADER_LENGTH + bytes + 2 * outputs
     } else {
         0
     }

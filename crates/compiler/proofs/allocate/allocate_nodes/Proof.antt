@@ -4,13 +4,12 @@ use mathlib.Core.Path.{_≡_, subst}
 use native.Mathlib.Omega.{arith}
 use lib.ListN.{length, replicate}
 use lib.Seq.{sets}
-use Rattle.base.specs.Limits.{nodeLimit, referenceLimit, wordLimit}
+use Rattle.base.specs.Limits.{nodeLimit, referenceLimit, wordLimit, addressLimit}
 use Rattle.graph.specs.Look.{reads}
 use Rattle.reader.specs.Layout.{nodeAt, nodesPlace, nodeCount}
 use Rattle.order.specs.Indices.{indexOrder}
 use Rattle.reader.specs.Find.{ReadsNode}
 use Rattle.reader.proofs.Passed.{function-holds}
-use Rattle.compiler.specs.Sizes.{addressLimit}
 use Rattle.sums.specs.Position.{placeOf, Accepted}
 use Rattle.sums.specs.Capped.{addsWords}
 use Rattle.compiler.specs.Locating.{Slots, Places}
