@@ -1,5 +1,5 @@
 -- The reading of a payload and of a node, step by step.
-use Prim.Native.Nat.{ℕ, _+_, _-_, _*_, _≤_, _<_}
+use Prim.Native.Nat.{ℕ, _+_, _*_, _≤_, _<_}
 use mathlib.Core.Path.{_≡_, ap, sym, _∙_}
 use mathlib.Core.Bool.{true, false, _&&_}
 use mathlib.Core.List.{List}
@@ -14,7 +14,7 @@ use Rattle.ports.specs.declared.Ports.{Ports}
 use Rattle.ports.specs.Ports.{portsOf, arity, constantWords, formOf, exists, typeFits, legal}
 use Rattle.value.specs.Values.{valueOf, constantWord}
 use Rattle.base.specs.Lists.{every}
-use Rattle.base.specs.Outcome.{Outcome, ok, fault, _>>=_, _>>_, Part}
+use Rattle.base.specs.Outcome.{Outcome, ok, fault, _>>=_, Part}
 use Rattle.graph.specs.Graph as Graph
 use Rattle.graph.specs.Graph.{consts}
 use Rattle.base.specs.Bytes.{byte, u16, constants}

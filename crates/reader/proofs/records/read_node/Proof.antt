@@ -61,13 +61,13 @@ head : (d : tie.After-known-told) → let a = start-of-known-told d .args in
 head d =
     let a = start-of-known-told d .args in
     let r = d .before .before .before .read-record in
-    ends (a .s .now) (a .at) 4 (r .result) (d .before .begin .given .0 .0) (r .ensures) (d .before .begin .given .1)
+    ends (a .s .now) (a .at) 4 (r .ensures) (d .before .begin .given .1)
 
 returns : tie.Need-returns
 returns c =
     let a = start-of-enum-told c .args in
     let r = c .before .before .read-record in
-    ap nodeRead (sym (node-short (a .s .now) (a .at) (short (a .s .now) (a .at) 4 (r .result) (r .ensures) (c .enum-told .given .1))))
+    ap nodeRead (sym (node-short (a .s .now) (a .at) (short (a .s .now) (a .at) 4 (r .ensures) (c .enum-told .given .1))))
 
 returns-2 : tie.Need-returns-2
 returns-2 c =
