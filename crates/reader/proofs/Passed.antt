@@ -232,19 +232,14 @@ module _ (s : List ℕ) (at : ℕ) where
 
 -- ---- looking up
 
-module _ (s : List ℕ) (id : ℕ) where
-  pub node-hit : (n at i : ℕ) → 0 < n → u16 s at ≡ id → nodeFound i id (nodesAt n s at) ≡ At i at
-  unfolding nodeAt nodesAt
-  node-hit zero at i h e = absurd (not-suc-le-zero h)
-  node-hit (suc n) at i h e = rw (eq-eqb (u16 s at) id e)
+module _ (s : List ℕ) (id at i : ℕ) {left rest : List Node} (l : left ≡ nodeAt s at ∷ rest) where
+  pub node-hit : u16 s at ≡ id → nodeFound i id left ≡ At i at
+  unfolding nodeAt
+  node-hit e = ap (nodeFound i id) l ∙ rw (eq-eqb (u16 s at) id e)
 
-  pub node-miss :
-      (n at i : ℕ) → 0 < n → (u16 s at ≡ id → ⊥) → nodeFound i id (nodesAt n s at) ≡ nodeFound (i + 1) id (nodesAt (n - 1) s (nodeEnd s at))
-  unfolding nodeAt nodesAt
-  node-miss zero at i h e = absurd (not-suc-le-zero h)
-  node-miss (suc n) at i h e =
-      let m : suc n - 1 ≡ n = omega arith in
-      rw (ne-eqb (u16 s at) id e, m)
+  pub node-miss : (u16 s at ≡ id → ⊥) → nodeFound i id left ≡ nodeFound (i + 1) id rest
+  unfolding nodeAt
+  node-miss e = ap (nodeFound i id) l ∙ rw (ne-eqb (u16 s at) id e)
 
 pub length-earlier : (begin : ℕ) (s : List ℕ) (k : ℕ) → length (earlier begin s k) ≡ k
 unfolding earlier
