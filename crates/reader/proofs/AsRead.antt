@@ -21,7 +21,7 @@ use Rattle.reader.specs.Layout.{kindAt, payloadAt, nodeAt}
 use Rattle.reader.specs.Records.{payloadOf, argumentsAt, operandsAt, nodeOf}
 use Rattle.reader.specs.Find.{ReadsNode, ReadsOf}
 use Rattle.reader.proofs.Rows.{operands-few, constant-operands, constant-width}
-use Rattle.reader.proofs.Passed.{head-fits, end-fits, callee-fits, node-legal, form-is, end-constant, end-call, end-references}
+use Rattle.reader.proofs.Passed.{head-fits, end-fits, callee-fits, node-legal, form-is, end-by-form}
 
 -- ---- the payload, by the form
 
@@ -65,7 +65,7 @@ module _ (s : List ℕ) (at : ℕ) where
   pub constant-fits : ReadsNode s at → formOf (kindAt s at) ≡ Forms.Form.Constant → at + 4 + 8 * width (portsOf (kindAt s at) .result) ≤ length s
   constant-fits r q =
       subst (λ (n : ℕ). at + 4 + 8 * n ≤ length s) (constant-width (byte s (at + 2)) q)
-      (subst (λ (n : ℕ). n ≤ length s) (sym (end-constant s at q)) (end-fits s at r))
+      (subst (λ (n : ℕ). n ≤ length s) (sym (end-by-form s at Forms.Form.Constant q)) (end-fits s at r))
 
   -- whether it is a call, by its row
   module _ (row : Ports) (e : row ≡ portsOf (kindAt s at)) where
@@ -91,7 +91,7 @@ module _ (s : List ℕ) (at : ℕ) (r : ReadsNode s at) where
   call-reads c =
       let (a, b) = callee-fits s at r c in
       let f = end-fits s at r in
-      let g = end-call s at (portsOf (kindAt s at)) refl c in
+      let g = end-by-form s at Forms.Form.Call c in
       record {
         refs = ap readsOf (sym (by s at Forms.Form.Call c));
         few = omega (arith, b);
@@ -101,7 +101,7 @@ module _ (s : List ℕ) (at : ℕ) (r : ReadsNode s at) where
   pub operand-reads : formOf (kindAt s at) ≡ Forms.Form.References → (n : ℕ) → n ≡ arity (kindAt s at) → ReadsOf s at (operandsAt at n)
   operand-reads w n q =
       let b = operands-few (byte s (at + 2)) in
-      let c = end-references s at (portsOf (kindAt s at)) refl w in
+      let c = end-by-form s at Forms.Form.References w in
       let f = end-fits s at r in
       record {
         refs = ap readsOf (sym (by s at Forms.Form.References w)) ∙ ap (λ (k : ℕ). references k s (at + 4)) (sym q);

@@ -6,3 +6,4 @@ pub mod Functions
 pub mod Standing
 pub mod Passed
 pub mod AsRead
+pub mod Walking

@@ -2,6 +2,7 @@
 use Prim.Native.Nat.{ℕ, zero, suc, _+_, _-_, _*_, _≤_, _<_}
 use mathlib.Core.Path.{_≡_, refl, ap, sym, _∙_, subst}
 use mathlib.Core.Bool.{Bool, true, false, _&&_, cond}
+use mathlib.Core.Logic.{⊎-elim}
 use mathlib.Core.Option.{none, some}
 use mathlib.Core.List.{List, [], _∷_}
 use native.Mathlib.Omega.{arith}
@@ -9,7 +10,7 @@ use native.Mathlib.Nat.{not-suc-le-zero}
 use native.Mathlib.Numerals.{add-one}
 use lib.Dec.{leb, eqb}
 use lib.ListN.{length, getD, List·getD-map}
-use borrow.Author.Tests.{leb-true, leb-false, eq-eqb, ne-eqb}
+use borrow.Author.Tests.{leb-true, eq-eqb, ne-eqb}
 use Rattle.base.specs.Limits.{kindLimit}
 use Rattle.ports.specs.declared.Form.{Form}
 use Rattle.ports.specs.declared.Form.the-variants.{Absent, Constant, References, Call}
@@ -23,6 +24,7 @@ use Rattle.graph.specs.Graph.{Payload, Node, Output}
 use Rattle.graph.specs.Look.{findNode, findFunction}
 use Rattle.graph.specs.Read.{inputs, outputs, payload, nodes}
 use Rattle.base.proofs.Bools.{and-inv}
+use Rattle.base.proofs.Numbers.{lt-or-le}
 use Rattle.base.proofs.Outcomes.{took, passed}
 use Rattle.reader.specs.Layout.{kindAt, payloadEnd, nodeAt, nodeEnd, nodesAt, nodePlace, inputCount, nodeCount, nodesPlace, functionAt, functionPlace, earlier}
 use Rattle.reader.specs.Sizes.{sizeBy, nodeSize, nodeSizes, operandCounts}
@@ -52,33 +54,6 @@ call-fits Call k s at p e q =
     let (f, e2) = passed _ _ _ _ _ e1 in
     (leb-true _ _ t, leb-true _ _ f)
 
-module _ (s : List ℕ) (at : ℕ) where
-  pub head-fits : ReadsNode s at → at + 4 ≤ length s
-  head-fits (x, e) = let (t, e1) = passed _ _ _ _ _ e in leb-true _ _ t
-
-  pub end-fits : ReadsNode s at → nodeEnd s at ≤ length s
-  unfolding nodeEnd
-  end-fits (x, e) =
-      let (t, e1) = passed _ _ _ _ _ e in
-      let (u, e2) = passed _ _ _ _ _ e1 in
-      let (p, ep, e3) = took _ _ _ e2 in
-      payload-fits (formOf (kindAt s at)) (kindAt s at) s (at + 4) p ep
-
-  pub callee-fits : ReadsNode s at → formOf (kindAt s at) ≡ Call → (at + 4 + 3 ≤ length s) × (byte s (at + 4 + 2) ≤ 8)
-  callee-fits (x, e) q =
-      let (t, e1) = passed _ _ _ _ _ e in
-      let (u, e2) = passed _ _ _ _ _ e1 in
-      let (p, ep, e3) = took _ _ _ e2 in
-      call-fits (formOf (kindAt s at)) (kindAt s at) s (at + 4) p ep q
-
-  -- its kind is one of the port list, and its id is not 0
-  pub node-legal : ReadsNode s at → (1 ≤ u16 s at) × (legal (kindAt s at) (byte s (at + 3)) ≡ true)
-  node-legal (x, e) =
-      let (t, e1) = passed _ _ _ _ _ e in
-      let (u, e2) = passed _ _ _ _ _ e1 in
-      let (i, l) = and-inv (leb 1 (u16 s at)) (legal (kindAt s at) (byte s (at + 3))) u in
-      (leb-true _ _ i, l)
-
 illegal : (k t : ℕ) → legal (kindOf k) t ≡ true → kindLimit ≤ k → ⊥
 illegal k t l h =
     let e : portsOf (kindOf k) ≡ absent = no-kind k h in
@@ -87,29 +62,40 @@ illegal k t l h =
     let z : _≡_ {A = ℕ} 0 1 = cc in
     omega arith
 
-pub kind-below : (s : List ℕ) (at : ℕ) → ReadsNode s at → byte s (at + 2) < kindLimit
-kind-below s at r = let f : kindLimit ≤ byte s (at + 2) → ⊥ = illegal (byte s (at + 2)) (byte s (at + 3)) (node-legal s at r .1) in pickOne (leb kindLimit (byte s (at + 2))) refl f
-  where
-    pickOne : (b : Bool) → leb kindLimit (byte s (at + 2)) ≡ b → (kindLimit ≤ byte s (at + 2) → ⊥) → byte s (at + 2) < kindLimit
-    pickOne true q f = absurd (f (leb-true _ _ q))
-    pickOne false q f = leb-false _ _ q
+module _ (s : List ℕ) (at : ℕ) where
+  -- the tests that a node's reading passes
+  inside : ReadsNode s at → (leb (at + 4) (length s) ≡ true) × (leb 1 (u16 s at) && legal (kindAt s at) (byte s (at + 3)) ≡ true)
+      × ((p : Part Payload) × (payload (formOf (kindAt s at)) (kindAt s at) s (at + 4) ≡ ok p))
+  inside (x, e) =
+      let (t, e1) = passed _ _ _ _ _ e in
+      let (u, e2) = passed _ _ _ _ _ e1 in
+      let (p, ep, e3) = took _ _ _ e2 in
+      (t, u, (p, ep))
 
--- where it ends, by the size of its kind
-same-form : (s : List ℕ) (at : ℕ) (h : Form) → formOf (kindAt s at) ≡ h → payloadEnd h (kindAt s at) s (at + 4) ≡ nodeEnd s at
+  pub head-fits : ReadsNode s at → at + 4 ≤ length s
+  head-fits r = leb-true _ _ (inside r .0)
+
+  pub end-fits : ReadsNode s at → nodeEnd s at ≤ length s
+  unfolding nodeEnd
+  end-fits r = let (p, ep) = inside r .2 in payload-fits (formOf (kindAt s at)) (kindAt s at) s (at + 4) p ep
+
+  pub callee-fits : ReadsNode s at → formOf (kindAt s at) ≡ Call → (at + 4 + 3 ≤ length s) × (byte s (at + 4 + 2) ≤ 8)
+  callee-fits r q = let (p, ep) = inside r .2 in call-fits (formOf (kindAt s at)) (kindAt s at) s (at + 4) p ep q
+
+  -- its kind is one of the port list, and its id is not 0
+  pub node-legal : ReadsNode s at → (1 ≤ u16 s at) × (legal (kindAt s at) (byte s (at + 3)) ≡ true)
+  node-legal r = let (i, l) = and-inv (leb 1 (u16 s at)) (legal (kindAt s at) (byte s (at + 3))) (inside r .1) in (leb-true _ _ i, l)
+
+  pub kind-below : ReadsNode s at → byte s (at + 2) < kindLimit
+  kind-below r = ⊎-elim (λ l. l) (λ h. absurd (illegal (byte s (at + 2)) (byte s (at + 3)) (node-legal r .1) h)) (lt-or-le (byte s (at + 2)) kindLimit)
+
+-- where it ends, by the form of its kind
+pub end-by-form : (s : List ℕ) (at : ℕ) (h : Form) → formOf (kindAt s at) ≡ h → payloadEnd h (kindAt s at) s (at + 4) ≡ nodeEnd s at
 unfolding nodeEnd
-same-form s at h q = ap (λ (f : Form). payloadEnd f (kindAt s at) s (at + 4)) (sym q)
+end-by-form s at h q = ap (λ (f : Form). payloadEnd f (kindAt s at) s (at + 4)) (sym q)
 
 pub form-is : (s : List ℕ) (at : ℕ) (row : Ports) → row ≡ portsOf (kindAt s at) → (h : Form) → row .form ≡ h → formOf (kindAt s at) ≡ h
 form-is s at row e h q = ap (λ (r : Ports). r .form) (sym e) ∙ q
-
-pub end-references : (s : List ℕ) (at : ℕ) (row : Ports) → row ≡ portsOf (kindAt s at) → row .form ≡ References → at + 4 + 3 * row .operands ≡ nodeEnd s at
-end-references s at row e q = ap (λ (r : Ports). at + 4 + 3 * r .operands) e ∙ same-form s at References (form-is s at row e References q)
-
-pub end-constant : (s : List ℕ) (at : ℕ) → formOf (kindAt s at) ≡ Constant → at + 4 + 8 * constantWords (kindAt s at) ≡ nodeEnd s at
-end-constant s at q = same-form s at Constant q
-
-pub end-call : (s : List ℕ) (at : ℕ) (row : Ports) → row ≡ portsOf (kindAt s at) → row .form ≡ Call → at + 4 + 3 + 3 * byte s (at + 4 + 2) ≡ nodeEnd s at
-end-call s at row e q = same-form s at Call (form-is s at row e Call q)
 
 module _ (s : List ℕ) (at n : ℕ) (e : n ≡ nodeSize (portsOf (kindAt s at))) where
   -- a call
@@ -126,20 +112,20 @@ module _ (s : List ℕ) (at n : ℕ) (e : n ≡ nodeSize (portsOf (kindAt s at))
   call-zero q = e ∙ ap (λ (h : Form). sizeBy h (portsOf (kindAt s at))) q
 
   pub end-zero : n ≡ 0 → at + 4 + 3 + 3 * byte s (at + 4 + 2) ≡ nodeEnd s at
-  end-zero z = same-form s at Call (zero-call z)
+  end-zero z = end-by-form s at Call (zero-call z)
 
   -- the others
   pub end-size : (n ≡ 0 → ⊥) → at + n ≡ nodeEnd s at
   end-size d = pickOne (formOf (kindAt s at)) refl e
     where
       pickOne : (h : Form) → formOf (kindAt s at) ≡ h → n ≡ sizeBy h (portsOf (kindAt s at)) → at + n ≡ nodeEnd s at
-      pickOne Absent q w = let a = same-form s at Absent q in omega (arith, a, w)
+      pickOne Absent q w = let a = end-by-form s at Absent q in omega (arith, a, w)
       pickOne Constant q w =
           let c : constantWords (kindAt s at) ≡ portsOf (kindAt s at) .words = ap (λ (f : Form). constantIn f (portsOf (kindAt s at) .words)) q in
-          let a : at + 4 + 8 * constantWords (kindAt s at) ≡ nodeEnd s at = same-form s at Constant q in
+          let a : at + 4 + 8 * constantWords (kindAt s at) ≡ nodeEnd s at = end-by-form s at Constant q in
           omega (arith, a, w, c)
       pickOne References q w =
-          let a : at + 4 + 3 * arity (kindAt s at) ≡ nodeEnd s at = same-form s at References q in
+          let a : at + 4 + 3 * arity (kindAt s at) ≡ nodeEnd s at = end-by-form s at References q in
           omega (arith, a, w)
       pickOne Call q w = absurd (d w)
 
@@ -232,19 +218,14 @@ module _ (s : List ℕ) (at : ℕ) where
 
 -- ---- looking up
 
-module _ (s : List ℕ) (id : ℕ) where
-  pub node-hit : (n at i : ℕ) → 0 < n → u16 s at ≡ id → nodeFound i id (nodesAt n s at) ≡ At i at
-  unfolding nodeAt nodesAt
-  node-hit zero at i h e = absurd (not-suc-le-zero h)
-  node-hit (suc n) at i h e = rw (eq-eqb (u16 s at) id e)
+module _ (s : List ℕ) (id at i : ℕ) {left rest : List Node} (l : left ≡ nodeAt s at ∷ rest) where
+  pub node-hit : u16 s at ≡ id → nodeFound i id left ≡ At i at
+  unfolding nodeAt
+  node-hit e = ap (nodeFound i id) l ∙ rw (eq-eqb (u16 s at) id e)
 
-  pub node-miss :
-      (n at i : ℕ) → 0 < n → (u16 s at ≡ id → ⊥) → nodeFound i id (nodesAt n s at) ≡ nodeFound (i + 1) id (nodesAt (n - 1) s (nodeEnd s at))
-  unfolding nodeAt nodesAt
-  node-miss zero at i h e = absurd (not-suc-le-zero h)
-  node-miss (suc n) at i h e =
-      let m : suc n - 1 ≡ n = omega arith in
-      rw (ne-eqb (u16 s at) id e, m)
+  pub node-miss : (u16 s at ≡ id → ⊥) → nodeFound i id left ≡ nodeFound (i + 1) id rest
+  unfolding nodeAt
+  node-miss e = ap (nodeFound i id) l ∙ rw (ne-eqb (u16 s at) id e)
 
 pub length-earlier : (begin : ℕ) (s : List ℕ) (k : ℕ) → length (earlier begin s k) ≡ k
 unfolding earlier

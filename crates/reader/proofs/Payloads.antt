@@ -1,7 +1,7 @@
 -- The reading of a payload and of a node, step by step.
-use Prim.Native.Nat.{ℕ, _+_, _-_, _*_, _≤_, _<_}
-use mathlib.Core.Path.{_≡_, ap, sym, _∙_}
-use mathlib.Core.Bool.{true, false, _&&_}
+use Prim.Native.Nat.{ℕ, _+_, _*_, _≤_, _<_}
+use mathlib.Core.Path.{_≡_, refl, ap, sym, _∙_}
+use mathlib.Core.Bool.{Bool, true, false, _&&_}
 use mathlib.Core.List.{List}
 use native.Mathlib.Omega.{arith}
 use lib.Dec.{leb}
@@ -14,15 +14,15 @@ use Rattle.ports.specs.declared.Ports.{Ports}
 use Rattle.ports.specs.Ports.{portsOf, arity, constantWords, formOf, exists, typeFits, legal}
 use Rattle.value.specs.Values.{valueOf, constantWord}
 use Rattle.base.specs.Lists.{every}
-use Rattle.base.specs.Outcome.{Outcome, ok, fault, _>>=_, _>>_, Part}
+use Rattle.base.specs.Outcome.{Outcome, ok, fault, _>>=_, Part}
 use Rattle.graph.specs.Graph as Graph
 use Rattle.graph.specs.Graph.{consts}
 use Rattle.base.specs.Bytes.{byte, u16, constants}
 use Rattle.graph.specs.Read.{payload, node}
-use Rattle.base.proofs.Outcomes.{passes, fails}
+use Rattle.base.proofs.Outcomes.{takes, stops, passes, fails}
 use Rattle.graph.proofs.Formed.{refs-length}
 use Rattle.reader.specs.Layout.{kindAt}
-use Rattle.reader.specs.Records.{payloadRead, nodeRead}
+use Rattle.reader.specs.Records.{payloadOf, payloadRead, nodeRead}
 use Rattle.reader.specs.declared.PayloadRead.{PayloadRead}
 use Rattle.reader.specs.declared.Payload.{Payload}
 use Rattle.reader.specs.declared.Payload.the-variants.{Constant, Call, References}
@@ -84,16 +84,15 @@ module _ (s : List ℕ) (at : ℕ) (k : Kind) where
 
 -- ---- nodes
 
--- a legal kind and type byte, by the kind's row
-module _ (row : Ports) (k : Kind) (t : ℕ) (e : row ≡ portsOf k) where
-  pub legal-absent : exists (row .form) ≡ false → legal k t ≡ false
-  legal-absent a = rw (rw e at a)
+-- whether the kind and the type byte are legal, by the kind's row
+pub legal-by : (row : Ports) (k : Kind) (t : ℕ) {a b : Bool} → row ≡ portsOf k → exists (row .form) ≡ a → typeFits row t ≡ b → legal k t ≡ a && b
+legal-by row k t e x y = ap (λ (r : Ports). exists (r .form) && typeFits r t) (sym e) ∙ rw (x, y)
 
-  pub legal-untyped : exists (row .form) ≡ true → typeFits row t ≡ false → legal k t ≡ false
-  legal-untyped a b = rw (rw e at a) (rw e at b)
-
-  pub legal-row : exists (row .form) ≡ true → typeFits row t ≡ true → legal k t ≡ true
-  legal-row a b = rw (rw e at a) (rw e at b)
+-- a head that passes
+pub record NodeHead (s : List ℕ) (at : ℕ) : Type 0 where
+  pub fits : at + 4 ≤ length s
+  pub named : 1 ≤ u16 s at
+  pub typed : legal (kindAt s at) (byte s (at + 3)) ≡ true
 
 module _ (s : List ℕ) (at : ℕ) where
   pub node-short : length s < at + 4 → node s at ≡ fault 5 at
@@ -105,45 +104,32 @@ module _ (s : List ℕ) (at : ℕ) where
   pub node-illegal : at + 4 ≤ length s → 1 ≤ u16 s at → legal (kindAt s at) (byte s (at + 3)) ≡ false → node s at ≡ fault 6 at
   node-illegal h i e = passes _ 5 at _ (le-leb _ _ h) ∙ fails _ 6 at _ (rw (le-leb 1 (u16 s at) i) e)
 
-  -- a head that passes: what the payload's reading gives
-  node-goes :
-      at + 4 ≤ length s → 1 ≤ u16 s at → legal (kindAt s at) (byte s (at + 3)) ≡ true
-      → node s at ≡ (payload (formOf (kindAt s at)) (kindAt s at) s (at + 4) >>= λ p. ok (record {
-        it = record { id = u16 s at; place = at; kind = byte s (at + 2); type = byte s (at + 3); payload = p .it };
-        next = p .next;
-      }))
-  node-goes h i e = passes _ 5 at _ (le-leb _ _ h) ∙ passes (leb 1 (u16 s at) && legal (kindAt s at) (byte s (at + 3))) 6 at _ (rw (le-leb 1 (u16 s at) i) e)
+-- what was read of a payload, or its fault
+module _ (k : Kind) (at : ℕ) where
+  payload-is : (g : Outcome (Part Graph.Payload)) (q : Payload) (e : ℕ) → PayloadRead.Is q e ≡ payloadRead k at g
+      → (p : Part Graph.Payload) × (g ≡ ok p) × (q ≡ payloadOf k at (p .it)) × (e ≡ p .next)
+  payload-is (ok p) q e r = (p, refl, cc, cc)
+  payload-is (fault n p) q e r = let z : _≡_ {A = ℕ} 0 1 = cc in absurd (omega arith)
+
+  payload-refused : (g : Outcome (Part Graph.Payload)) (n p : ℕ) → PayloadRead.Refused n p ≡ payloadRead k at g → g ≡ fault n p
+  payload-refused (ok q) n p r = let z : _≡_ {A = ℕ} 0 1 = cc in absurd (omega arith)
+  payload-refused (fault m q) n p r = cc
+
+module _ {s : List ℕ} {at : ℕ} (h : NodeHead s at) where
+  abbrev payload-here : Outcome (Part Graph.Payload)
+  payload-here = payload (formOf (kindAt s at)) (kindAt s at) s (at + 4)
+
+  goes : node s at ≡ (payload-here >>= λ p. ok (record {
+    it = record { id = u16 s at; place = at; kind = byte s (at + 2); type = byte s (at + 3); payload = p .it };
+    next = p .next;
+  }))
+  goes =
+      passes _ 5 at _ (le-leb _ _ (h .fits)) ∙ passes (leb 1 (u16 s at) && legal (kindAt s at) (byte s (at + 3))) 6 at _ (rw (le-leb 1 (u16 s at) (h .named)) (h .typed))
 
   pub node-read-is :
-      at + 4 ≤ length s → 1 ≤ u16 s at → legal (kindAt s at) (byte s (at + 3)) ≡ true
-      → (q : Payload) (e : ℕ) → PayloadRead.Is q e ≡ payloadRead (kindAt s at) (at + 4) (payload (formOf (kindAt s at)) (kindAt s at) s (at + 4))
+      (q : Payload) (e : ℕ) → PayloadRead.Is q e ≡ payloadRead (kindAt s at) (at + 4) payload-here
       → nodeRead (node s at) ≡ NodeRead.Is (record { id = u16 s at; place = at; kind = byte s (at + 2); ty = byte s (at + 3); payload = q }) e
-  unfolding _>>=_
-  node-read-is h i l q e r = ap nodeRead (node-goes h i l) ∙ pickOne (payload (formOf (kindAt s at)) (kindAt s at) s (at + 4)) r
-    where
-      pickOne :
-          (g : Outcome (Part Graph.Payload)) → PayloadRead.Is q e ≡ payloadRead (kindAt s at) (at + 4) g
-          → nodeRead (g >>= λ p. ok (record {
-            it = record { id = u16 s at; place = at; kind = byte s (at + 2); type = byte s (at + 3); payload = p .it };
-            next = p .next;
-          }))
-          ≡ NodeRead.Is (record { id = u16 s at; place = at; kind = byte s (at + 2); ty = byte s (at + 3); payload = q }) e
-      pickOne (ok p) r = cc
-      pickOne (fault n p) r = let z : _≡_ {A = ℕ} 0 1 = cc in absurd (omega arith)
+  node-read-is q e r = let (p, ep, a, b) = payload-is (kindAt s at) (at + 4) payload-here q e r in ap nodeRead (goes ∙ takes _ _ p ep) ∙ (cc)
 
-  pub node-read-fault :
-      at + 4 ≤ length s → 1 ≤ u16 s at → legal (kindAt s at) (byte s (at + 3)) ≡ true
-      → (n p : ℕ) → PayloadRead.Refused n p ≡ payloadRead (kindAt s at) (at + 4) (payload (formOf (kindAt s at)) (kindAt s at) s (at + 4))
-      → nodeRead (node s at) ≡ NodeRead.Refused n p
-  unfolding _>>=_
-  node-read-fault h i l n p r = ap nodeRead (node-goes h i l) ∙ pickOne (payload (formOf (kindAt s at)) (kindAt s at) s (at + 4)) r
-    where
-      pickOne :
-          (g : Outcome (Part Graph.Payload)) → PayloadRead.Refused n p ≡ payloadRead (kindAt s at) (at + 4) g
-          → nodeRead (g >>= λ p. ok (record {
-            it = record { id = u16 s at; place = at; kind = byte s (at + 2); type = byte s (at + 3); payload = p .it };
-            next = p .next;
-          }))
-          ≡ NodeRead.Refused n p
-      pickOne (ok p) r = let z : _≡_ {A = ℕ} 0 1 = cc in absurd (omega arith)
-      pickOne (fault m q) r = cc
+  pub node-read-fault : (n p : ℕ) → PayloadRead.Refused n p ≡ payloadRead (kindAt s at) (at + 4) payload-here → nodeRead (node s at) ≡ NodeRead.Refused n p
+  node-read-fault n p r = ap nodeRead (goes ∙ stops _ _ n p (payload-refused (kindAt s at) (at + 4) payload-here n p r))

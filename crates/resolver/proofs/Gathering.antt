@@ -38,22 +38,27 @@ named-last (suc n) s at =
     ap (λ (xs : List ℕ). idsOf (reads (nodeAt s at)) ++ xs) (named-last n s (nodeEnd s at))
     ∙ sym (append-assoc (idsOf (reads (nodeAt s at))) (named (nodesAt n s (nodeEnd s at))) (idsOf (reads (nodeAt s (nodePlace s (nodeEnd s at) n)))))
 
-module _ (s : List ℕ) (at left : ℕ) (wanted₀ : List ℕ) where
-  -- n nodes are passed, which name m ids
-  pub record Gathering (wanted : List ℕ) (p n m : ℕ) : Type 0 where
-    pub most : n ≤ left
-    pub here : p ≡ nodePlace s at n
-    pub fits : m ≤ nodeLimit
-    pub size : m ≡ length (named (nodesAt n s at))
-    pub ids : wanted ≡ sets wanted₀ 0 (named (nodesAt n s at))
+some-nodes : (s : List ℕ) (at n m : ℕ) → m ≡ length (named (nodesAt n s at)) → 0 < m → 0 < n
+unfolding named nodesAt
+some-nodes s at zero m e h = absurd (omega (arith, e, h))
+some-nodes s at (suc n) m e h = omega arith
 
-  pub gather-start : Gathering wanted₀ at 0 0
+-- n nodes are passed, which name m ids
+pub record Gathering (s : List ℕ) (at left : ℕ) (wanted₀ wanted : List ℕ) (p n m : ℕ) : Type 0 where
+  pub most : n ≤ left
+  pub here : p ≡ nodePlace s at n
+  pub fits : m ≤ nodeLimit
+  pub size : m ≡ length (named (nodesAt n s at))
+  pub ids : wanted ≡ sets wanted₀ 0 (named (nodesAt n s at))
+
+module _ {s : List ℕ} {at left : ℕ} {wanted₀ : List ℕ} where
+  pub gather-start : Gathering s at left wanted₀ wanted₀ at 0 0
   unfolding named nodesAt nodePlace
   gather-start = record { most = omega arith; here = refl; fits = omega arith; size = refl; ids = refl }
 
-  pub gather-step : (wanted wanted' : List ℕ) (p p' n m : ℕ) (r : Reads) → Gathering wanted p n m → n < left → m ≤ nodeLimit - operandLimit → ReadsOf s p r
-      → wanted' ≡ sets wanted m (idsOf (references (r .count) s (r .first))) → p' ≡ nodeEnd s p → Gathering wanted' p' (n + 1) (m + r .count)
-  gather-step wanted wanted' p p' n m r h l f reads-are ew ep =
+  pub gather-step : {wanted wanted' : List ℕ} {p p' n m : ℕ} {r : Reads} → Gathering s at left wanted₀ wanted p n m → n < left → m ≤ nodeLimit - operandLimit → ReadsOf s p r
+      → wanted' ≡ sets wanted m (idsOf (references (r .count) s (r .first))) → p' ≡ nodeEnd s p → Gathering s at left wanted₀ wanted' p' (n + 1) (m + r .count)
+  gather-step {n = n} {m = m} {r = r} h l f reads-are ew ep =
       let few = reads-are .few in
       let a : length ids ≡ r .count = length-map (references (r .count) s (r .first)) (λ (x : Ref). x .node) ∙ refs-length (r .count) s (r .first) in
       let b : length (named (nodesAt (n + 1) s at)) ≡ length old + length ids = ap length whole ∙ length-append old ids in
@@ -82,13 +87,9 @@ module _ (s : List ℕ) (at left : ℕ) (wanted₀ : List ℕ) where
           ap (λ (k : ℕ). named (nodesAt k s at)) z ∙ named-last n s at
           ∙ ap (λ (q : ℕ). old ++ idsOf (reads (nodeAt s q))) (sym (h .here)) ∙ ap (λ (rs : List Ref). old ++ idsOf rs) (reads-are .refs)
 
-  some-nodes : (n m : ℕ) → m ≡ length (named (nodesAt n s at)) → 0 < m → 0 < n
-  unfolding named nodesAt
-  some-nodes zero m e h = absurd (omega (arith, e, h))
-  some-nodes (suc n) m e h = omega arith
+  module _ {wanted : List ℕ} {p n m : ℕ} (h : Gathering s at left wanted₀ wanted p n m) where
+    pub gather-full : 0 < m → Gathered s at left wanted₀ wanted (record { nodes = n; refs = m })
+    gather-full l = record { some = some-nodes s at n m (h .size) l; most = h .most; fits = h .fits; size = h .size; ids = h .ids }
 
-  pub gather-full : (wanted : List ℕ) (p n m : ℕ) → Gathering wanted p n m → 0 < m → Gathered s at left wanted₀ wanted (record { nodes = n; refs = m })
-  gather-full wanted p n m h l = record { some = some-nodes n m (h .size) l; most = h .most; fits = h .fits; size = h .size; ids = h .ids }
-
-  pub gather-done : (wanted : List ℕ) (p n m : ℕ) → Gathering wanted p n m → 0 < left → left ≤ n → Gathered s at left wanted₀ wanted (record { nodes = n; refs = m })
-  gather-done wanted p n m h l e = record { some = omega arith; most = h .most; fits = h .fits; size = h .size; ids = h .ids }
+    pub gather-done : 0 < left → left ≤ n → Gathered s at left wanted₀ wanted (record { nodes = n; refs = m })
+    gather-done l e = record { some = omega arith; most = h .most; fits = h .fits; size = h .size; ids = h .ids }

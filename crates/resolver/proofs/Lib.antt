@@ -1,7 +1,6 @@
 -- The laws of the resolver.
 pub mod Storing
 pub mod Rows
-pub mod Walking
 pub mod Gathering
 pub mod Matching
 pub mod Scattering

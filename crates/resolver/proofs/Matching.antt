@@ -20,36 +20,37 @@ use Rattle.reader.proofs.Passed.{first-reads, rest-reads, node-legal}
 use Rattle.order.specs.Resolve.{indexOf}
 use Rattle.resolver.specs.Groups.{sought, Marked, FoundAll}
 use Rattle.resolver.proofs.Rows.{length-nodes}
-use Rattle.resolver.proofs.Walking.{Passed, pass-start, pass-step, left-next, left-none, left-all}
+use Rattle.reader.proofs.Walking.{Passed, pass-start, pass-step, left-next, left-none, left-all}
 use Rattle.base.specs.Limits.{nodeLimit, noNode}
 
 -- ---- one node: r of the m entries are passed
 
-module _ (wanted : List ℕ) (m id i : ℕ) (found₀ : List ℕ) where
-  pub record Marking (found : List ℕ) (r : ℕ) : Type 0 where
-    pub size : length found ≡ nodeLimit
-    pub done : (q : ℕ) → q < r → getD found q 0 ≡ cond (eqb id (getD wanted q 0)) i (getD found₀ q 0)
-    pub rest : (q : ℕ) → r ≤ q → getD found q 0 ≡ getD found₀ q 0
+pub record Marking (wanted : List ℕ) (m id i : ℕ) (found₀ found : List ℕ) (r : ℕ) : Type 0 where
+  pub size : length found ≡ nodeLimit
+  pub done : (q : ℕ) → q < r → getD found q 0 ≡ cond (eqb id (getD wanted q 0)) i (getD found₀ q 0)
+  pub rest : (q : ℕ) → r ≤ q → getD found q 0 ≡ getD found₀ q 0
 
-  pub mark-start : length found₀ ≡ nodeLimit → Marking found₀ 0
+module _ {wanted : List ℕ} {m id i : ℕ} {found₀ : List ℕ} where
+  pub mark-start : length found₀ ≡ nodeLimit → Marking wanted m id i found₀ found₀ 0
   mark-start e = record { size = e; done = λ q l. absurd (omega arith); rest = λ q l. refl }
 
-  pub mark-step : (found : List ℕ) (r v : ℕ) → Marking found r → r < nodeLimit → v ≡ cond (eqb id (getD wanted r 0)) i (getD found r 0) → Marking (set found r v) (r + 1)
-  mark-step found r v h l e =
-      record {
-        size = length-set found r v ∙ h .size;
-        done = λ q a. pickOne q (eqb q r) refl a;
-        rest = λ q a. getD-set-other found r q v 0 (λ z. omega arith) ∙ h .rest q (omega arith);
-      }
-    where
-      pickOne : (q : ℕ) (b : Bool) → eqb q r ≡ b → q < r + 1 → getD (set found r v) q 0 ≡ cond (eqb id (getD wanted q 0)) i (getD found₀ q 0)
-      pickOne q true t a =
-          let z : q ≡ r = eqb-true q r t in
-          rw z (getD-set-same found r v 0 (omega (arith, h .size)) ∙ e ∙ ap (λ (x : ℕ). cond (eqb id (getD wanted r 0)) i x) (h .rest r (omega arith)))
-      pickOne q false t a = let z : q ≡ r → ⊥ = eqb-false q r t in getD-set-other found r q v 0 z ∙ h .done q (omega arith)
+  module _ {found : List ℕ} {r : ℕ} (h : Marking wanted m id i found₀ found r) where
+    pub mark-step : {v : ℕ} → r < nodeLimit → v ≡ cond (eqb id (getD wanted r 0)) i (getD found r 0) → Marking wanted m id i found₀ (set found r v) (r + 1)
+    mark-step {v} l e =
+        record {
+          size = length-set found r v ∙ h .size;
+          done = λ q a. pickOne q (eqb q r) refl a;
+          rest = λ q a. getD-set-other found r q v 0 (λ z. omega arith) ∙ h .rest q (omega arith);
+        }
+      where
+        pickOne : (q : ℕ) (b : Bool) → eqb q r ≡ b → q < r + 1 → getD (set found r v) q 0 ≡ cond (eqb id (getD wanted q 0)) i (getD found₀ q 0)
+        pickOne q true t a =
+            let z : q ≡ r = eqb-true q r t in
+            rw z (getD-set-same found r v 0 (omega (arith, h .size)) ∙ e ∙ ap (λ (x : ℕ). cond (eqb id (getD wanted r 0)) i x) (h .rest r (omega arith)))
+        pickOne q false t a = let z : q ≡ r → ⊥ = eqb-false q r t in getD-set-other found r q v 0 z ∙ h .done q (omega arith)
 
-  pub mark-done : (found : List ℕ) (r : ℕ) → Marking found r → m ≤ r → Marked wanted m id i found₀ found
-  mark-done found r h l = record { size = h .size; marks = λ q a. h .done q (omega arith) }
+    pub mark-done : m ≤ r → Marked wanted m id i found₀ found
+    mark-done l = record { size = h .size; marks = λ q a. h .done q (omega arith) }
 
 -- ---- the last match among the nodes, counted from i; `old` where there is none
 
@@ -129,17 +130,17 @@ last-end : (w i old : ℕ) (left : List Node) → left ≡ [] → lastMatch w i 
 unfolding lastMatch
 last-end w i old left e = ap (lastMatch w i old) e
 
-module _ (s : List ℕ) (first count : ℕ) (wanted : List ℕ) (m : ℕ) where
-  pub record Matching (found : List ℕ) (at i : ℕ) : Type 0 where
-    pub pass : Passed s count at i
-    pub size : length found ≡ nodeLimit
-    pub same : (r : ℕ) → r < m
-        → lastMatch (getD wanted r 0) 0 (cond (eqb 0 (getD wanted r 0)) noNode count) (nodesAt count s first) ≡ lastMatch (getD wanted r 0) i (getD found r 0) (nodesAt (count - i) s at)
+pub record Matching (s : List ℕ) (first count : ℕ) (wanted : List ℕ) (m : ℕ) (found : List ℕ) (at i : ℕ) : Type 0 where
+  pub pass : Passed s count at i
+  pub size : length found ≡ nodeLimit
+  pub same : (r : ℕ) → r < m
+      → lastMatch (getD wanted r 0) 0 (cond (eqb 0 (getD wanted r 0)) noNode count) (nodesAt count s first) ≡ lastMatch (getD wanted r 0) i (getD found r 0) (nodesAt (count - i) s at)
 
-  pub match-start : (found₀ found : List ℕ) → ReadsNodes count s first → m ≤ nodeLimit → found₀ ≡ replicate nodeLimit count → Marked wanted m 0 noNode found₀ found → Matching found first 0
-  match-start found₀ found r l e h =
+module _ {s : List ℕ} {first count : ℕ} {wanted : List ℕ} {m : ℕ} where
+  pub match-start : {found₀ found : List ℕ} → ReadsNodes count s first → m ≤ nodeLimit → found₀ ≡ replicate nodeLimit count → Marked wanted m 0 noNode found₀ found → Matching s first count wanted m found first 0
+  match-start {found₀} {found} r l e h =
       record {
-        pass = pass-start s count first r;
+        pass = pass-start r;
         size = h .size;
         same = λ q a.
             let w = getD wanted q 0 in
@@ -148,11 +149,11 @@ module _ (s : List ℕ) (first count : ℕ) (wanted : List ℕ) (m : ℕ) where
             ap (λ (k : ℕ). lastMatch w 0 k (nodesAt count s first)) y ∙ ap (lastMatch w 0 (getD found q 0)) (left-all s count first);
       }
 
-  pub match-step : (found found' : List ℕ) (at at' i id : ℕ) → Matching found at i → i < count → id ≡ u16 s at → Marked wanted m id i found found' → at' ≡ nodeEnd s at
-      → Matching found' at' (i + 1)
-  match-step found found' at at' i id h l e k ea =
+  pub match-step : {found found' : List ℕ} {at at' i id : ℕ} → Matching s first count wanted m found at i → i < count → id ≡ u16 s at → Marked wanted m id i found found' → at' ≡ nodeEnd s at
+      → Matching s first count wanted m found' at' (i + 1)
+  match-step {found} {found'} {at} {at'} {i} h l e k ea =
       record {
-        pass = pass-step s count at at' i (h .pass) l ea;
+        pass = pass-step (h .pass) l ea;
         size = k .size;
         same = λ q a.
             let w = getD wanted q 0 in
@@ -162,9 +163,9 @@ module _ (s : List ℕ) (first count : ℕ) (wanted : List ℕ) (m : ℕ) where
             h .same q a ∙ last-next s at w i (getD found q 0) (nodesAt (count - i) s at) rest (left-next s count at at' i l ea) ∙ ap (λ (x : ℕ). lastMatch w (i + 1) x rest) y;
       }
 
-  pub match-done : (found : List ℕ) (at i : ℕ) → Matching found at i → count ≤ i → ReadsNodes count s first → fresh [] (nodesAt count s first) ≡ ok tt
+  pub match-done : {found : List ℕ} {at i : ℕ} → Matching s first count wanted m found at i → count ≤ i → ReadsNodes count s first → fresh [] (nodesAt count s first) ≡ ok tt
       → FoundAll (nodesAt count s first) wanted m found
-  match-done found at i h l r f q a =
+  match-done {found} {at} {i} h l r f q a =
       let ns = nodesAt count s first in
       let w = getD wanted q 0 in
       sym (h .same q a ∙ last-end w i (getD found q 0) (nodesAt (count - i) s at) (left-none s count at i l))

@@ -19,7 +19,7 @@ use Rattle.base.specs.Limits.{noNode, operandLimit, nodeLimit, slotLimit}
 
 -- ---- a row
 
-pub length-padded : (n : ℕ) (xs : List ℕ) → length (padded n xs) ≡ n
+length-padded : (n : ℕ) (xs : List ℕ) → length (padded n xs) ≡ n
 unfolding padded
 length-padded zero xs = refl
 length-padded (suc n) [] = ap suc (length-padded n [])
@@ -67,6 +67,14 @@ rows-at ns (y ∷ xs) (suc i) j x e h =
     ap (λ (k : ℕ). getD (rowOf ns y ++ rowsOf ns xs) k 0) z
     ∙ getD-append-add (rowOf ns y) (rowsOf ns xs) (operandLimit * i + j) 0
     ∙ rows-at ns xs i j x e h
+
+pub rows-next : (ns : List Node) {left rest : List Node} {x : Node} → left ≡ x ∷ rest → rowsOf ns left ≡ rowOf ns x ++ rowsOf ns rest
+unfolding rowsOf
+rows-next ns e = ap (rowsOf ns) e
+
+pub rows-none : (ns : List Node) {left : List Node} → left ≡ [] → rowsOf ns left ≡ []
+unfolding rowsOf
+rows-none ns e = ap (rowsOf ns) e
 
 -- slot j of node i in the array
 pub row-slot : (ns : List Node) (ts : List ℕ) (i j : ℕ) (x : Node) → getElem? ns i ≡ some x → j < operandLimit → length ns ≤ nodeLimit → length ts ≡ slotLimit
@@ -138,12 +146,16 @@ places-in zero s at i h = absurd (omega arith)
 places-in (suc n) s at zero h = refl
 places-in (suc n) s at (suc i) h = places-in n s (nodeEnd s at) i (omega arith)
 
+pub places-next : (s : List ℕ) {at : ℕ} {left rest : List Node} → left ≡ nodeAt s at ∷ rest → placesOf left ≡ at ∷ placesOf rest
+unfolding nodeAt
+places-next s e = ap placesOf e
+
 pub length-nodes : (n : ℕ) (s : List ℕ) (at : ℕ) → length (nodesAt n s at) ≡ n
 unfolding nodesAt
 length-nodes zero s at = refl
 length-nodes (suc n) s at = ap suc (length-nodes n s (nodeEnd s at))
 
-pub length-places : (n : ℕ) (s : List ℕ) (at : ℕ) → length (placesOf (nodesAt n s at)) ≡ n
+length-places : (n : ℕ) (s : List ℕ) (at : ℕ) → length (placesOf (nodesAt n s at)) ≡ n
 length-places n s at = length-map (nodesAt n s at) (λ (x : Node). x .place) ∙ length-nodes n s at
 
 -- the place of node i in the array

@@ -21,8 +21,8 @@ use Rattle.resolver.specs.Slots.{padded, rowOf, rowsOf}
 use Rattle.resolver.specs.Groups.{idsOf, named, sought, entries, Gathered, FoundAll, Found, GroupDone}
 use Rattle.base.proofs.Stores.{sets-in}
 use Rattle.resolver.proofs.Storing.{Run, run-start, run-part, run-done}
-use Rattle.resolver.proofs.Rows.{length-row, length-rows, length-nodes}
-use Rattle.resolver.proofs.Walking.{Passed, pass-step, left-next, left-none, left-all, rows-next, rows-none}
+use Rattle.resolver.proofs.Rows.{length-row, length-rows, length-nodes, rows-next, rows-none}
+use Rattle.reader.proofs.Walking.{Passed, pass-step, left-next, left-none, left-all}
 use Rattle.base.specs.Limits.{nodeLimit, operandLimit}
 use Rattle.base.proofs.Stands.{cons-head, cons-tail}
 
@@ -48,9 +48,9 @@ entries-split g (x ∷ xs) ys found m h =
 
 -- ---- from what was gathered and found
 
-pub found-start : (ns : List Node) (s : List ℕ) (at left : ℕ) (wanted₀ wanted found : List ℕ) (r : Group) → length wanted₀ ≡ nodeLimit → Gathered s at left wanted₀ wanted r
+pub found-start : {ns : List Node} {s : List ℕ} {at left : ℕ} {wanted₀ wanted found : List ℕ} {r : Group} → length wanted₀ ≡ nodeLimit → Gathered s at left wanted₀ wanted r
     → FoundAll ns wanted (r .refs) found → Found ns s at (r .nodes) found 0
-found-start ns s at left wanted₀ wanted found r e h f =
+found-start {ns} {s} {at} {left} {wanted₀} {wanted} {found} {r} e h f =
     record {
       fits = let a = h .size in let b = h .fits in omega (arith, a, b);
       holds = entries-are (sought ns) ids found 0 (λ q l.
@@ -110,16 +110,16 @@ module _ (ns : List Node) (s found : List ℕ) where
       rest : List ℕ
       rest = named (nodesAt (count - (n + 1)) s p')
 
-module _ (ns : List Node) (s : List ℕ) (left at nodes : ℕ) (found targets₀ : List ℕ) (i : ℕ) where
-  -- n nodes are passed, which have m references
-  pub record Scattering (targets : List ℕ) (p n m : ℕ) : Type 0 where
-    pub index : n ≤ nodes
-    pub pass : Passed s left p n
-    pub here : p ≡ nodePlace s at n
-    pub finds : Found ns s p (nodes - n) found m
-    pub run : Run (rowsOf ns (nodesAt nodes s at)) targets₀ (operandLimit * i) targets (operandLimit * (i + n)) (rowsOf ns (nodesAt (nodes - n) s p))
+-- n nodes are passed, which have m references
+pub record Scattering (ns : List Node) (s : List ℕ) (left at nodes : ℕ) (found targets₀ : List ℕ) (i : ℕ) (targets : List ℕ) (p n m : ℕ) : Type 0 where
+  pub index : n ≤ nodes
+  pub pass : Passed s left p n
+  pub here : p ≡ nodePlace s at n
+  pub finds : Found ns s p (nodes - n) found m
+  pub run : Run (rowsOf ns (nodesAt nodes s at)) targets₀ (operandLimit * i) targets (operandLimit * (i + n)) (rowsOf ns (nodesAt (nodes - n) s p))
 
-  pub scatter-start : Passed s left at 0 → Found ns s at nodes found 0 → Scattering targets₀ at 0 0
+module _ {ns : List Node} {s : List ℕ} {left at nodes : ℕ} {found targets₀ : List ℕ} {i : ℕ} where
+  pub scatter-start : Passed s left at 0 → Found ns s at nodes found 0 → Scattering ns s left at nodes found targets₀ i targets₀ at 0 0
   unfolding nodePlace
   scatter-start p f =
       let z : nodes ≡ nodes - 0 = omega arith in
@@ -128,34 +128,28 @@ module _ (ns : List Node) (s : List ℕ) (left at nodes : ℕ) (found targets₀
         pass = p;
         here = refl;
         finds = subst (λ (n : ℕ). Found ns s at n found 0) z f;
-        run = run-start (rowsOf ns (nodesAt nodes s at)) targets₀ (operandLimit * i) (operandLimit * (i + 0)) (rowsOf ns (nodesAt (nodes - 0) s at)) (omega arith) (ap (rowsOf ns) (left-all s nodes at));
+        run = run-start (omega arith) (ap (rowsOf ns) (left-all s nodes at));
       }
 
-  pub scatter-step : (targets targets' : List ℕ) (p p' n m : ℕ) (r : Reads) → Scattering targets p n m → n < nodes → nodes ≤ left → ReadsOf s p r → p' ≡ nodeEnd s p
-      → targets' ≡ sets targets (operandLimit * (i + n)) (padded operandLimit (entries (r .count) found m)) → Scattering targets' p' (n + 1) (m + r .count)
-  scatter-step targets targets' p p' n m r h l few f e et =
-      let (row, fit, on) = found-next ns s found nodes n p p' m r (h .finds) l f e in
-      let z = length-row ns (nodeAt s p) in
-      record {
-        index = omega arith;
-        pass = pass-step s left p p' n (h .pass) (omega arith) e;
-        here = e ∙ ap (nodeEnd s) (h .here) ∙ sym (place-next s n at);
-        finds = on;
-        run =
-            run-part (rowsOf ns (nodesAt nodes s at)) targets₀ (operandLimit * i) targets targets' (operandLimit * (i + n)) (operandLimit * (i + (n + 1))) (rowOf ns (nodeAt s p))
-            (rowsOf ns (nodesAt (nodes - n) s p)) (rowsOf ns (nodesAt (nodes - (n + 1)) s p')) (h .run)
-            (rows-next ns (nodesAt (nodes - n) s p) (nodesAt (nodes - (n + 1)) s p') (nodeAt s p) (left-next s nodes p p' n l e))
-            (omega (arith, z)) (et ∙ ap (sets targets (operandLimit * (i + n))) row);
-      }
+  module _ {targets : List ℕ} {p n m : ℕ} (h : Scattering ns s left at nodes found targets₀ i targets p n m) where
+    pub scatter-step : {targets' : List ℕ} {p' : ℕ} {r : Reads} → n < nodes → nodes ≤ left → ReadsOf s p r → p' ≡ nodeEnd s p
+        → targets' ≡ sets targets (operandLimit * (i + n)) (padded operandLimit (entries (r .count) found m)) → Scattering ns s left at nodes found targets₀ i targets' p' (n + 1) (m + r .count)
+    scatter-step {p' = p'} {r = r} l few f e et =
+        let (row, fit, on) = found-next ns s found nodes n p p' m r (h .finds) l f e in
+        let z = length-row ns (nodeAt s p) in
+        record {
+          index = omega arith;
+          pass = pass-step (h .pass) (omega arith) e;
+          here = e ∙ ap (nodeEnd s) (h .here) ∙ sym (place-next s n at);
+          finds = on;
+          run = run-part (h .run) (rowOf ns (nodeAt s p)) (rows-next ns (left-next s nodes p p' n l e)) (omega (arith, z)) (et ∙ ap (sets targets (operandLimit * (i + n))) row);
+        }
 
-  pub scatter-done : (targets : List ℕ) (p n m : ℕ) → Scattering targets p n m → nodes ≤ n → (p ≡ nodePlace s at nodes) × (targets ≡ sets targets₀ (operandLimit * i) (rowsOf ns (nodesAt nodes s at)))
-  scatter-done targets p n m h l =
-      let j = h .index in
-      let z : n ≡ nodes = omega arith in (
-        h .here ∙ ap (nodePlace s at) z,
-        run-done (rowsOf ns (nodesAt nodes s at)) targets₀ (operandLimit * i) targets (operandLimit * (i + n)) (rowsOf ns (nodesAt (nodes - n) s p)) (h .run)
-            (rows-none ns (nodesAt (nodes - n) s p) (left-none s nodes p n l)),
-      )
+    pub scatter-done : nodes ≤ n → (p ≡ nodePlace s at nodes) × (targets ≡ sets targets₀ (operandLimit * i) (rowsOf ns (nodesAt nodes s at)))
+    scatter-done l =
+        let j = h .index in
+        let z : n ≡ nodes = omega arith in
+        (h .here ∙ ap (nodePlace s at) z, run-done (h .run) (rows-none ns (left-none s nodes p n l)))
 
 -- ---- the groups in turn
 
@@ -172,55 +166,37 @@ unfolding nodePlace
 pass-many s count at i zero h l = rw add-zero h
 pass-many s count at i (suc k) h l =
     let z : i + 1 + k ≡ i + suc k = omega arith in
-    subst (Passed s count (nodePlace s (nodeEnd s at) k)) z (pass-many s count (nodeEnd s at) (i + 1) k (pass-step s count at (nodeEnd s at) i h (omega arith) refl) (omega arith))
+    subst (Passed s count (nodePlace s (nodeEnd s at) k)) z (pass-many s count (nodeEnd s at) (i + 1) k (pass-step h (omega arith) refl) (omega arith))
 
-module _ (s : List ℕ) (first count : ℕ) (targets₀ : List ℕ) where
-  abbrev ns : List Node
-  ns = nodesAt count s first
+-- the rows of the nodes before i are done
+pub record Resolving (s : List ℕ) (first count : ℕ) (targets₀ targets : List ℕ) (at i : ℕ) : Type 0 where
+  pub pass : Passed s count at i
+  pub run : Run (rowsOf (nodesAt count s first) (nodesAt count s first)) targets₀ 0 targets (operandLimit * i) (rowsOf (nodesAt count s first) (nodesAt (count - i) s at))
 
-  -- the rows of the nodes before i are done
-  pub record Resolving (targets : List ℕ) (at i : ℕ) : Type 0 where
-    pub pass : Passed s count at i
-    pub run : Run (rowsOf ns ns) targets₀ 0 targets (operandLimit * i) (rowsOf ns (nodesAt (count - i) s at))
+module _ {s : List ℕ} {first count : ℕ} {targets₀ : List ℕ} where
+  pub resolve-start : Passed s count first 0 → Resolving s first count targets₀ targets₀ first 0
+  resolve-start p = record { pass = p; run = run-start refl (ap (rowsOf (nodesAt count s first)) (left-all s count first)) }
 
-  pub resolve-start : Passed s count first 0 → Resolving targets₀ first 0
-  resolve-start p =
-      record {
-        pass = p;
-        run = run-start (rowsOf ns ns) targets₀ 0 (operandLimit * 0) (rowsOf ns (nodesAt (count - 0) s first)) refl (ap (rowsOf ns) (left-all s count first));
-      }
+  module _ {targets : List ℕ} {at i : ℕ} (h : Resolving s first count targets₀ targets at i) where
+    pub resolve-step : {targets' : List ℕ} {r : Reached} → GroupDone s first count at i targets targets' r → Resolving s first count targets₀ targets' (r .at) (r .index)
+    resolve-step {r = r} d =
+        let ns = nodesAt count s first in
+        let k = r .index - i in
+        let o = d .on in
+        let most = d .most in
+        let whole : i + k ≡ r .index = omega arith in
+        let size : length (rowsOf ns (nodesAt k s at)) ≡ operandLimit * k = length-rows ns (nodesAt k s at) ∙ ap (λ (n : ℕ). operandLimit * n) (length-nodes k s at) in
+        let z : count - i ≡ k + (count - r .index) = omega (arith, whole, most) in
+        let rows : rowsOf ns (nodesAt (count - i) s at) ≡ rowsOf ns (nodesAt k s at) ++ rowsOf ns (nodesAt (count - r .index) s (r .at)) =
+        ap (λ (n : ℕ). rowsOf ns (nodesAt n s at)) z ∙ rows-split ns s k (count - r .index) at
+        ∙ ap (λ (p : ℕ). rowsOf ns (nodesAt k s at) ++ rowsOf ns (nodesAt (count - r .index) s p)) (sym (d .place)) in
+        record {
+          pass = subst (λ (p : ℕ). Passed s count p (r .index)) (sym (d .place)) (subst (Passed s count (nodePlace s at k)) whole (pass-many s count at i k (h .pass) (omega (arith, whole, most))));
+          run = run-part (h .run) (rowsOf ns (nodesAt k s at)) rows (omega (arith, whole, size)) (d .rows);
+        }
 
-  pub resolve-step : (targets targets' : List ℕ) (at i : ℕ) (r : Reached) → Resolving targets at i → GroupDone s first count at i targets targets' r
-      → Resolving targets' (r .at) (r .index)
-  resolve-step targets targets' at i r h d =
-      record {
-        pass = subst (λ (p : ℕ). Passed s count p (r .index)) (sym (d .place)) (subst (Passed s count (nodePlace s at k)) whole (pass-many s count at i k (h .pass) (omega (arith, whole, most))));
-        run =
-            run-part (rowsOf ns ns) targets₀ 0 targets targets' (operandLimit * i) (operandLimit * r .index) (rowsOf ns (nodesAt k s at)) (rowsOf ns (nodesAt (count - i) s at)) (rowsOf ns (nodesAt (count - r .index) s (r .at))) (h .run)
-            rows (omega (arith, whole, size)) (d .rows);
-      }
-    where
-      k : ℕ
-      k = r .index - i
-
-      most : r .index ≤ count
-      most = d .most
-
-      whole : i + k ≡ r .index
-      whole = let o = d .on in omega arith
-
-      size : length (rowsOf ns (nodesAt k s at)) ≡ operandLimit * k
-      size = length-rows ns (nodesAt k s at) ∙ ap (λ (n : ℕ). operandLimit * n) (length-nodes k s at)
-
-      rows : rowsOf ns (nodesAt (count - i) s at) ≡ rowsOf ns (nodesAt k s at) ++ rowsOf ns (nodesAt (count - r .index) s (r .at))
-      rows =
-          let z : count - i ≡ k + (count - r .index) = omega (arith, whole, most) in
-          ap (λ (n : ℕ). rowsOf ns (nodesAt n s at)) z ∙ rows-split ns s k (count - r .index) at
-          ∙ ap (λ (p : ℕ). rowsOf ns (nodesAt k s at) ++ rowsOf ns (nodesAt (count - r .index) s p)) (sym (d .place))
-
-  pub resolve-done : (targets : List ℕ) (at i : ℕ) → Resolving targets at i → count ≤ i → targets ≡ sets targets₀ 0 (rowsOf ns ns)
-  resolve-done targets at i h l =
-      run-done (rowsOf ns ns) targets₀ 0 targets (operandLimit * i) (rowsOf ns (nodesAt (count - i) s at)) (h .run) (rows-none ns (nodesAt (count - i) s at) (left-none s count at i l))
+    pub resolve-done : count ≤ i → targets ≡ sets targets₀ 0 (rowsOf (nodesAt count s first) (nodesAt count s first))
+    resolve-done l = run-done (h .run) (rows-none (nodesAt count s first) (left-none s count at i l))
 
 -- the group's answer
 pub group-done : (s : List ℕ) (first count at i : ℕ) (p q : List ℕ) (nodes end : ℕ) → 0 < nodes → nodes ≤ count - i → i < count → end ≡ nodePlace s at nodes

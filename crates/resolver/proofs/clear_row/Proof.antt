@@ -8,7 +8,7 @@ use Rattle.resolver.proofs.Storing.{Run, run-start, run-step, run-done}
 use Rattle.resolver.proofs.Rows.{pad-next, pad-end}
 use Rattle.resolver.proofs.clear_row.Statement.{statement}
 use Rattle.resolver.proofs.clear_row.Tie as tie
-use Rattle.base.specs.Limits.{operandLimit, noNode}
+use Rattle.base.specs.Limits.{operandLimit}
 
 abbrev Inv-loop : tie.InvT-loop
 Inv-loop targets₀ i j₀ targets j = (j ≤ operandLimit) × Run (padded operandLimit []) targets₀ (operandLimit * i) targets (operandLimit * i + j) (padded (operandLimit - j) [])
@@ -16,28 +16,11 @@ Inv-loop targets₀ i j₀ targets j = (j ≤ operandLimit) × Run (padded opera
 abbrev μ-loop : tie.MeasureT-loop
 μ-loop targets₀ i j₀ targets j = operandLimit - j
 
-loop-holds : tie.Need-loop-holds Inv-loop μ-loop
-loop-holds c =
-    let a = c .args in
-    (omega arith, run-start (padded operandLimit []) (a .targets .now) (operandLimit * a .i) (operandLimit * a .i + 0) (padded (operandLimit - 0) []) (omega arith) refl)
-
 loop-again : tie.Need-loop-again Inv-loop μ-loop
-loop-again c =
-    let a = c .before .before .args in
-    let l = c .before .loop in (
-      omega arith,
-      run-step (padded operandLimit []) (a .targets .now) (operandLimit * a .i) (l .targets) (operandLimit * a .i + l .j) (operandLimit * a .i + (l .j + 1)) noNode
-          (padded (operandLimit - l .j) []) (padded (operandLimit - (l .j + 1)) []) (l .inv .1) (pad-next (l .j) (c .loop-test .taken)) (omega arith),
-    )
-
-returns : tie.Need-returns Inv-loop μ-loop
-returns c =
-    let a = c .before .before .args in
-    let l = c .before .loop in
-    run-done (padded operandLimit []) (a .targets .now) (operandLimit * a .i) (l .targets) (operandLimit * a .i + l .j) (padded (operandLimit - l .j) []) (l .inv .1) (pad-end (l .j) (c .loop-test .left))
+loop-again c = let l = c .before .loop in (omega arith, run-step (l .inv .1) (pad-next (l .j) (c .loop-test .taken)) (omega arith))
 
 pub clear-row-spec : {M : Type 1} → statement M
 clear-row-spec =
     tie.close
-    (tie.spec Inv-loop μ-loop loop-holds (λ c. search needs) (λ c. search needs) (λ c. search needs) (λ c. search needs) (λ c. search needs)
-    (λ c. search needs) loop-again returns)
+    (tie.spec Inv-loop μ-loop (λ c. (omega arith, run-start (omega arith) refl)) (λ c. search needs) (λ c. search needs) (λ c. search needs) (λ c. search needs) (λ c. search needs)
+    (λ c. search needs) loop-again (λ c. run-done (c .before .loop .inv .1) (pad-end (c .before .loop .j) (c .loop-test .left))))

@@ -16,22 +16,8 @@ Inv-loop s first n wanted₀ m q₀ j₀ wanted q j =
 abbrev μ-loop : tie.MeasureT-loop
 μ-loop s first n wanted₀ m q₀ j₀ wanted q j = n - j
 
--- ---- places
-
-abbrev start-of-slice : tie.After-shared-slice-known Inv-loop μ-loop → tie.Start Inv-loop μ-loop
-start-of-slice c = c .before
-
 abbrev start-of-u16-at : tie.After-u16-at Inv-loop μ-loop → tie.Start Inv-loop μ-loop
-start-of-u16-at c = start-of-slice (c .before .before .before)
-
-loop-holds : tie.Need-loop-holds Inv-loop μ-loop
-loop-holds c =
-    let a = c .before .args in
-    let s = a .s .now in (
-      omega arith,
-      omega arith,
-      run-start (idsOf (references (a .n) s (a .first))) (a .wanted .now) (a .m) (a .m + 0) (idsOf (references (a .n - 0) s (a .first))) (omega arith) (ids-all s (a .n) (a .first)),
-    )
+start-of-u16-at c = let k = c .before .before .before in k .before
 
 loop-again : tie.Need-loop-again Inv-loop μ-loop
 loop-again c =
@@ -39,20 +25,14 @@ loop-again c =
     let a = d .before .before .before .args in
     let s = a .s .now in
     let l = d .before .loop in
-    let rest = idsOf (references (a .n - (l .j + 1)) s (l .q + 3)) in (
-      omega arith,
-      omega arith,
-      run-step (idsOf (references (a .n) s (a .first))) (a .wanted .now) (a .m) (l .wanted) (a .m + l .j) (a .m + (l .j + 1)) (c .u16-at .result)
-          (idsOf (references (a .n - l .j) s (l .q))) rest (l .inv .2) (ids-next s (a .n) (l .j) (l .q) (d .loop-test .taken) ∙ ap (λ (x : ℕ). x ∷ rest) (sym (c .u16-at .ensures .0))) (omega arith),
-    )
+    let rest = idsOf (references (a .n - (l .j + 1)) s (l .q + 3)) in
+    (omega arith, omega arith, run-step (l .inv .2) (ids-next s (a .n) (l .j) (l .q) (d .loop-test .taken) ∙ ap (λ (x : ℕ). x ∷ rest) (sym (c .u16-at .ensures .0))) (omega arith))
 
 returns : tie.Need-returns Inv-loop μ-loop
 returns c =
     let a = c .before .before .before .args in
-    let s = a .s .now in
     let l = c .before .loop in
-    run-done (idsOf (references (a .n) s (a .first))) (a .wanted .now) (a .m) (l .wanted) (a .m + l .j) (idsOf (references (a .n - l .j) s (l .q))) (l .inv .2)
-    (ids-none s (a .n) (l .j) (l .q) (c .loop-test .left))
+    run-done (l .inv .2) (ids-none (a .s .now) (a .n) (l .j) (l .q) (c .loop-test .left))
 
 pub gather-node-spec : {M : Type 1} → statement M
 gather-node-spec =
@@ -60,7 +40,7 @@ gather-node-spec =
     (tie.spec
     Inv-loop
     μ-loop
-    loop-holds
+    (λ c. let a = c .before .args in (omega arith, omega arith, run-start (omega arith) (ids-all (a .s .now) (a .n) (a .first))))
     (λ c κs. omega (arith, c .loop-test .taken, c .before .loop .inv .1, c .before .before .before .pre .0))
     (λ c. omega (arith, c .u16-at .ensures .1))
     (λ c. omega (arith, c .before .loop-test .taken, start-of-u16-at c .pre .1))

@@ -14,19 +14,8 @@ Inv-loop found m n targets₀ i j₀ targets j =
 abbrev μ-loop : tie.MeasureT-loop
 μ-loop found m n targets₀ i j₀ targets j = n - j
 
--- ---- places
-
-abbrev start-of-clear-row-arg : tie.After-clear-row-arg Inv-loop μ-loop → tie.Start Inv-loop μ-loop
-start-of-clear-row-arg c = c .before
-
 abbrev start-of-in-loop : tie.In-loop Inv-loop μ-loop → tie.Start Inv-loop μ-loop
-start-of-in-loop c = start-of-clear-row-arg (c .before .before .before)
-
-loop-holds : tie.Need-loop-holds Inv-loop μ-loop
-loop-holds c =
-    let a = c .before .before .args in
-    let f = a .found .now in
-    (omega arith, run-start (entries (a .n) f (a .m)) _ (operandLimit * a .i) (operandLimit * a .i + 0) (entries (a .n - 0) f (a .m + 0)) (omega arith) (entries-all f (a .n) (a .m)))
+start-of-in-loop c = let k = c .before .before .before in k .before
 
 -- the slot of the loop's index
 inside : (d : tie.In-loop Inv-loop μ-loop) → operandLimit * start-of-in-loop d .args .i + d .before .loop .j < slotLimit
@@ -36,12 +25,8 @@ loop-again : tie.Need-loop-again Inv-loop μ-loop
 loop-again c =
     let d = c .before in
     let a = start-of-in-loop d .args in
-    let f = a .found .now in
-    let l = d .before .loop in (
-      omega arith,
-      run-step (entries (a .n) f (a .m)) _ (operandLimit * a .i) (l .targets) (operandLimit * a .i + l .j) (operandLimit * a .i + (l .j + 1)) _
-          (entries (a .n - l .j) f (a .m + l .j)) (entries (a .n - (l .j + 1)) f (a .m + (l .j + 1))) (l .inv .1) (entries-next f (a .n) (l .j) (a .m) (d .loop-test .taken)) (omega arith),
-    )
+    let l = d .before .loop in
+    (omega arith, run-step (l .inv .1) (entries-next (a .found .now) (a .n) (l .j) (a .m) (d .loop-test .taken)) (omega arith))
 
 returns : tie.Need-returns Inv-loop μ-loop
 returns c =
@@ -50,8 +35,7 @@ returns c =
     let a = b .args in
     let f = a .found .now in
     let l = c .before .loop in
-    row-stored f (a .n) (a .m) (a .targets .now) _ (l .targets) (operandLimit * a .i) (b .pre .1) (k .clear-row .ensures)
-    (run-done (entries (a .n) f (a .m)) _ (operandLimit * a .i) (l .targets) (operandLimit * a .i + l .j) (entries (a .n - l .j) f (a .m + l .j)) (l .inv .1) (entries-none f (a .n) (l .j) (a .m) (c .loop-test .left)))
+    row-stored f (a .n) (a .m) (a .targets .now) _ (l .targets) (operandLimit * a .i) (b .pre .1) (k .clear-row .ensures) (run-done (l .inv .1) (entries-none f (a .n) (l .j) (a .m) (c .loop-test .left)))
 
 pub put-row-spec : {M : Type 1} → statement M
 put-row-spec =
@@ -60,7 +44,7 @@ put-row-spec =
     Inv-loop
     μ-loop
     (λ c κs. c .before .pre .2)
-    loop-holds
+    (λ c. let a = c .before .before .args in (omega arith, run-start (omega arith) (entries-all (a .found .now) (a .n) (a .m))))
     (λ c. omega (arith, c .loop-test .taken, start-of-in-loop c .pre .0))
     (λ c. omega (arith, c .loop-test .taken, start-of-in-loop c .pre .0))
     (λ c. omega (arith, c .loop-test .taken, start-of-in-loop c .pre .0))

@@ -1,8 +1,7 @@
-use Prim.Native.Nat.{ℕ, _-_}
+use Prim.Native.Nat.{ℕ}
 use mathlib.Core.Path.{refl}
 use native.Mathlib.Omega.{arith}
 use lib.ListN.{length-replicate}
-use Rattle.reader.specs.Layout.{nodesAt}
 use Rattle.resolver.proofs.Scattering.{found-start, group-done}
 use Rattle.resolver.proofs.resolve_group.Statement.{statement}
 use Rattle.resolver.proofs.resolve_group.Tie as tie
@@ -10,30 +9,16 @@ use Rattle.base.specs.Limits.{nodeLimit}
 
 -- ---- places
 
-abbrev gather-of-find-all : tie.After-find-all → tie.After-gather
-gather-of-find-all c = c .before .before .before
-
 abbrev gather-of-scatter : tie.After-scatter → tie.After-gather
-gather-of-scatter c = gather-of-find-all (c .before .before .before)
-
-gather-requires : tie.Need-gather-requires
-gather-requires c κs = let b = c .before .before in (b .pre .1 .0, omega (arith, b .pre .1 .1))
-
-find-all-requires : tie.Need-find-all-requires
-find-all-requires c κs =
-    let g = c .before .before in
-    let b = g .before .before .before in
-    (b .pre .0, (g .gather .ensures .fits, refl))
+gather-of-scatter c = let f = c .before .before .before in f .before .before .before
 
 scatter-requires : tie.Need-scatter-requires
 scatter-requires c κs =
     let f = c .before .before in
     let g = f .before .before .before in
     let b = g .before .before .before in
-    let a = b .args in
-    let s = a .s .now in
     let e = g .gather .ensures in
-    ((b .pre .1 .0, omega (arith, e .most, b .pre .1 .1), b .pre .0 .1), found-start (nodesAt (a .count) s (a .first)) s (a .at) (a .count - a .i) _ _ _ (g .gather .result) (length-replicate {A = ℕ} nodeLimit 0) e (f .find-all .ensures))
+    ((b .pre .1 .0, omega (arith, e .most, b .pre .1 .1), b .pre .0 .1), found-start (length-replicate {A = ℕ} nodeLimit 0) e (f .find-all .ensures))
 
 returns : tie.Need-returns
 returns c =
@@ -49,8 +34,8 @@ resolve-group-spec =
     (tie.spec
     (λ c. omega (arith, c .before .pre .0 .1))
     (λ c. omega (arith, c .before .pre .1 .1))
-    gather-requires
-    find-all-requires
+    (λ c κs. let b = c .before .before in (b .pre .1 .0, omega (arith, b .pre .1 .1)))
+    (λ c κs. let g = c .before .before in (g .before .before .before .pre .0, (g .gather .ensures .fits, refl)))
     scatter-requires
     (λ c.
     let g = gather-of-scatter c in

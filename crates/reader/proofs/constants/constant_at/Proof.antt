@@ -7,23 +7,13 @@ use Rattle.reader.proofs.constants.constant_at.Statement.{statement}
 use Rattle.reader.proofs.constants.constant_at.Tie as tie
 use Rattle.value.proofs.Laws.{width-else}
 
--- ---- places
-
-abbrev start-of-slice : tie.After-shared-slice-known → tie.Start
-start-of-slice c = c .before
-
-abbrev start-of-matrix-at : tie.After-matrix-at → tie.Start
-start-of-matrix-at c = start-of-slice (c .before .before .before)
-
-returns : tie.Need-returns
-returns c = ap Scalar (c .float-at .ensures) ∙ rw (c .before .if1 .taken)
-
 returns-2 : tie.Need-returns-2
 returns-2 c = ap Vector (c .vector-at .ensures) ∙ (let d = c .before .before .before in let a = d .before .args in vector-constant (a .s .now) (a .at) ∙ rw (c .before .if2 .taken))
 
 returns-3 : tie.Need-returns-3
 returns-3 c =
-    let a = start-of-matrix-at c .args in
+    let k = c .before .before .before in
+    let a = k .before .args in
     ap Matrix (c .matrix-at .ensures) ∙ other-constant (a .s .now) (a .at) (a .ty) (c .before .before .if1 .left) (c .before .if2 .left)
 
 matrix-fits : tie.Need-matrix-at-requires
@@ -38,6 +28,6 @@ constant-at-spec =
     (λ c κs. rw (c .if1 .taken) at (c .before .before .pre))
     (λ c κs. rw (c .if2 .taken) at (c .before .before .before .pre))
     matrix-fits
-    returns
+    (λ c. ap Scalar (c .float-at .ensures) ∙ rw (c .before .if1 .taken))
     returns-2
     returns-3)

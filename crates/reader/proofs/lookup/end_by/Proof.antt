@@ -10,11 +10,8 @@ use Rattle.reader.proofs.lookup.end_by.Tie as tie
 
 -- ---- places
 
-abbrev start-of-slice : tie.After-shared-slice-known → tie.Start
-start-of-slice c = c .before
-
 abbrev start-of-wide : tie.After-wide → tie.Start
-start-of-wide c = start-of-slice (c .before .before .before)
+start-of-wide c = let k = c .before .before .before in k .before
 
 ends : (b : tie.Start) → nodeEnd (b .args .s .now) (b .args .at) ≤ length (b .args .s .now)
 ends b = end-fits (b .args .s .now) (b .args .at) (b .pre .0)

@@ -18,11 +18,8 @@ abbrev μ-loop : tie.MeasureT-loop
 
 -- ---- places
 
-abbrev start-of-slice : tie.After-shared-slice-known Inv-loop μ-loop → tie.Start Inv-loop μ-loop
-start-of-slice c = c .before
-
 abbrev start-of-at : tie.After-at Inv-loop μ-loop → tie.Start Inv-loop μ-loop
-start-of-at c = start-of-slice (c .before .before .before)
+start-of-at c = let k = c .before .before .before in k .before
 
 -- the place of the function before
 place : (d : tie.After-at Inv-loop μ-loop) → let b = start-of-at d in

@@ -13,14 +13,6 @@ Inv-loop s first count index at₀ i₀ at i = (i ≤ index) × (at ≡ nodePlac
 abbrev μ-loop : tie.MeasureT-loop
 μ-loop s first count index at₀ i₀ at i = index - i
 
--- ---- places
-
-abbrev start-of-slice : tie.After-shared-slice-known Inv-loop μ-loop → tie.Start Inv-loop μ-loop
-start-of-slice c = c .before
-
-abbrev start-of-node-end : tie.After-node-end Inv-loop μ-loop → tie.Start Inv-loop μ-loop
-start-of-node-end c = start-of-slice (c .before .before .before)
-
 loop-holds : tie.Need-loop-holds Inv-loop μ-loop
 unfolding nodePlace
 loop-holds c = (omega arith, refl)
@@ -35,10 +27,9 @@ node-end-requires c κs =
 loop-again : tie.Need-loop-again Inv-loop μ-loop
 loop-again c =
     let l = c .before .before .loop in
-    let a = start-of-node-end c .args in (
-      omega arith,
-      c .node-end .ensures ∙ ap (nodeEnd (a .s .now)) (l .inv .1) ∙ sym (place-next (a .s .now) (l .i) (a .first)),
-    )
+    let k = c .before .before .before in
+    let a = k .before .args in
+    (omega arith, c .node-end .ensures ∙ ap (nodeEnd (a .s .now)) (l .inv .1) ∙ sym (place-next (a .s .now) (l .i) (a .first)))
 
 returns : tie.Need-returns Inv-loop μ-loop
 returns c =

@@ -17,18 +17,6 @@ use Rattle.reader.proofs.AsRead.{kept-absent, kept-constant, kept-refer
 use Rattle.reader.proofs.nodes.payload_at.Statement.{statement}
 use Rattle.reader.proofs.nodes.payload_at.Tie as tie
 
-abbrev start-of-told : tie.After-enum-told → tie.Start
-start-of-told c = c .before .before .before
-
-abbrev start-of-told-2 : tie.After-enum-told2 → tie.Start
-start-of-told-2 c = c .before .before .before
-
-abbrev start-of-told-3 : tie.After-enum-told3 → tie.Start
-start-of-told-3 c = c .before .before .before
-
-abbrev start-of-told-4 : tie.After-enum-told4 → tie.Start
-start-of-told-4 c = c .before .before .before
-
 -- the kind's form is the row's
 form : (b : tie.Start) (h : Form) → b .args .row .form ≡ h → formOf (kindAt (b .args .s .now) (b .args .at)) ≡ h
 form b h e = form-is (b .args .s .now) (b .args .at) (b .args .row) (b .pre .1) h e
@@ -39,17 +27,18 @@ room b = head-fits (b .args .s .now) (b .args .at) (b .pre .0)
 -- the constant's bytes fit
 constant-room : tie.Need-constant-at-requires
 constant-room c κs =
-    let b = start-of-told-2 c in
+    let b = c .before .before .before in
     let a = b .args in
     subst (λ (r : Ports). a .at + 4 + 8 * width (r .result) ≤ length (a .s .now)) (sym (b .pre .1))
     (constant-fits (a .s .now) (a .at) (b .pre .0) (form b _ (c .enum-told2 .given .1)))
 
 returns : tie.Need-returns
-returns c = let b = start-of-told c in kept-absent (b .args .s .now) (b .args .at) (form b _ (c .enum-told .given .1))
+returns c = let b = c .before .before .before in kept-absent (b .args .s .now) (b .args .at) (form b _ (c .enum-told .given .1))
 
 returns-2 : tie.Need-returns-2
 returns-2 c =
-    let b = start-of-told-2 (c .before) in
+    let d = c .before in
+    let b = d .before .before .before in
     let a = b .args in
     ap Constant (c .constant-at .ensures)
     ∙ ap (λ (r : Ports). Constant (valueOf (r .result) (constants (width (r .result)) (a .s .now) (a .at + 4)))) (b .pre .1)
@@ -57,7 +46,8 @@ returns-2 c =
 
 returns-3 : tie.Need-returns-3
 returns-3 c =
-    let b = start-of-told-3 (c .before) in
+    let d = c .before in
+    let b = d .before .before .before in
     let a = b .args in
     ap References (c .references-at .ensures .0)
     ∙ ap (λ (r : Ports). References (operandsAt (a .at) (r .operands))) (b .pre .1)
@@ -66,7 +56,7 @@ returns-3 c =
 returns-4 : tie.Need-returns-4
 returns-4 c =
     let d = c .before .before in
-    let b = start-of-told-4 d in
+    let b = d .before .before .before in
     let a = b .args in
     ap (λ (n : ℕ). Call n (c .before .arguments-at .result)) (c .callee-at .ensures)
     ∙ ap (λ (r : Reads). Call (u16 (a .s .now) (a .at + 4)) r) (c .before .arguments-at .ensures .0)
@@ -77,15 +67,15 @@ payload-at-spec =
     tie.close
     (tie.spec
     (λ c. search needs)
-    (λ c. omega (arith, room (start-of-told c)))
+    (λ c. omega (arith, room (c .before .before .before)))
     (λ c. search needs)
-    (λ c. omega (arith, room (start-of-told-2 c)))
+    (λ c. omega (arith, room (c .before .before .before)))
     constant-room
     (λ c. search needs)
-    (λ c κs. let b = start-of-told-3 c in (b .pre .0, b .pre .1, c .enum-told3 .given .1))
+    (λ c κs. let b = c .before .before .before in (b .pre .0, b .pre .1, c .enum-told3 .given .1))
     (λ c. search needs)
-    (λ c κs. let b = start-of-told-4 c in (b .pre .0, form b _ (c .enum-told4 .given .1)))
-    (λ c κs. let b = start-of-told-4 (c .before) in (b .pre .0, form b _ (c .before .enum-told4 .given .1)))
+    (λ c κs. let b = c .before .before .before in (b .pre .0, form b _ (c .enum-told4 .given .1)))
+    (λ c κs. let d = c .before in let b = d .before .before .before in (b .pre .0, form b _ (c .before .enum-told4 .given .1)))
     returns
     returns-2
     returns-3

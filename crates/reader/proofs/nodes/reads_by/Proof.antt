@@ -6,15 +6,9 @@ use Rattle.reader.proofs.AsRead.{other-reads}
 use Rattle.reader.proofs.nodes.reads_by.Statement.{statement}
 use Rattle.reader.proofs.nodes.reads_by.Tie as tie
 
-abbrev start-of-then : tie.Then1 → tie.Start
-start-of-then c = c .before .before
-
-abbrev start-of-else : tie.Else1 → tie.Start
-start-of-else c = c .before .before
-
 returns-2 : tie.Need-returns-2
 returns-2 c =
-    let b = start-of-else (c .before) in
+    let b = c .before .before .before in
     let a = b .args in
     other-reads (a .s .now) (a .at) (b .pre .0) (λ f. c .before .if1 .left (call-zero (a .s .now) (a .at) (a .bytes) (b .pre .1) f)) (c .wide .result)
     (c .wide .ensures .0 ∙ b .pre .2)
@@ -23,8 +17,8 @@ pub reads-by-spec : {M : Type 1} → statement M
 reads-by-spec =
     tie.close
     (tie.spec
-    (λ c κs. let b = start-of-then c in let a = b .args in (b .pre .0, zero-call (a .s .now) (a .at) (a .bytes) (b .pre .1) (c .if1 .taken)))
-    (λ c. let b = start-of-else c in omega (arith, head-fits (b .args .s .now) (b .args .at) (b .pre .0)))
+    (λ c κs. let b = c .before .before in let a = b .args in (b .pre .0, zero-call (a .s .now) (a .at) (a .bytes) (b .pre .1) (c .if1 .taken)))
+    (λ c. let b = c .before .before in omega (arith, head-fits (b .args .s .now) (b .args .at) (b .pre .0)))
     (λ c κs. search needs)
     (λ c. c .arguments-at .ensures .1)
     returns-2)

@@ -19,13 +19,13 @@ returns : tie.Need-returns Inv-loop μ-loop
 returns c =
     let r = c .before .before .before in
     let l = r .before .before .loop in
-    sym (l .inv ∙ functions-fault (version1 .nodeLimit) _ (l .p) (l .left) (r .before .loop-test .taken) _ _ (sym (c .before .read2 .given .1) ∙ r .read-function .ensures))
+    sym (l .inv ∙ functions-fault _ (l .p) (l .left) (r .before .loop-test .taken) (version1 .nodeLimit) _ _ (sym (c .before .read2 .given .1) ∙ r .read-function .ensures))
 
 loop-again : tie.Need-loop-again Inv-loop μ-loop
 loop-again c =
     let r = c .before .before .before in
     let l = r .before .before .loop in
-    l .inv ∙ functions-on (version1 .nodeLimit) _ (l .p) (l .left) (r .before .loop-test .taken) _ (sym (c .before .read .given .1) ∙ r .read-function .ensures)
+    l .inv ∙ functions-on _ (l .p) (l .left) (r .before .loop-test .taken) (version1 .nodeLimit) _ (sym (c .before .read .given .1) ∙ r .read-function .ensures)
 
 returns-2 : tie.Need-returns-2 Inv-loop μ-loop
 returns-2 c =

@@ -11,34 +11,20 @@ use Rattle.reader.proofs.Payloads.{refs-short, refs-good}
 use Rattle.reader.proofs.records.read_references.Statement.{statement}
 use Rattle.reader.proofs.records.read_references.Tie as tie
 
--- ---- places
-
-abbrev start-of-struct-known : tie.After-struct-known → tie.Start
-start-of-struct-known c = c .before .before
-
-abbrev start-of-enum-told : tie.After-enum-told → tie.Start
-start-of-enum-told c = start-of-struct-known (c .before .before .before)
-
-abbrev start-of-read-record : tie.After-read-record → tie.Start
-start-of-read-record c = c .before .before .before
-
-abbrev start-of-known-told : tie.After-known-told → tie.Start
-start-of-known-told c = start-of-read-record (c .before .before .before)
-
 returns : tie.Need-returns
 returns c =
-    let d = start-of-enum-told c in
+    let r = c .before .before in
+    let d = r .before .before .before in
     let a = d .args in
-    let r = c .before .before .read-record in
     ap (payloadRead (kindOf (a .kind)) (a .at))
-    (sym (refs-short (a .s .now) (a .at) (kindOf (a .kind)) (a .row .operands) (ap (λ (p : Ports). p .operands) (d .pre)) (short (a .s .now) (a .at) _ (r .result) (r .ensures) (c .enum-told .given .1))))
+    (sym (refs-short (a .s .now) (a .at) (kindOf (a .kind)) _ (ap (λ (p : Ports). p .operands) (d .pre)) (short (a .s .now) _ _ (r .read-record .ensures) (c .enum-told .given .1))))
 
 returns-2 : tie.Need-returns-2
 returns-2 c =
-    let d = start-of-known-told c in
+    let r = c .before .before .before in
+    let d = r .before .before .before in
     let a = d .args in
-    let r = c .before .before .before .read-record in
-    let (h, e) = ends (a .s .now) (a .at) _ (r .result) (c .before .end .given .0 .0) (r .ensures) (c .before .end .given .1) in
+    let (h, e) = ends (a .s .now) _ _ (r .read-record .ensures) (c .before .end .given .1) in
     ap (λ (n : ℕ). PayloadRead.Is (References (record { first = a .at; count = a .row .operands })) n) e
     ∙ sym (refs-good (a .s .now) (a .at) (kindOf (a .kind)) (a .row .operands) (ap (λ (p : Ports). p .operands) (d .pre)) h)
 

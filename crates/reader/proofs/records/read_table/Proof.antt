@@ -1,35 +1,23 @@
 use borrow.Author.Needs.{needs}
-use Prim.Native.Nat.{_≤_}
 use mathlib.Core.Path.{_≡_, ap, sym, _∙_}
-use mathlib.Core.Bool.{true}
 use native.Mathlib.Omega.{arith}
-use lib.ListN.{length}
-use Rattle.base.specs.Bytes.{u16}
-use Rattle.graph.specs.Read.{marked}
+use borrow.Author.Tests.{le-leb, lt-leb, eq-eqb, ne-eqb}
+use Rattle.base.specs.Outcome.{_>>_, need}
+use Rattle.base.proofs.Outcomes.{passes, fails}
+use Rattle.graph.specs.Format.{version1}
+use Rattle.graph.specs.Read.{marked, parse}
 use Rattle.reader.specs.Records.{seen}
-use Rattle.reader.proofs.Functions.{parse-1, parse-2, mark-0, mark-1, mark-2, mark, parse-3, parse-4, parse-none, parse-many, parse-fault, parse-good, parse-8}
+use Rattle.reader.proofs.Functions.{from-version, from-size, from-count, from-functions, functions-stop, functions-end, functions-over}
 use Rattle.reader.proofs.records.read_table.Statement.{statement}
 use Rattle.reader.proofs.records.read_table.Tie as tie
 
 -- ---- places
 
-abbrev read-functions-of-match-keys-1 : tie.At-match-keys1 → tie.After-read-functions
-read-functions-of-match-keys-1 c = c .before
-
-abbrev read-functions-of-then-9 : tie.Then9 → tie.After-read-functions
-read-functions-of-then-9 c = read-functions-of-match-keys-1 (c .before .before .before)
-
-abbrev read-functions-of-else-9 : tie.Else9 → tie.After-read-functions
-read-functions-of-else-9 c = read-functions-of-match-keys-1 (c .before .before .before)
-
 abbrev start-of-else-1 : tie.Else1 → tie.Start
 start-of-else-1 c = c .before .before
 
-abbrev start-of-slice-3 : tie.After-shared-slice-known3 → tie.Start
-start-of-slice-3 c = start-of-else-1 (c .before .before .before)
-
 abbrev start-of-else-4 : tie.Else4 → tie.Start
-start-of-else-4 c = start-of-slice-3 (c .before .before .before)
+start-of-else-4 c = let u = c .before .before .before in start-of-else-1 (u .before .before .before)
 
 abbrev start-of-else-5 : tie.Else5 → tie.Start
 start-of-else-5 c = start-of-else-4 (c .before .before)
@@ -37,106 +25,76 @@ start-of-else-5 c = start-of-else-4 (c .before .before)
 abbrev start-of-else-6 : tie.Else6 → tie.Start
 start-of-else-6 c = start-of-else-5 (c .before .before)
 
+abbrev start-of-else-8 : tie.Else8 → tie.Start
+start-of-else-8 c = start-of-else-6 (c .before .before .before)
+
+-- ---- what is left to read once the tests have passed
+
+from-mark : (c : tie.Else1) → let s = start-of-else-1 c .args .s .now in parse version1 s ≡ (need (marked s) 2 0 >> from-version s)
+from-mark c = passes _ 1 0 _ (le-leb _ _ (c .if1 .left))
+
+marked-at : (c : tie.Else4) → let s = start-of-else-4 c .args .s .now in parse version1 s ≡ from-version s
+marked-at c =
+    let n = c .before .before in
+    let m = n .before .before in
+    from-mark (m .before .before) ∙ passes _ 2 0 _ (rw (eq-eqb _ _ (m .if2 .left), eq-eqb _ _ (n .if3 .left), eq-eqb _ _ (c .if4 .left)))
+
+versioned-at : (c : tie.Else5) → let s = start-of-else-5 c .args .s .now in parse version1 s ≡ from-size s
+versioned-at c = marked-at (c .before .before) ∙ passes _ 3 3 _ (eq-eqb _ _ (sym (c .before .u16-at .ensures .0) ∙ c .if5 .left))
+
+sized-at : (c : tie.Else6) → let s = start-of-else-6 c .args .s .now in parse version1 s ≡ from-count s
+sized-at c = versioned-at (c .before .before) ∙ passes _ 4 6 _ (eq-eqb _ _ (sym (c .before .u16-at2 .ensures .0) ∙ c .if6 .left))
+
+counted-at : (c : tie.Else8) → let s = start-of-else-8 c .args .s .now in parse version1 s ≡ from-functions s
+counted-at c = sized-at (c .before .before .before) ∙ passes _ 6 5 _ (rw (le-leb _ _ (c .before .if7 .left), le-leb _ _ (c .if8 .left)))
+
+-- ---- answers
+
 returns : tie.Need-returns
-returns c = ap seen (sym (parse-1 (c .before .before .args .s .now) (c .if1 .taken)))
+returns c = ap seen (sym (fails _ 1 0 _ (lt-leb _ _ (c .if1 .taken))))
 
 returns-2 : tie.Need-returns-2
-returns-2 c =
-    let o = c .before .before in
-    let s = o .before .before .args .s .now in
-    ap seen (sym (parse-2 s (o .if1 .left) (mark-0 s (o .if1 .left) (c .if2 .taken))))
+returns-2 c = ap seen (sym (from-mark (c .before .before) ∙ fails _ 2 0 _ (rw (ne-eqb _ _ (c .if2 .taken)))))
 
 returns-3 : tie.Need-returns-3
 returns-3 c =
     let m = c .before .before in
-    let o = m .before .before in
-    let s = o .before .before .args .s .now in
-    ap seen (sym (parse-2 s (o .if1 .left) (mark-1 s (o .if1 .left) (m .if2 .left) (c .if3 .taken))))
+    ap seen (sym (from-mark (m .before .before) ∙ fails _ 2 0 _ (rw (eq-eqb _ _ (m .if2 .left), ne-eqb _ _ (c .if3 .taken)))))
 
 returns-4 : tie.Need-returns-4
 returns-4 c =
     let n = c .before .before in
     let m = n .before .before in
-    let o = m .before .before in
-    let s = o .before .before .args .s .now in
-    ap seen (sym (parse-2 s (o .if1 .left) (mark-2 s (o .if1 .left) (m .if2 .left) (n .if3 .left) (c .if4 .taken))))
-
--- eight bytes and the mark
-opened : (c : tie.Else4) → let s = start-of-else-4 c .args .s .now in (8 ≤ length s) × (marked s ≡ true)
-opened c =
-    let n = c .before .before in
-    let m = n .before .before in
-    let o = m .before .before in
-    let s = o .before .before .args .s .now in
-    (o .if1 .left, mark s (o .if1 .left) (m .if2 .left) (n .if3 .left) (c .if4 .left))
+    ap seen (sym (from-mark (m .before .before) ∙ fails _ 2 0 _ (rw (eq-eqb _ _ (m .if2 .left), eq-eqb _ _ (n .if3 .left), ne-eqb _ _ (c .if4 .taken)))))
 
 returns-5 : tie.Need-returns-5
-returns-5 c =
-    let u = c .before in
-    let e = u .before in
-    let s = start-of-else-4 e .args .s .now in
-    ap seen (sym (parse-3 s (opened e .0) (opened e .1) (λ q. c .if5 .taken (u .u16-at .ensures .0 ∙ q))))
-
--- the version and the length are right
-version : (d : tie.Else5) → u16 (start-of-else-5 d .args .s .now) 3 ≡ 1
-version d = sym (d .before .u16-at .ensures .0) ∙ d .if5 .left
+returns-5 c = let u = c .before in ap seen (sym (marked-at (u .before) ∙ fails _ 3 3 _ (ne-eqb _ _ (λ q. c .if5 .taken (u .u16-at .ensures .0 ∙ q)))))
 
 returns-6 : tie.Need-returns-6
-returns-6 c =
-    let u = c .before in
-    let d = u .before in
-    let e = d .before .before in
-    let s = start-of-else-4 e .args .s .now in
-    ap seen (sym (parse-4 s (opened e .0) (opened e .1) (version d) (λ q. c .if6 .taken (u .u16-at2 .ensures .0 ∙ q))))
-
-size : (f : tie.Else6) → let s = start-of-else-6 f .args .s .now in u16 s 6 ≡ length s
-size f = sym (f .before .u16-at2 .ensures .0) ∙ f .if6 .left
+returns-6 c = let u = c .before in ap seen (sym (versioned-at (u .before) ∙ fails _ 4 6 _ (ne-eqb _ _ (λ q. c .if6 .taken (u .u16-at2 .ensures .0 ∙ q)))))
 
 returns-7 : tie.Need-returns-7
-returns-7 c =
-    let f = c .before .before in
-    let d = f .before .before in
-    let e = d .before .before in
-    let s = start-of-else-4 e .args .s .now in
-    ap seen (sym (parse-none s (opened e .0) (opened e .1) (version d) (size f) (c .if7 .taken)))
+returns-7 c = ap seen (sym (sized-at (c .before .before) ∙ fails _ 6 5 _ (rw (lt-leb _ _ (c .if7 .taken)))))
 
 returns-8 : tie.Need-returns-8
-returns-8 c =
-    let f = c .before .before .before in
-    let d = f .before .before in
-    let e = d .before .before in
-    let s = start-of-else-4 e .args .s .now in
-    ap seen (sym (parse-many s (opened e .0) (opened e .1) (version d) (size f) (c .before .if7 .left) (c .if8 .taken)))
+returns-8 c = ap seen (sym (sized-at (c .before .before .before) ∙ fails _ 6 5 _ (rw (le-leb _ _ (c .before .if7 .left), lt-leb _ _ (c .if8 .taken)))))
 
 returns-9 : tie.Need-returns-9
 returns-9 c =
-    let r = read-functions-of-then-9 c in
-    let g = r .before in
-    let f = g .before .before .before in
-    let d = f .before .before in
-    let e = d .before .before in
-    let s = start-of-else-4 e .args .s .now in
-    sym (parse-good s (opened e .0) (opened e .1) (version d) (size f) (g .before .if7 .left) (g .if8 .left) _ (sym (c .before .before .read .given .1) ∙ r .read-functions .ensures) (c .if9 .taken))
+    let m = c .before .before .before in
+    let r = m .before in
+    sym (ap seen (counted-at (r .before)) ∙ functions-end (start-of-else-8 (r .before) .args .s .now) _ (sym (c .before .before .read .given .1) ∙ r .read-functions .ensures) (c .if9 .taken))
 
 returns-10 : tie.Need-returns-10
 returns-10 c =
-    let r = read-functions-of-else-9 c in
-    let g = r .before in
-    let f = g .before .before .before in
-    let d = f .before .before in
-    let e = d .before .before in
-    let s = start-of-else-4 e .args .s .now in
-    ap seen (sym (parse-8 s (opened e .0) (opened e .1) (version d) (size f) (g .before .if7 .left) (g .if8 .left) _ (sym (c .before .before .read .given .1) ∙ r .read-functions .ensures) (c .if9 .left)))
+    let m = c .before .before .before in
+    let r = m .before in
+    ap seen (sym (counted-at (r .before) ∙ functions-over (start-of-else-8 (r .before) .args .s .now) _ (sym (c .before .before .read .given .1) ∙ r .read-functions .ensures) (c .if9 .left)))
 
 returns-11 : tie.Need-returns-11
 returns-11 c =
     let r = c .before .before .before in
-    let g = r .before in
-    let f = g .before .before .before in
-    let d = f .before .before in
-    let e = d .before .before in
-    let s = start-of-else-4 e .args .s .now in
-    ap seen (sym (parse-fault s (opened e .0) (opened e .1) (version d) (size f) (g .before .if7 .left) (g .if8 .left) _ _ (sym (c .before .read2 .given .1) ∙ r .read-functions .ensures)))
+    ap seen (sym (counted-at (r .before) ∙ functions-stop (start-of-else-8 (r .before) .args .s .now) _ _ (sym (c .before .read2 .given .1) ∙ r .read-functions .ensures)))
 
 pub read-table-spec : {M : Type 1} → statement M
 read-table-spec =
