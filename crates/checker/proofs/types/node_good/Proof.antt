@@ -1,6 +1,7 @@
 use borrow.Author.Needs.{needs}
 use Prim.Native.Nat.{ℕ, _+_, _≤_, _<_}
-use mathlib.Core.Path.{_≡_, ap, sym, _∙_, subst}
+use mathlib.Core.Path.{_≡_, refl, ap, sym, _∙_, subst}
+use mathlib.Core.List.{[]}
 use mathlib.Core.Option.{some}
 use native.Mathlib.Omega.{arith}
 use lib.ListN.{length}
@@ -8,19 +9,19 @@ use Rattle.ports.specs.declared.Form.{Form}
 use Rattle.ports.specs.Ports.{formOf, own, types}
 use Rattle.base.specs.Outcome.{ok}
 use Rattle.base.specs.Bytes.{byte, u16}
-use Rattle.graph.specs.Look.{findFunction, reads}
+use Rattle.graph.specs.Look.{findFunction, reads, readsOf}
 use Rattle.graph.specs.Format.{version1}
 use Rattle.graph.specs.Read.{references}
 use Rattle.graph.specs.Judge.{callOk}
 use Rattle.reader.specs.declared.Seen.{Seen}
 use Rattle.reader.specs.declared.Reads.{Reads}
-use Rattle.reader.specs.Layout.{kindAt, nodeAt, nodePlace, inputsAt, functionAt, functionPlace, earlier}
+use Rattle.reader.specs.Layout.{kindAt, payloadAt, nodeAt, nodePlace, inputsAt, functionAt, functionPlace, earlier}
 use Rattle.reader.specs.Find.{ReadsNode, ReadsOf, ReadsFunction, functionFound}
 use Rattle.reader.specs.Records.{seen, operandsAt}
 use Rattle.reader.proofs.Passed.{head-fits, place-reads, function-holds, found-function, no-function, form-is}
 use Rattle.checker.specs.Answers.{nodeChecked, referencesChecked}
 use Rattle.checker.specs.Slots.{RowIs}
-use Rattle.checker.proofs.Wiring.{absent-node, constant-node, references-node, call-found, call-count, call-node}
+use Rattle.checker.proofs.Wiring.{bare-node, references-node, call-found, call-count, call-node}
 use Rattle.checker.proofs.Slotting.{few-nodes, nodes-read, row-is}
 use Rattle.checker.proofs.types.node_good.Statement.{statement}
 use Rattle.checker.proofs.types.node_good.Tie as tie
@@ -43,12 +44,6 @@ arguments-of-known-told c = c .before .before .before
 abbrev enum-told-4-of-known-told : tie.After-known-told → tie.After-enum-told4
 enum-told-4-of-known-told c = enum-told-4-of-find-function (arguments-of-known-told c .before)
 
-abbrev wide32-of-slice-2 : tie.After-shared-slice-known2 → tie.After-wide32
-wide32-of-slice-2 c = c .before
-
-abbrev wide32-of-match-keys-3 : tie.At-match-keys3 → tie.After-wide32
-wide32-of-match-keys-3 c = wide32-of-slice-2 (c .before .before .before)
-
 abbrev told-3-of-own-2 : tie.After-own2 → tie.After-enum-told3
 told-3-of-own-2 c = c .before .before
 
@@ -59,7 +54,7 @@ abbrev start : tie.After-wide32 → tie.Start
 start w = w .before .before .before
 
 small : (b : tie.Start) → b .args .i < nodeLimit
-small b = let h = few-nodes (b .args .s .now) (b .args .starts .now) (b .args .k) (b .args .f) (b .pre .0) in omega (arith, b .pre .3, h)
+small b = let h = few-nodes (b .pre .0) in omega (arith, b .pre .3, h)
 
 -- ---- the node
 
@@ -71,7 +66,7 @@ here w =
     let b = start w in
     let a = b .args in
     subst (ReadsNode (a .s .now)) (sym (place w))
-    (place-reads (a .s .now) (a .f .count) (a .i) (a .f .first) (b .pre .3) (nodes-read (a .s .now) (a .starts .now) (a .k) (a .f) (b .pre .0)))
+    (place-reads (a .s .now) (a .f .count) (a .i) (a .f .first) (b .pre .3) (nodes-read (b .pre .0)))
 
 head : (w : tie.After-wide32) → w .wide32 .result + 4 ≤ length (start w .args .s .now)
 head w = head-fits (start w .args .s .now) (w .wide32 .result) (here w)
@@ -104,19 +99,12 @@ form d h e = let w = d .before .before in form-is (start w .args .s .now) (w .wi
 
 -- ---- no references
 
-returns : tie.Need-returns
-returns c =
-    let d = c .before .before .before in
+none : (d : tie.After-ports-of) (h : Form) → d .ports-of .result .form ≡ h → let w = d .before .before in let a = start w .args in let s = a .s .now in
+    readsOf (payloadAt h (kindAt s (w .wide32 .result)) s (w .wide32 .result + 4)) ≡ [] → Seen.Passed ≡ seen (nodeChecked s (a .k) (a .f .place) (nodeAt s (nodePlace s (a .f .first) (a .i))))
+none d h e q =
     let w = d .before .before in
     let a = start w .args in
-    answer w Seen.Passed (ap seen (sym (absent-node (a .s .now) (a .k) (a .f .place) (w .wide32 .result) (form d _ (c .enum-told .given .1)))))
-
-returns-2 : tie.Need-returns-2
-returns-2 c =
-    let d = c .before .before .before in
-    let w = d .before .before in
-    let a = start w .args in
-    answer w Seen.Passed (ap seen (sym (constant-node (a .s .now) (a .k) (a .f .place) (w .wide32 .result) (form d _ (c .enum-told2 .given .1)))))
+    answer w Seen.Passed (ap seen (sym (bare-node (a .s .now) (a .k) (a .f .place) (w .wide32 .result) h (form d h e) q)))
 
 -- ---- operands
 
@@ -246,8 +234,8 @@ node-good-spec =
     (λ c. search needs)
     fits-2
     (λ c. search needs)
-    returns
-    returns-2
+    (λ c. none (c .before .before .before) _ (c .enum-told .given .1) refl)
+    (λ c. none (c .before .before .before) _ (c .enum-told2 .given .1) refl)
     returns-3
     returns-4
     returns-5)

@@ -37,7 +37,7 @@ returns c =
 
 -- the nodes that are looked through are the function's
 same : (b : tie.Start) → functionAt (b .args .s .now) (b .args .f .place) .nodes ≡ nodesAt (b .args .f .count) (b .args .s .now) (b .args .f .first)
-same b = sym (same-nodes (b .args .s .now) (b .args .starts .now) (b .args .k) (b .args .f) (b .pre .0))
+same b = sym (same-nodes (b .pre .0))
 
 told : (f : tie.After-find-node) → let b = start-of-find-node f in let a = b .args in
     f .find-node .result ≡ nodeFound 0 (u16 (a .s .now) (a .at)) (nodesAt (a .f .count) (a .s .now) (a .f .first))
@@ -52,7 +52,7 @@ found d =
     let f = d .before .before .before in
     let b = start-of-find-node f in
     let a = b .args in
-    found-node (a .s .now) (u16 (a .s .now) (a .at)) (a .f .count) (a .f .first) 0 _ _ (nodes-read (a .s .now) (a .starts .now) (a .k) (a .f) (b .pre .0))
+    found-node (a .s .now) (u16 (a .s .now) (a .at)) (a .f .count) (a .f .first) 0 _ _ (nodes-read (b .pre .0))
     (sym (told f) ∙ d .before .found .given .1)
 
 -- the reference names no input
@@ -88,7 +88,7 @@ reference-port-spec =
     (λ c. search needs)
     (λ c κs. start-of-then-1 c .pre .0 .reads)
     returns
-    (λ c κs. let b = start-of-else-1 c in nodes-read (b .args .s .now) (b .args .starts .now) (b .args .k) (b .args .f) (b .pre .0))
+    (λ c κs. let b = start-of-else-1 c in nodes-read (b .pre .0))
     (λ c. search needs)
     (λ c κs. let b = start-of-known-told c in (found c .reads, b .pre .0 .started, b .pre .0 .few))
     (λ c. search needs)

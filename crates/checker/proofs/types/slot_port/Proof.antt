@@ -49,7 +49,7 @@ reads c =
     let b = start t in
     let a = b .args in
     subst (ReadsNode (a .s .now)) (sym (place c))
-    (place-reads (a .s .now) (a .f .count) (a .i) (a .f .first) (t .if2 .taken) (nodes-read (a .s .now) (a .starts .now) (a .k) (a .f) (b .pre .0)))
+    (place-reads (a .s .now) (a .f .count) (a .i) (a .f .first) (t .if2 .taken) (nodes-read (b .pre .0)))
 
 returns-2 : tie.Need-returns-2
 returns-2 c =
@@ -84,8 +84,8 @@ slot-port-spec =
     (λ c. search needs)
     (λ c κs. start-of-then-1 c .pre .0 .reads)
     returns
-    (λ c. let b = start c in let l = few-nodes (b .args .s .now) (b .args .starts .now) (b .args .k) (b .args .f) (b .pre .0) in omega (arith, c .if2 .taken, l))
-    (λ c. let b = start c in let l = few-nodes (b .args .s .now) (b .args .starts .now) (b .args .k) (b .args .f) (b .pre .0) in omega (arith, c .if2 .taken, l))
+    (λ c. let b = start c in let l = few-nodes (b .pre .0) in omega (arith, c .if2 .taken, l))
+    (λ c. let b = start c in let l = few-nodes (b .pre .0) in omega (arith, c .if2 .taken, l))
     (λ c κs. search needs)
     (λ c κs. let b = start (c .before .before) in (reads c, b .pre .0 .started, b .pre .0 .few))
     returns-2
