@@ -10,7 +10,7 @@ use lib.Dec.{eqb}
 use lib.ListN.{length, getD, set}
 use lib.Seq.{getD-set-same, getD-set-other}
 use borrow.Author.Tests.{eq-eqb, ne-eqb}
-use Rattle.base.specs.Outcome.{Outcome, ok, fault}
+use Rattle.base.specs.Outcome.{ok, fault}
 use Rattle.base.specs.Bytes.{u16}
 use Rattle.graph.specs.Graph.{Node}
 use Rattle.graph.specs.Look.{findNode, found}

@@ -1,5 +1,5 @@
 use borrow.Author.Needs.{needs}
-use Prim.Native.Nat.{ℕ, _+_, _*_, _≤_}
+use Prim.Native.Nat.{ℕ, _+_, _*_}
 use mathlib.Core.Path.{_≡_, refl, ap, sym, _∙_, subst}
 use mathlib.Core.Option.{none}
 use mathlib.Core.List.{List, []}
@@ -10,8 +10,8 @@ use Rattle.graph.specs.Graph.{Node, Output, Function}
 use Rattle.graph.specs.Look.{findFunction}
 use Rattle.graph.specs.Format.{version1}
 use Rattle.graph.specs.Judge.{fresh, callOk}
-use Rattle.reader.specs.Layout.{nodesAt, nodeCount, nodesPlace, outputsAt, outputsPlace, functionAt, earlier}
-use Rattle.reader.specs.Find.{ReadsNodes, functionFound}
+use Rattle.reader.specs.Layout.{nodesPlace, outputsAt, outputsPlace, functionAt, earlier}
+use Rattle.reader.specs.Find.{functionFound}
 use Rattle.reader.specs.Records.{seen}
 use Rattle.reader.proofs.Passed.{Holds, function-holds, found-function, no-function}
 use Rattle.checker.specs.declared.Head.{Head}
@@ -21,7 +21,6 @@ use Rattle.checker.proofs.Slotting.{few-nodes, nodes-read, same-nodes, 
 use Rattle.checker.proofs.Whole.{seen-good, seen-fault, told-fault, Checked, judged-twice, judged-fresh, judged-calls, judged-outputs, judged-nodes, judged-loops, ready}
 use Rattle.checker.proofs.judge_function.Statement.{statement}
 use Rattle.checker.proofs.judge_function.Tie as tie
-use Rattle.base.specs.Limits.{nodeLimit}
 
 -- ---- places
 

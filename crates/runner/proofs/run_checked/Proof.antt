@@ -16,8 +16,11 @@ start p = p .before .before .before
 abbrev known : tie.After-copy → tie.After-slice-known
 known p = p .before .before .before
 
+abbrev copy-of-work : tie.After-work → tie.After-copy
+copy-of-work p = p .before
+
 abbrev copied-at : tie.After-execute-all → tie.After-copy
-copied-at p = let w = p .before .before .before in w .before
+copied-at p = copy-of-work (p .before .before .before)
 
 abbrev executed : tie.After-slice-known4 → tie.After-execute-all
 executed p = p .before .before

@@ -1,6 +1,6 @@
 use borrow.Author.Needs.{needs}
-use Prim.Native.Nat.{ℕ, _+_, _≤_, _<_}
-use mathlib.Core.Path.{_≡_, refl, ap, sym, _∙_, subst}
+use Prim.Native.Nat.{ℕ, _+_, _≤_}
+use mathlib.Core.Path.{_≡_, refl, ap, sym, _∙_}
 use mathlib.Core.Bool.{true}
 use mathlib.Core.Option.{some}
 use native.Mathlib.Omega.{arith}
@@ -14,10 +14,10 @@ use Rattle.graph.specs.Look.{findFunction}
 use Rattle.graph.specs.Judge.{callOk}
 use Rattle.graph.specs.Format.{version1}
 use Rattle.reader.specs.declared.Reads.{Reads}
-use Rattle.reader.specs.Layout.{kindAt, payloadAt, nodeAt, functionAt, functionPlace, earlier}
+use Rattle.reader.specs.Layout.{kindAt, payloadAt, nodeAt, functionAt, earlier}
 use Rattle.reader.specs.Find.{ReadsFunction, functionFound}
-use Rattle.reader.proofs.Passed.{head-fits, function-fits, found-function, no-function, form-is}
-use Rattle.checker.proofs.Calls.{no-call, call-none, call-some}
+use Rattle.reader.proofs.Passed.{head-fits, function-fits, no-function, form-is}
+use Rattle.checker.proofs.Calls.{found-callee, no-call, call-none, call-some}
 use Rattle.checker.proofs.names.call_good.Statement.{statement}
 use Rattle.checker.proofs.names.call_good.Tie as tie
 
@@ -61,20 +61,12 @@ told f =
     f .find-function .ensures ∙ ap (λ (i : ℕ). functionFound i (earlier (version1 .header) (a .s .now) (a .k))) (f .before .callee-at .ensures)
 
 -- the function that was found
-callee : (d : tie.After-known-told) → let a = start-of-call (call-of-known d) .args in
-    let g = d .before .found .given .0 in
-    (g .0 < a .k) × (g .1 .0 ≡ functionPlace (version1 .header) (a .s .now) (g .0))
-    × (findFunction (u16 (a .s .now) (a .at + 4)) (earlier (version1 .header) (a .s .now) (a .k)) ≡ some (functionAt (a .s .now) (g .1 .0)))
-callee d =
-    let f = found-arguments d .before in
-    let a = start-of-call (call-of-find f) .args in
-    found-function (version1 .header) (a .s .now) (u16 (a .s .now) (a .at + 4)) (a .k) _ _ (sym (told f) ∙ d .before .found .given .1)
+callee : (d : tie.After-known-told) → let a = start-of-call (call-of-known d) .args in let p = d .before .found .given .0 .1 .0 in
+    ReadsFunction (a .s .now) p × (findFunction (u16 (a .s .now) (a .at + 4)) (earlier (version1 .header) (a .s .now) (a .k)) ≡ some (functionAt (a .s .now) p))
+callee d = let f = found-arguments d .before in found-callee (start-of-call (call-of-find f) .pre .1) _ _ _ (sym (told f) ∙ d .before .found .given .1)
 
-callee-head : (d : tie.After-known-told) → let a = start-of-call (call-of-known d) .args in
-    d .before .found .given .0 .1 .0 + 6 ≤ length (a .s .now)
-callee-head d =
-    let b = start-of-call (call-of-known d) in
-    function-fits (b .args .s .now) _ (subst (ReadsFunction (b .args .s .now)) (sym (callee d .1)) (b .pre .1 .reads _ (callee d .0)))
+callee-head : (d : tie.After-known-told) → d .before .found .given .0 .1 .0 + 6 ≤ length (start-of-call (call-of-known d) .args .s .now)
+callee-head d = function-fits (start-of-call (call-of-known d) .args .s .now) _ (callee d .0)
 
 returns-4 : tie.Need-returns-4
 returns-4 c =
@@ -84,7 +76,7 @@ returns-4 c =
     let a = start-of-call e .args in
     let n = found-arguments d .arguments-at in
     let p = d .before .found .given .0 .1 .0 in
-    call-some (a .s .now) (a .at) _ (calls e) _ (callee d .2)
+    call-some (a .s .now) (a .at) _ (calls e) _ (callee d .1)
     ∙ ap (λ (m : ℕ). need (eqb m (byte (a .s .now) (p + 2))) 10 (a .at)) (sym (ap (λ (r : Reads). r .count) (n .ensures .0)))
     ∙ ap (λ (m : ℕ). need (eqb (n .result .count) m) 10 (a .at)) (sym (w .wide .ensures .0))
 

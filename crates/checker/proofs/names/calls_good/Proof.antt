@@ -1,5 +1,5 @@
 use borrow.Author.Needs.{needs}
-use Prim.Native.Nat.{ℕ, _+_, _-_, _≤_, _<_}
+use Prim.Native.Nat.{ℕ, _-_, _≤_, _<_}
 use mathlib.Core.Path.{_≡_, ap, sym, _∙_, subst}
 use mathlib.Core.List.{List}
 use native.Mathlib.Omega.{arith}
@@ -32,21 +32,24 @@ abbrev μ-loop : tie.MeasureT-loop
 abbrev start : tie.At-loop Inv-loop μ-loop → tie.Start Inv-loop μ-loop
 start l = l .before .before
 
+abbrev then-of : tie.After-wide32 Inv-loop μ-loop → tie.Then1 Inv-loop μ-loop
+then-of w = w .before .before
+
 abbrev at-loop : tie.After-wide32 Inv-loop μ-loop → tie.At-loop Inv-loop μ-loop
-at-loop w = let d = w .before .before in d .before .before
+at-loop w = then-of w .before .before
 
 below : (d : tie.Then1 Inv-loop μ-loop) → d .before .before .loop .j < nodeLimit
 below d = omega (arith, d .if1 .taken, start (d .before .before) .pre .1)
 
 -- the place is the node's
 place : (w : tie.After-wide32 Inv-loop μ-loop) → let a = start (at-loop w) .args in w .wide32 .result ≡ nodePlace (a .s .now) (a .f .first) (at-loop w .loop .j)
-place w = w .wide32 .ensures .0 ∙ start (at-loop w) .pre .2 (at-loop w .loop .j) (w .before .before .if1 .taken)
+place w = w .wide32 .ensures .0 ∙ start (at-loop w) .pre .2 (at-loop w .loop .j) (then-of w .if1 .taken)
 
 here : (w : tie.After-wide32 Inv-loop μ-loop) → ReadsNode (start (at-loop w) .args .s .now) (w .wide32 .result)
 here w =
     let b = start (at-loop w) in
     let a = b .args in
-    subst (ReadsNode (a .s .now)) (sym (place w)) (place-reads (a .s .now) (a .f .count) (at-loop w .loop .j) (a .f .first) (w .before .before .if1 .taken) (b .pre .0))
+    subst (ReadsNode (a .s .now)) (sym (place w)) (place-reads (a .s .now) (a .f .count) (at-loop w .loop .j) (a .f .first) (then-of w .if1 .taken) (b .pre .0))
 
 -- what was told of node j
 told : (g : tie.After-call-good Inv-loop μ-loop) → let l = at-loop (g .before) in let a = start l .args in
@@ -66,8 +69,7 @@ loop-holds c =
 
 loop-again : tie.Need-loop-again Inv-loop μ-loop
 loop-again c =
-    let w = c .before .before in
-    let d = w .before .before in
+    let d = then-of (c .before .before) in
     let l = d .before .before in
     let a = start l .args in (
       omega (arith, d .if1 .taken),
@@ -76,8 +78,7 @@ loop-again c =
 
 returns : tie.Need-returns Inv-loop μ-loop
 returns c =
-    let w = c .before .before in
-    let d = w .before .before in
+    let d = then-of (c .before .before) in
     let l = d .before .before in
     let a = start l .args in
     ap seen
@@ -102,8 +103,8 @@ calls-good-spec =
     (λ c. omega (arith, below c))
     (λ c κs. search needs)
     (λ c κs. let b = start (at-loop c) in (here c, b .pre .3, b .pre .4))
-    (λ c. let w = c .before .before in omega (arith, below (w .before .before)))
-    (λ c. let w = c .before .before in omega (arith, w .before .before .if1 .taken))
+    (λ c. omega (arith, below (then-of (c .before .before))))
+    (λ c. omega (arith, then-of (c .before .before) .if1 .taken))
     loop-again
     returns
     returns-2)

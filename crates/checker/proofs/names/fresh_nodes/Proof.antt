@@ -1,5 +1,5 @@
 use borrow.Author.Needs.{needs}
-use Prim.Native.Nat.{ℕ, _-_, _≤_, _<_}
+use Prim.Native.Nat.{_-_, _≤_, _<_}
 use mathlib.Core.Path.{_≡_, refl, ap, sym, _∙_, subst}
 use native.Mathlib.Omega.{arith}
 use lib.ListN.{length, length-set}
@@ -79,7 +79,7 @@ fresh-nodes-spec =
     (λ c κs. search needs)
     (λ c κs. omega (arith, head-fits (start (at-loop c) .args .s .now) (c .wide32 .result) (here c)))
     (λ c. omega (arith, c .u16-at .ensures .1))
-    (λ c κs. let w = c .before .before in omega (arith, below (then-of w)))
+    (λ c κs. omega (arith, below (then-of (c .before .before))))
     returns
     (λ c. omega (arith, below (then-of (inside c .before))))
     (λ c. omega (arith, below (then-of (inside c .before))))
