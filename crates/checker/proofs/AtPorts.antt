@@ -1,5 +1,5 @@
 -- The types at the ports of inputs, outputs and nodes.
-use Prim.Native.Nat.{ℕ, zero, suc, _+_, _-_, _*_, _<_, _≤_}
+use Prim.Native.Nat.{ℕ, zero, suc, _+_, _*_, _<_, _≤_}
 use mathlib.Core.Path.{_≡_, refl, ap, sym, _∙_}
 use mathlib.Core.List.{List}
 use mathlib.Core.Option.{none, some}
@@ -7,14 +7,16 @@ use native.Mathlib.Omega.{arith}
 use native.Mathlib.Nat.{not-suc-le-zero}
 use lib.ListN.{replicate, getElem?}
 use Rattle.ports.specs.declared.Form.{Form}
-use Rattle.ports.specs.declared.Form.the-variants.{Absent, Constant, References, Call}
+use Rattle.ports.specs.declared.Form.the-variants.{Call}
 use Rattle.ports.specs.declared.Ports.{Ports}
 use Rattle.ports.specs.Ports.{portsOf, formOf, gives, givesRow}
+use Rattle.ports.specs.Kinds.{kindOf}
 use Rattle.base.specs.Bytes.{byte, u16}
 use Rattle.graph.specs.Graph.{Function}
 use Rattle.graph.specs.Look.{findFunction}
 use Rattle.graph.specs.Types.{givesOf, outputsOf, outputTypes}
 use Rattle.reader.specs.Layout.{kindAt, payloadAt, nodeAt, inputsAt, outputsAt, functionAt}
+use Rattle.reader.proofs.Passed.{form-is}
 
 pub input-at : (n : ℕ) (s : List ℕ) (at i : ℕ) → i < n → getElem? (inputsAt n s at) i ≡ some (byte s (at + i))
 input-at zero s at i h = absurd (not-suc-le-zero h)
@@ -79,21 +81,13 @@ module _ (s : List ℕ) (at : ℕ) (early : List Function) where
   unfolding nodeAt
   of-form h e = ap (λ (x : Form). givesOf early (nodeAt s at) (payloadAt x (kindAt s at) s (at + 4))) e
 
-  module _ (row : Ports) (q : row ≡ portsOf (kindAt s at)) where
-    by-row : gives (kindAt s at) (byte s (at + 3)) ≡ givesRow row (byte s (at + 3))
-    by-row = ap (λ (r : Ports). givesRow r (byte s (at + 3))) (sym q)
-
-    pub absent-gives : formOf (kindAt s at) ≡ Absent → givesOf early (nodeAt s at) (nodeAt s at .payload) ≡ givesRow row (byte s (at + 3))
-    unfolding nodeAt
-    absent-gives e = of-form Absent e ∙ by-row
-
-    pub constant-gives : formOf (kindAt s at) ≡ Constant → givesOf early (nodeAt s at) (nodeAt s at .payload) ≡ givesRow row (byte s (at + 3))
-    unfolding nodeAt
-    constant-gives e = of-form Constant e ∙ by-row
-
-    pub references-give : formOf (kindAt s at) ≡ References → givesOf early (nodeAt s at) (nodeAt s at .payload) ≡ givesRow row (byte s (at + 3))
-    unfolding nodeAt
-    references-give e = of-form References e ∙ by-row
+  -- a node that is no call
+  pub row-gives :
+      (row : Ports) → row ≡ portsOf (kindAt s at) → (h : Form) → row .form ≡ h
+      → givesOf early (nodeAt s at) (payloadAt h (kindAt s at) s (at + 4)) ≡ gives (kindOf (nodeAt s at .kind)) (nodeAt s at .type)
+      → givesOf early (nodeAt s at) (nodeAt s at .payload) ≡ givesRow row (byte s (at + 3))
+  unfolding nodeAt
+  row-gives row q h e g = of-form h (form-is s at row q h e) ∙ g ∙ ap (λ (r : Ports). givesRow r (byte s (at + 3))) (sym q)
 
   pub call-gives : formOf (kindAt s at) ≡ Call → givesOf early (nodeAt s at) (nodeAt s at .payload) ≡ outputsOf (findFunction (u16 s (at + 4)) early)
   call-gives e = of-form Call e

@@ -1,47 +1,50 @@
 -- 10: a call names an earlier function, and has as many arguments as that has inputs.
 use Prim.Native.Nat.{ℕ, zero, suc, _+_, _-_, _<_}
-use mathlib.Core.Path.{_≡_, refl, ap, sym, _∙_}
+use mathlib.Core.Path.{_≡_, refl, ap, sym, _∙_, subst}
 use mathlib.Core.Bool.{Bool, true, false, _&&_}
-use mathlib.Core.List.{List}
+use mathlib.Core.List.{List, _∷_}
 use mathlib.Core.Option.{Option, none, some}
-use native.Mathlib.Omega.{arith}
-use native.Mathlib.Nat.{not-suc-le-zero}
 use lib.Dec.{eqb}
 use lib.ListN.{length}
 use Rattle.ports.specs.declared.Form.{Form}
-use Rattle.ports.specs.declared.Form.the-variants.{Absent, Constant, References, Call}
+use Rattle.ports.specs.declared.Form.the-variants.{Call}
 use Rattle.ports.specs.Ports.{formOf}
 use Rattle.base.specs.Outcome.{Outcome, ok, fault, need, each}
 use Rattle.base.specs.Bytes.{byte, u16}
 use Rattle.graph.specs.Graph.{Node, Function}
 use Rattle.graph.specs.Look.{findFunction, found}
+use Rattle.graph.specs.Format.{version1}
 use Rattle.graph.specs.Read.{references}
 use Rattle.graph.specs.Judge.{callOk}
 use Rattle.graph.specs.Types.{inputsOf}
-use Rattle.base.proofs.Outcomes.{takes, stops}
+use Rattle.base.proofs.Outcomes.{takes, stops, took}
+use Rattle.base.proofs.Numbers.{one-less}
 use Rattle.graph.proofs.Formed.{refs-length}
-use Rattle.reader.specs.Layout.{kindAt, payloadAt, nodeAt, nodeEnd, nodesAt, inputsAt, functionAt}
+use Rattle.reader.specs.Layout.{kindAt, payloadAt, nodeAt, nodesAt, nodePlace, inputsAt, functionAt, earlier}
+use Rattle.reader.specs.Find.{ReadsFunction, Started, functionFound}
+use Rattle.reader.specs.declared.Found.{Found}
+use Rattle.reader.proofs.Passed.{place-next, found-function}
 
 pub inputs-length : (n : ℕ) (s : List ℕ) (at : ℕ) → length (inputsAt n s at) ≡ n
 inputs-length zero s at = refl
 inputs-length (suc n) s at = ap suc (inputs-length n s (at + 1))
+
+-- the function that was found for an id
+pub found-callee :
+    {s starts : List ℕ} {k : ℕ} → Started s starts k → (id i p : ℕ) → functionFound id (earlier (version1 .header) s k) ≡ Found.At i p
+    → ReadsFunction s p × (findFunction id (earlier (version1 .header) s k) ≡ some (functionAt s p))
+found-callee {s} {k = k} h id i p e =
+    let (l, q, f) = found-function (version1 .header) s id k i p e in
+    (subst (ReadsFunction s) (sym q) (h .reads i l), f)
 
 module _ (s : List ℕ) (at : ℕ) (early : List Function) where
   of-form : (h : Form) → formOf (kindAt s at) ≡ h → callOk early at (nodeAt s at .payload) ≡ callOk early at (payloadAt h (kindAt s at) s (at + 4))
   unfolding nodeAt
   of-form h e = ap (λ (x : Form). callOk early at (payloadAt x (kindAt s at) s (at + 4))) e
 
-  pub call-absent : formOf (kindAt s at) ≡ Absent → callOk early at (nodeAt s at .payload) ≡ need true 10 at
+  pub no-call : (h : Form) → formOf (kindAt s at) ≡ h → callOk early at (payloadAt h (kindAt s at) s (at + 4)) ≡ ok tt → callOk early at (nodeAt s at .payload) ≡ need true 10 at
   unfolding need
-  call-absent e = of-form Absent e
-
-  pub call-constant : formOf (kindAt s at) ≡ Constant → callOk early at (nodeAt s at .payload) ≡ need true 10 at
-  unfolding need
-  call-constant e = of-form Constant e
-
-  pub call-references : formOf (kindAt s at) ≡ References → callOk early at (nodeAt s at .payload) ≡ need true 10 at
-  unfolding need
-  call-references e = of-form References e
+  no-call h e q = of-form h e ∙ q
 
   module _ (c : formOf (kindAt s at) ≡ Call) where
     pub call-none : findFunction (u16 s (at + 4)) early ≡ none → callOk early at (nodeAt s at .payload) ≡ need false 10 at
@@ -61,27 +64,35 @@ module _ (s : List ℕ) (at : ℕ) (early : List Function) where
 
 -- ---- the nodes in turn
 
-module _ (g : Node → Outcome (Unit {0})) (s : List ℕ) where
-  pub each-fault : (n at a p : ℕ) → 0 < n → g (nodeAt s at) ≡ fault a p → each g (nodesAt n s at) ≡ fault a p
+-- node j and those after it, of n from `first` on
+module _ (s : List ℕ) (first n j : ℕ) (l : j < n) where
+  pub nodes-next : nodesAt (n - j) s (nodePlace s first j) ≡ nodeAt s (nodePlace s first j) ∷ nodesAt (n - (j + 1)) s (nodePlace s first (j + 1))
   unfolding nodesAt
-  each-fault zero at a p l e = absurd (not-suc-le-zero l)
-  each-fault (suc n) at a p l e = stops _ _ a p e
+  nodes-next =
+      ap (λ (k : ℕ). nodesAt k s (nodePlace s first j)) (one-less n j l)
+      ∙ ap (λ (p : ℕ). nodeAt s (nodePlace s first j) ∷ nodesAt (n - (j + 1)) s p) (sym (place-next s j first))
 
-  pub each-on : (n at : ℕ) → 0 < n → g (nodeAt s at) ≡ ok tt → each g (nodesAt n s at) ≡ each g (nodesAt (n - 1) s (nodeEnd s at))
-  unfolding nodesAt
-  each-on zero at l e = absurd (not-suc-le-zero l)
-  each-on (suc n) at l e =
-      let m : suc n - 1 ≡ n = omega arith in
-      takes _ _ tt e ∙ ap (λ (k : ℕ). each g (nodesAt k s (nodeEnd s at))) (sym m)
+  module _ (g : Node → Outcome (Unit {0})) where
+    pub each-fault : {a p : ℕ} → g (nodeAt s (nodePlace s first j)) ≡ fault a p → each g (nodesAt (n - j) s (nodePlace s first j)) ≡ fault a p
+    each-fault e = ap (each g) nodes-next ∙ stops _ _ _ _ e
 
-  pub each-none : (n at : ℕ) → n ≡ 0 → each g (nodesAt n s at) ≡ ok tt
-  unfolding nodesAt
-  each-none n at e = rw e
+    pub each-on : g (nodeAt s (nodePlace s first j)) ≡ ok tt
+        → each g (nodesAt (n - j) s (nodePlace s first j)) ≡ each g (nodesAt (n - (j + 1)) s (nodePlace s first (j + 1)))
+    each-on e = ap (each g) nodes-next ∙ takes _ _ tt e
 
-pub need-passed : (b : Bool) (g : Outcome (Unit {0})) (n p : ℕ) → g ≡ need b n p → b ≡ true → g ≡ ok tt
-unfolding need
-need-passed b g n p e q = e ∙ rw q
+    pub each-passed : each g (nodesAt (n - j) s (nodePlace s first j)) ≡ ok tt
+        → (g (nodeAt s (nodePlace s first j)) ≡ ok tt) × (each g (nodesAt (n - (j + 1)) s (nodePlace s first (j + 1))) ≡ ok tt)
+    each-passed e = let (a, p, q) = took _ _ tt (sym (ap (each g) nodes-next) ∙ e) in (p, q)
 
-pub need-failed : (b : Bool) (g : Outcome (Unit {0})) (n p : ℕ) → g ≡ need b n p → b ≡ false → g ≡ fault n p
-unfolding need
-need-failed b g n p e q = e ∙ rw q
+pub each-none : (g : Node → Outcome (Unit {0})) (s : List ℕ) (n at : ℕ) → n ≡ 0 → each g (nodesAt n s at) ≡ ok tt
+unfolding nodesAt
+each-none g s n at e = rw e
+
+module _ (b : Bool) {g : Outcome (Unit {0})} (n p : ℕ) (e : g ≡ need b n p) where
+  pub need-passed : b ≡ true → g ≡ ok tt
+  unfolding need
+  need-passed q = e ∙ rw q
+
+  pub need-failed : b ≡ false → g ≡ fault n p
+  unfolding need
+  need-failed q = e ∙ rw q

@@ -30,7 +30,7 @@ use Rattle.base.specs.Limits.{nodeLimit, slotLimit, noNode, operandLimit}
 
 -- ---- the function that is judged
 
-module _ (s starts : List ℕ) (k : ℕ) (f : Head) (h : Scene s starts k f) where
+module _ {s starts : List ℕ} {k : ℕ} {f : Head} (h : Scene s starts k f) where
   pub few-nodes : f .count ≤ nodeLimit
   few-nodes =
       let l = function-holds s (f .place) (h .reads) .few in

@@ -37,7 +37,6 @@ use Rattle.reader.proofs.Standing.{function-read, parse-read, earlier-all}
 use Rattle.reader.proofs.Passed.{place-next, function-holds, length-earlier}
 use Rattle.resolver.proofs.Rows.{length-nodes}
 use Rattle.checker.specs.declared.Head.{Head}
-use Rattle.checker.specs.Answers.{callsChecked, outputsChecked, nodeChecked}
 use Rattle.checker.specs.Slots.{ReadsFunctions, RowsAre, Ready}
 use Rattle.base.specs.Limits.{operandLimit, functionLimit}
 use Rattle.base.proofs.Lists.{some-is}
@@ -83,22 +82,19 @@ module _ {A : Type 0} where
   seen-fault (ok a) n p e = let z : _≡_ {A = ℕ} 0 1 = cc in absurd (omega arith)
   seen-fault (fault m q) n p e = cc
 
-pub not-good : (n p : ℕ) → Seen.Refused n p ≡ Seen.Passed → ⊥
-not-good n p e = let z : _≡_ {A = ℕ} 0 1 = cc in omega arith
-
--- ---- the checks of each node
-
-module _ (g : Node → Outcome (Unit {0})) (s : List ℕ) where
-  pub each-passed :
-      (n at : ℕ) (u : Unit {0}) → 0 < n → each g (nodesAt n s at) ≡ ok u → (g (nodeAt s at) ≡ ok tt) × (each g (nodesAt (n - 1) s (nodeEnd s at)) ≡ ok tt)
-  unfolding nodesAt
-  each-passed zero at u l e = absurd (not-suc-le-zero l)
-  each-passed (suc n) at u l e =
-      let (a, p, q) = took (g (nodeAt s at)) (λ v. each g (nodesAt n s (nodeEnd s at))) u e in
-      let m : suc n - 1 ≡ n = omega arith in
-      (p, ap (λ (k : ℕ). each g (nodesAt k s (nodeEnd s at))) m ∙ q)
+-- a refusal promises nothing more
+pub told-fault : {r : Seen} {n p : ℕ} {g : Outcome (Unit {0})} {P : Type 0} → r ≡ Seen.Refused n p → g ≡ fault n p → (r ≡ seen g) × (r ≡ Seen.Passed → P)
+told-fault e q = (e ∙ ap seen (sym q), λ w. let z : _≡_ {A = ℕ} 0 1 = cc in absurd (omega arith))
 
 -- ---- a function
+
+-- all that is asked of a function before its loops
+pub record Checked (early : List Function) (f : Function) : Type 0 where
+  pub new : findFunction (f .id) early ≡ none
+  pub distinct : fresh [] (f .nodes) ≡ ok tt
+  pub calls : each (λ n. callOk early (n .place) (n .payload)) (f .nodes) ≡ ok tt
+  pub outputs : each (λ o. refOk early f (o .type) (o .ref)) (f .outputs) ≡ ok tt
+  pub nodes : each (λ n. refsOk early f (wantsOf early n (n .payload)) (reads n)) (f .nodes) ≡ ok tt
 
 module _ (early : List Function) (f : Function) where
   pub judged-twice : (g : Function) → findFunction (f .id) early ≡ some g → judge early f ≡ fault 9 (f .place)
@@ -110,25 +106,24 @@ module _ (early : List Function) (f : Function) where
         >> (each (λ o. refOk early f (o .type) (o .ref)) (f .outputs) >> (each (λ n. refsOk early f (wantsOf early n (n .payload)) (reads n)) (f .nodes) >> loopFree f))))
     begun = passes _ 9 (f .place) _ (ap (λ (o : Option Function). not (found o)) new)
 
-    pub judged-fresh : (n p : ℕ) → fresh [] (f .nodes) ≡ fault n p → judge early f ≡ fault n p
-    judged-fresh n p e = begun ∙ halts _ _ n p e
+    pub judged-fresh : {n p : ℕ} → fresh [] (f .nodes) ≡ fault n p → judge early f ≡ fault n p
+    judged-fresh e = begun ∙ halts _ _ _ _ e
 
     module _ (a : fresh [] (f .nodes) ≡ ok tt) where
-      pub judged-calls : (n p : ℕ) → each (λ n. callOk early (n .place) (n .payload)) (f .nodes) ≡ fault n p → judge early f ≡ fault n p
-      judged-calls n p e = begun ∙ (goes _ _ tt a ∙ halts _ _ n p e)
+      pub judged-calls : {n p : ℕ} → each (λ n. callOk early (n .place) (n .payload)) (f .nodes) ≡ fault n p → judge early f ≡ fault n p
+      judged-calls e = begun ∙ (goes _ _ tt a ∙ halts _ _ _ _ e)
 
       module _ (b : each (λ n. callOk early (n .place) (n .payload)) (f .nodes) ≡ ok tt) where
-        pub judged-outputs : (n p : ℕ) → each (λ o. refOk early f (o .type) (o .ref)) (f .outputs) ≡ fault n p → judge early f ≡ fault n p
-        judged-outputs n p e = begun ∙ (goes _ _ tt a ∙ (goes _ _ tt b ∙ halts _ _ n p e))
+        pub judged-outputs : {n p : ℕ} → each (λ o. refOk early f (o .type) (o .ref)) (f .outputs) ≡ fault n p → judge early f ≡ fault n p
+        judged-outputs e = begun ∙ (goes _ _ tt a ∙ (goes _ _ tt b ∙ halts _ _ _ _ e))
 
-        module _ (c : each (λ o. refOk early f (o .type) (o .ref)) (f .outputs) ≡ ok tt) where
-          pub judged-nodes :
-              (n p : ℕ) → each (λ n. refsOk early f (wantsOf early n (n .payload)) (reads n)) (f .nodes) ≡ fault n p → judge early f ≡ fault n p
-          judged-nodes n p e = begun ∙ (goes _ _ tt a ∙ (goes _ _ tt b ∙ (goes _ _ tt c ∙ halts _ _ n p e)))
+        pub judged-nodes :
+            {n p : ℕ} → each (λ o. refOk early f (o .type) (o .ref)) (f .outputs) ≡ ok tt
+            → each (λ n. refsOk early f (wantsOf early n (n .payload)) (reads n)) (f .nodes) ≡ fault n p → judge early f ≡ fault n p
+        judged-nodes c e = begun ∙ (goes _ _ tt a ∙ (goes _ _ tt b ∙ (goes _ _ tt c ∙ halts _ _ _ _ e)))
 
-          pub judged-loops :
-              each (λ n. refsOk early f (wantsOf early n (n .payload)) (reads n)) (f .nodes) ≡ ok tt → judge early f ≡ loopFree f
-          judged-loops d = begun ∙ (goes _ _ tt a ∙ (goes _ _ tt b ∙ (goes _ _ tt c ∙ goes _ _ tt d)))
+  pub judged-loops : Checked early f → judge early f ≡ loopFree f
+  judged-loops h = begun (h .new) ∙ (goes _ _ tt (h .distinct) ∙ (goes _ _ tt (h .calls) ∙ (goes _ _ tt (h .outputs) ∙ goes _ _ tt (h .nodes))))
 
 -- ---- all is known but the loops
 
@@ -150,15 +145,10 @@ module _ (s : List ℕ) (small : Bytes s) (k : ℕ) (f : Head) (ts : List ℕ) w
 
   pub ready :
       ReadsFunction s (f .place) → f .first ≡ nodesPlace s (f .place) → f .count ≡ nodeCount s (f .place)
-      → findFunction (functionAt s (f .place) .id) (earlier (version1 .header) s k) ≡ none
-      → fresh [] (functionAt s (f .place) .nodes) ≡ ok tt
-      → callsChecked s k (functionAt s (f .place)) ≡ ok tt
-      → outputsChecked s k (f .place) (functionAt s (f .place) .outputs) ≡ ok tt
-      → each (nodeChecked s k (f .place)) (functionAt s (f .place) .nodes) ≡ ok tt
-      → RowsAre s (f .place) (f .count) ts → Ready s f ts
-  ready r first count new a b c d rows =
+      → Checked (earlier (version1 .header) s k) (functionAt s (f .place)) → RowsAre s (f .place) (f .count) ts → Ready s f ts
+  ready r first count c rows =
       let fm = formed s small (f .place) r in
-      let rs = resolved-by early fn fm new tt tt tt tt a b c d in
+      let rs = resolved-by early fn fm (c .new) tt tt tt tt (c .distinct) (c .calls) (c .outputs) (c .nodes) in
       let h = function-holds s (f .place) r .few in
       let e = nodes-count s (f .place) in
       record {

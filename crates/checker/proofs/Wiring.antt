@@ -12,19 +12,20 @@ use lib.ListN.{length, getD, getElem?, drop, getD-replicate}
 use lib.Seq.{drop-cons}
 use borrow.Author.Tests.{eq-eqb, ne-eqb, eqb-true}
 use Rattle.ports.specs.declared.Form.{Form}
-use Rattle.ports.specs.declared.Form.the-variants.{Absent, Constant, References, Call}
+use Rattle.ports.specs.declared.Form.the-variants.{References, Call}
 use Rattle.ports.specs.declared.Ports.{Ports}
 use Rattle.ports.specs.Ports.{portsOf, formOf, types, takesRow}
 use Rattle.ports.proofs.Laws.{length-types}
-use Rattle.base.specs.Outcome.{ok, fault, need}
+use Rattle.base.specs.Outcome.{ok, fault, need, _>>_}
 use Rattle.base.specs.Bytes.{byte, u16}
 use Rattle.graph.specs.Graph.{Function}
-use Rattle.graph.specs.Look.{findNode, findFunction, reads, readsOf}
+use Rattle.graph.specs.Look.{findNode, findFunction, readsOf}
 use Rattle.graph.specs.Format.{version1}
 use Rattle.graph.specs.Read.{reference, references}
 use Rattle.graph.specs.Judge.{callOk, refOk}
 use Rattle.graph.specs.Types.{inputsOf, refType, wantsOf, givesOf}
 use Rattle.base.proofs.Outcomes.{takes, stops, goes, halts, needed}
+use Rattle.base.proofs.Numbers.{one-less}
 use Rattle.reader.specs.Layout.{kindAt, payloadAt, nodeAt, nodesAt, nodeCount, nodesPlace, inputsAt, outputsAt, functionAt, earlier}
 use Rattle.checker.specs.declared.PortType.{PortType}
 use Rattle.checker.specs.declared.Want.{Want}
@@ -120,39 +121,41 @@ input-type (suc n) s at (suc j) h =
 
 -- ---- several references
 
-module _ (s : List ℕ) (k f : ℕ) (ws : List ℕ) where
-  pub references-fault :
-      (n at j a p : ℕ) → 0 < n → j < length ws → refOk (earlier (version1 .header) s k) (functionAt s f) (getD ws j 0) (reference s at) ≡ fault a p
-      → referencesChecked s k f (drop j ws) (references n s at) ≡ fault a p
-  references-fault zero at j a p l h e = absurd (not-suc-le-zero l)
-  references-fault (suc n) at j a p l h e =
-      ap (λ (vs : List ℕ). referencesChecked s k f vs (references (suc n) s at)) (drop-cons ws j 0 h) ∙ halts _ _ a p e
-
-  pub references-on :
-      (n at j : ℕ) → 0 < n → j < length ws → refOk (earlier (version1 .header) s k) (functionAt s f) (getD ws j 0) (reference s at) ≡ ok tt
-      → referencesChecked s k f (drop j ws) (references n s at) ≡ referencesChecked s k f (drop (j + 1) ws) (references (n - 1) s (at + 3))
-  references-on zero at j l h e = absurd (not-suc-le-zero l)
-  references-on (suc n) at j l h e =
-      let m : suc n - 1 ≡ n = omega arith in
-      ap (λ (vs : List ℕ). referencesChecked s k f vs (references (suc n) s at)) (drop-cons ws j 0 h)
-      ∙ (goes _ _ tt e
-      ∙ (ap (λ (i : ℕ). referencesChecked s k f (drop (suc j) ws) (references i s (at + 3))) (sym m)
-      ∙ ap (λ (i : ℕ). referencesChecked s k f (drop i ws) (references (suc n - 1) s (at + 3))) (sym (add-one j))))
-
-  pub references-none : (n at j : ℕ) → length ws ≤ j → referencesChecked s k f (drop j ws) (references n s at) ≡ ok tt
-  references-none n at j h = ap (λ (vs : List ℕ). referencesChecked s k f vs (references n s at)) (past ws j h)
-    where
-      past : (vs : List ℕ) (j : ℕ) → length vs ≤ j → drop j vs ≡ []
-      past [] zero h = refl
-      past [] (suc j) h = refl
-      past (v ∷ vs) zero h = absurd (not-suc-le-zero h)
-      past (v ∷ vs) (suc j) h = past vs j (omega arith)
-
--- ---- the references of a node
-
 no-references : (s : List ℕ) (k f : ℕ) (ws : List ℕ) → referencesChecked s k f ws [] ≡ ok tt
 no-references s k f [] = refl
 no-references s k f (w ∷ ws) = refl
+
+-- the j-th of n and those after it
+module _ (s : List ℕ) (k f n : ℕ) (want : Want) (at j : ℕ) where
+  abbrev wants : List ℕ
+  wants = wantsList s n want
+
+  module _ (l : j < n) where
+    next : referencesChecked s k f (drop j wants) (references (n - j) s at)
+        ≡ (refOk (earlier (version1 .header) s k) (functionAt s f) (getD wants j 0) (reference s at) >> referencesChecked s k f (drop (j + 1) wants) (references (n - (j + 1)) s (at + 3)))
+    next =
+        let e = wants-length s n want in
+        ap (λ (m : ℕ). referencesChecked s k f (drop j wants) (references m s at)) (one-less n j l)
+        ∙ ap (λ (vs : List ℕ). referencesChecked s k f vs (references (suc (n - (j + 1))) s at))
+        (drop-cons wants j 0 (omega (arith, e, l)) ∙ ap (λ (i : ℕ). getD wants j 0 ∷ drop i wants) (sym (add-one j)))
+
+    pub references-fault :
+        {a p : ℕ} → refOk (earlier (version1 .header) s k) (functionAt s f) (getD (wantsList s n want) j 0) (reference s at) ≡ fault a p
+        → referencesChecked s k f (drop j (wantsList s n want)) (references (n - j) s at) ≡ fault a p
+    references-fault e = next ∙ halts _ _ _ _ e
+
+    pub references-on :
+        refOk (earlier (version1 .header) s k) (functionAt s f) (getD (wantsList s n want) j 0) (reference s at) ≡ ok tt
+        → referencesChecked s k f (drop j (wantsList s n want)) (references (n - j) s at)
+        ≡ referencesChecked s k f (drop (j + 1) (wantsList s n want)) (references (n - (j + 1)) s (at + 3))
+    references-on e = next ∙ goes _ _ tt e
+
+  pub references-none : n ≤ j → referencesChecked s k f (drop j (wantsList s n want)) (references (n - j) s at) ≡ ok tt
+  references-none h =
+      let z : n - j ≡ 0 = omega arith in
+      ap (λ (m : ℕ). referencesChecked s k f (drop j wants) (references m s at)) z ∙ no-references s k f (drop j wants)
+
+-- ---- the references of a node
 
 module _ (s : List ℕ) (k f at : ℕ) where
   by-form : (h : Form) → formOf (kindAt s at) ≡ h
@@ -165,15 +168,11 @@ module _ (s : List ℕ) (k f at : ℕ) where
       (readsOf (payloadAt x (kindAt s at) s (at + 4))))
       e
 
-  reads-form : (h : Form) → formOf (kindAt s at) ≡ h → reads (nodeAt s at) ≡ readsOf (payloadAt h (kindAt s at) s (at + 4))
-  unfolding nodeAt
-  reads-form h e = ap (λ (x : Form). readsOf (payloadAt x (kindAt s at) s (at + 4))) e
-
-  pub absent-node : formOf (kindAt s at) ≡ Absent → nodeChecked s k f (nodeAt s at) ≡ ok tt
-  absent-node e = by-form Absent e ∙ no-references s k f (wantsOf (earlier (version1 .header) s k) (nodeAt s at) (payloadAt Absent (kindAt s at) s (at + 4)))
-
-  pub constant-node : formOf (kindAt s at) ≡ Constant → nodeChecked s k f (nodeAt s at) ≡ ok tt
-  constant-node e = by-form Constant e
+  -- a node that reads nothing
+  pub bare-node : (h : Form) → formOf (kindAt s at) ≡ h → readsOf (payloadAt h (kindAt s at) s (at + 4)) ≡ [] → nodeChecked s k f (nodeAt s at) ≡ ok tt
+  bare-node h e q =
+      let ws = wantsOf (earlier (version1 .header) s k) (nodeAt s at) (payloadAt h (kindAt s at) s (at + 4)) in
+      by-form h e ∙ ap (referencesChecked s k f ws) q ∙ no-references s k f ws
 
   pub references-node :
       (row : Ports) → row ≡ portsOf (kindAt s at) → formOf (kindAt s at) ≡ References

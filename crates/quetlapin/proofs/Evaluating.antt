@@ -1,7 +1,7 @@
 -- An evaluation judges everything before it writes. Its refusals are those of the compiler and then of the runner, in their order: 18
 -- does not arise, since the runner reads the list that the compiler wrote. Where nothing is refused both pass, and demand 3 holds.
 use Prim.Native.Nat.{ℕ, suc, _≤_, _<_}
-use mathlib.Core.Path.{_≡_, refl, ap, sym, _∙_}
+use mathlib.Core.Path.{_≡_, ap, sym, _∙_}
 use mathlib.Core.Bool.{Bool, true, false, _&&_}
 use mathlib.Core.List.{List, [], _∷_}
 use native.Mathlib.Omega.{arith}
@@ -18,6 +18,7 @@ use Rattle.graph.specs.Graph.{Function}
 use Rattle.graph.specs.Types.{outputTypes}
 use Rattle.graph.specs.Sums.{functionWords}
 use Rattle.graph.specs.Table.{Chosen}
+use Rattle.base.proofs.Bools.{and-false}
 use Rattle.base.proofs.Outcomes.{takes, stops, passes, fails}
 use Rattle.base.proofs.Stores.{front}
 use Rattle.bytecode.specs.Answers.{Buffers, ran}
@@ -164,10 +165,6 @@ module _ (s : List ℕ) (c : ℕ) (arguments code work out : List ℕ) where
               let q = z .words in
               short
               (ap (λ (b : Bool). b && leb (widths (outputTypes (x .function .outputs))) (length out)) (lt-leb (functionWords (x .early) (x .function)) (length work) (omega arith)))
-
-          and-false : (a : Bool) → (a && false) ≡ false
-          and-false true = refl
-          and-false false = refl
 
           pub refused-out : length out < m .outputs → Says code work out (Refused 21 0)
           refused-out l =

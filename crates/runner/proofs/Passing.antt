@@ -28,7 +28,7 @@ use Rattle.runner.specs.Checks.{passedOf, endedOf, checkedOf, headerCoun
 
 -- ---- an instruction that is not read
 
-none-short : (s : List ℕ) (at result : ℕ) → length s < at + 2 → readInstruction s at result ≡ none
+pub none-short : (s : List ℕ) (at result : ℕ) → length s < at + 2 → readInstruction s at result ≡ none
 unfolding guard
 none-short s at result h = rw (lt-leb (at + 2) (length s) h)
 
@@ -37,7 +37,7 @@ unfolding guard
 guard-none true = refl
 guard-none false = refl
 
-none-high : (s : List ℕ) (at result : ℕ) → length rows ≤ byte s at → readInstruction s at result ≡ none
+pub none-high : (s : List ℕ) (at result : ℕ) → length rows ≤ byte s at → readInstruction s at result ≡ none
 unfolding guard
 none-high s at result h =
     let e : legalInstruction (kindOf (byte s at)) (byte s (at + 1)) ≡ false =
@@ -62,7 +62,7 @@ unfolding then
 after-some n s at result i e = rw e (inner (readInstructions n s (i .next) (nextWord result (i .it))) (i .it))
 
 -- what the check of one instruction tells
-wrong-is : (result : ℕ) (o : Option (Part Instruction)) → passedOf result o ≡ Refused → o ≡ none
+pub wrong-is : (result : ℕ) (o : Option (Part Instruction)) → passedOf result o ≡ Refused → o ≡ none
 unfolding passedOf
 wrong-is result none e = refl
 wrong-is result (some i) e = let z : _≡_ {A = ℕ} 0 1 = cc in absurd (omega arith)
@@ -78,15 +78,6 @@ here-is result (some i) x e =
 pub stop : (left : ℕ) (s : List ℕ) (at result : ℕ) → 0 < left → readInstruction s at result ≡ none → Refused ≡ endedOf (readInstructions left s at result)
 stop zero s at result h e = absurd (omega arith)
 stop (suc n) s at result h e = sym (after-none n s at result e)
-
-pub stop-short : (left : ℕ) (s : List ℕ) (at result : ℕ) → 0 < left → length s < at + 2 → Refused ≡ endedOf (readInstructions left s at result)
-stop-short left s at result h l = stop left s at result h (none-short s at result l)
-
-pub stop-high : (left : ℕ) (s : List ℕ) (at result : ℕ) → 0 < left → length rows ≤ byte s at → Refused ≡ endedOf (readInstructions left s at result)
-stop-high left s at result h l = stop left s at result h (none-high s at result l)
-
-pub stop-wrong : (left : ℕ) (s : List ℕ) (at result : ℕ) → 0 < left → passedOf result (readInstruction s at result) ≡ Refused → Refused ≡ endedOf (readInstructions left s at result)
-stop-wrong left s at result h e = stop left s at result h (wrong-is result (readInstruction s at result) e)
 
 pub record Stepped (left : ℕ) (s : List ℕ) (at result : ℕ) (x : Next) : Type 0 where
   pub same : endedOf (readInstructions left s at result) ≡ endedOf (readInstructions (left - 1) s (x .at) (x .result))

@@ -20,14 +20,11 @@ use Rattle.checker.proofs.check.Tie as tie
 
 -- ---- places
 
-abbrev start-of-slice : tie.After-shared-slice-known → tie.Start
-start-of-slice c = c .before
+abbrev start : tie.After-read-table → tie.Start
+start r = r .before .before
 
-abbrev start-of-enum-told : tie.After-enum-told → tie.Start
-start-of-enum-told c = start-of-slice (c .before .before .before)
-
-abbrev start-of-judge-all : tie.After-judge-all → tie.Start
-start-of-judge-all c = start-of-enum-told (c .before .before .before)
+abbrev start-of-told : tie.After-enum-told → tie.Start
+start-of-told t = start (t .before .before)
 
 -- the verdict is what 01 gives
 both : (s : List ℕ) → Bytes s → (r : Verdict) → r ≡ verdictOf (verdict s) → (r ≡ verdictOf (verdict s)) × Judged s r
@@ -36,25 +33,25 @@ both s small r e = (e, (verdict s, verdict-iff s small (verdict s) .0 refl, e))
 returns : tie.Need-returns
 returns c =
     let r = c .before .before .before in
-    let s = r .before .before .args .table .now in
+    let s = start r .args .table .now in
     both s (λ i. omega (arith, r .before .shared-slice-known .given i)) _
     (ap verdictOf (sym (unread s _ _ (sym (c .before .read .given .1) ∙ r .read-table .ensures))))
 
 -- the table was read
-read : (t : tie.After-enum-told) → Seen.Passed ≡ seen (parse version1 (start-of-enum-told t .args .table .now))
+read : (t : tie.After-enum-told) → Seen.Passed ≡ seen (parse version1 (start-of-told t .args .table .now))
 read t = sym (t .enum-told .given .1) ∙ t .before .before .read-table .ensures
 
-judged : (j : tie.After-judge-all) → let s = start-of-judge-all j .args .table .now in
+judged : (j : tie.After-judge-all) → let s = start-of-told (j .before .before .before) .args .table .now in
     j .judge-all .result ≡ seen (judgeAll [] (functionsAt (byte s 5) s (version1 .header)))
 judged j =
-    let s = start-of-judge-all j .args .table .now in
+    let s = start-of-told (j .before .before .before) .args .table .now in
     j .judge-all .ensures ∙ ap (λ (n : ℕ). seen (judgeAll [] (functionsAt n s (version1 .header)))) (j .before .wide .ensures .0)
 
 returns-2 : tie.Need-returns-2
 returns-2 c =
     let j = c .before .before in
     let t = j .before .before .before in
-    let s = start-of-enum-told t .args .table .now in
+    let s = start-of-told t .args .table .now in
     both s (λ i. omega (arith, t .before .before .before .shared-slice-known .given i)) _
     (ap (λ (n : ℕ). Verdict.Accepted n) (j .before .wide .ensures .0)
     ∙ ap verdictOf (sym (accepted s (read t) (seen-good _ (sym (c .enum-told2 .given .1) ∙ judged j)))))
@@ -63,19 +60,19 @@ returns-3 : tie.Need-returns-3
 returns-3 c =
     let j = c .before .before .before in
     let t = j .before .before .before in
-    let s = start-of-enum-told t .args .table .now in
+    let s = start-of-told t .args .table .now in
     both s (λ i. omega (arith, t .before .before .before .shared-slice-known .given i)) _
     (ap verdictOf (sym (refused s (read t) _ _ (seen-fault _ _ _ (sym (c .before .judged .given .1) ∙ judged j)))))
 
-sound : (t : tie.After-enum-told) → Whole (start-of-enum-told t .args .table .now)
+sound : (t : tie.After-enum-told) → Whole (start-of-told t .args .table .now)
 sound t =
-    let s = start-of-enum-told t .args .table .now in
+    let s = start-of-told t .args .table .now in
     whole s (λ i. omega (arith, t .before .before .before .shared-slice-known .given i)) (read t)
 
 requires : tie.Need-judge-all-requires
 requires c κs =
     let t = c .before .before in
-    let s = start-of-enum-told t .args .table .now in
+    let s = start-of-told t .args .table .now in
     let w = sound t in
     let e = c .wide .ensures .0 in
     (subst (λ (n : ℕ). ReadsFunctions n s) (sym e) (w .reads), omega (arith, e, w .few), let l = w .short in omega arith)

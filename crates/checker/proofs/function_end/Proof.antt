@@ -12,20 +12,11 @@ use Rattle.checker.proofs.function_end.Tie as tie
 
 -- ---- places
 
-abbrev then-1-of-slice-2 : tie.After-shared-slice-known2 → tie.Then1
-then-1-of-slice-2 c = c .before
+abbrev then-of : tie.After-wide → tie.Then1
+then-of d = d .before .before
 
-abbrev then-1-of-wide-2 : tie.After-wide2 → tie.Then1
-then-1-of-wide-2 c = then-1-of-slice-2 (c .before .before .before)
-
-abbrev u16-at-of-then-1 : tie.Then1 → tie.After-u16-at
-u16-at-of-then-1 c = c .before
-
-abbrev u16-at-of-slice-3 : tie.After-shared-slice-known3 → tie.After-u16-at
-u16-at-of-slice-3 c = u16-at-of-then-1 (c .before .before .before)
-
-abbrev u16-at-of-wide-2 : tie.After-wide2 → tie.After-u16-at
-u16-at-of-wide-2 c = u16-at-of-slice-3 (c .before)
+abbrev read-of : tie.After-wide2 → tie.After-u16-at
+read-of d = then-of (d .before .before) .before
 
 holds : (b : tie.Start) → Holds (b .args .s .now) (b .args .at)
 holds b = function-holds (b .args .s .now) (b .args .at) (b .pre .0)
@@ -39,16 +30,16 @@ count w = w .u16-at .ensures .0
 -- ---- no nodes
 
 -- where the nodes begin
-first : (d : tie.After-wide2) → let a = start (u16-at-of-wide-2 d) .args in
+first : (d : tie.After-wide2) → let a = start (read-of d) .args in
     a .at + 6 + d .before .before .wide .result + 4 * d .wide2 .result ≡ nodesPlace (a .s .now) (a .at)
 first d =
-    let a = start (u16-at-of-wide-2 d) .args in
+    let a = start (read-of d) .args in
     ap (λ (n : ℕ). a .at + 6 + n + 4 * d .wide2 .result) (d .before .before .wide .ensures .0)
     ∙ ap (λ (n : ℕ). a .at + 6 + byte (a .s .now) (a .at + 2) + 4 * n) (d .wide2 .ensures .0)
 
 returns : tie.Need-returns
 returns c =
-    let t = then-1-of-wide-2 c in
+    let t = then-of (c .before .before) in
     let w = t .before in
     let a = start w .args in
     first c ∙ end-none (a .s .now) (a .at) (sym (count w) ∙ t .if1 .taken)
@@ -99,10 +90,10 @@ function-end-spec =
     (λ c κs. search needs)
     (λ c. omega (arith, holds (start (c .before .before .before)) .inputs, c .wide .ensures .0))
     (λ c. omega (arith, holds (start (c .before .before .before)) .head))
-    (λ c. omega (arith, holds (start (u16-at-of-slice-3 c)) .head))
+    (λ c. omega (arith, holds (start (then-of (c .before) .before)) .head))
     (λ c κs. search needs)
     (λ c. search needs)
-    (λ c. omega (arith, holds (start (u16-at-of-wide-2 c)) .outputs, first c))
+    (λ c. omega (arith, holds (start (read-of c)) .outputs, first c))
     (λ c. search needs)
     (λ c. search needs)
     (λ c. let l = holds (start (c .before)) .few in let q = count (c .before) in let m = some c in omega (arith, l, q, m))

@@ -33,11 +33,11 @@ abbrev μ-loop : tie.MeasureT-loop
 abbrev in-loop-of-starts : tie.After-starts Inv-loop μ-loop → tie.In-loop Inv-loop μ-loop
 in-loop-of-starts c = c .before
 
-abbrev in-loop-of-judge-function : tie.After-judge-function Inv-loop μ-loop → tie.In-loop Inv-loop μ-loop
-in-loop-of-judge-function c = in-loop-of-starts (c .before .before .before)
+abbrev in-loop : tie.After-judge-function Inv-loop μ-loop → tie.In-loop Inv-loop μ-loop
+in-loop g = in-loop-of-starts (g .before .before .before)
 
-abbrev in-loop-of-enum-told : tie.After-enum-told Inv-loop μ-loop → tie.In-loop Inv-loop μ-loop
-in-loop-of-enum-told c = in-loop-of-judge-function (c .before .before)
+abbrev inside : tie.After-enum-told Inv-loop μ-loop → tie.In-loop Inv-loop μ-loop
+inside t = in-loop (t .before .before)
 
 left : (d : tie.In-loop Inv-loop μ-loop) → 0 < d .before .before .before .args .count - d .before .loop .k
 left d = omega (arith, d .loop-test .taken)
@@ -64,7 +64,7 @@ loop-holds c =
 returns : tie.Need-returns Inv-loop μ-loop
 returns c =
     let g = c .before .before .before in
-    let d = in-loop-of-judge-function g in
+    let d = in-loop g in
     let l = d .before .loop in
     let a = d .before .before .before .args in
     let s = a .s .now in
@@ -78,7 +78,7 @@ loop-again : tie.Need-loop-again Inv-loop μ-loop
 loop-again c =
     let t = c .before .before in
     let g = t .before .before in
-    let d = in-loop-of-judge-function g in
+    let d = in-loop g in
     let l = d .before .loop in
     let b = d .before .before .before in
     let a = b .args in
@@ -111,10 +111,6 @@ returns-2 c =
     let a = c .before .before .before .args in
     let z : a .count - l .k ≡ 0 = omega arith in
     ap seen (sym (rw z at (l .inv .3 .same)))
-
--- where the loop's body stood
-abbrev inside : tie.After-enum-told Inv-loop μ-loop → tie.In-loop Inv-loop μ-loop
-inside t = in-loop-of-enum-told t
 
 pub judge-all-spec : {M : Type 1} → statement M
 judge-all-spec =

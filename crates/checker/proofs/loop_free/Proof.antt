@@ -17,13 +17,11 @@ use Rattle.checker.proofs.loop_free.Statement.{statement}
 use Rattle.checker.proofs.loop_free.Tie as tie
 use Rattle.base.specs.Limits.{nodeLimit}
 
--- ---- places
+abbrev start-of-orderable : tie.After-orderable → tie.Start
+start-of-orderable d = d .before .before
 
-abbrev start-of-slice : tie.After-shared-slice-known → tie.Start
-start-of-slice c = c .before
-
-abbrev start-of-first-on-loop : tie.After-first-on-loop → tie.Start
-start-of-first-on-loop c = start-of-slice (c .before .before .before)
+abbrev start : tie.After-first-on-loop → tie.Start
+start f = start-of-orderable (f .before .before)
 
 holds : (b : tie.Start) → Holds (b .args .s .now) (b .args .f .place)
 holds b = function-holds (b .args .s .now) (b .args .f .place) (b .pre .reads)
@@ -38,7 +36,7 @@ count b = b .pre .count ∙ sym (nodes-count (b .args .s .now) (b .args .f .plac
 returns : tie.Need-returns
 returns c =
     let d = c .before in
-    let b = d .before .before in
+    let b = start-of-orderable d in
     let a = b .args in
     let q = b .pre in
     ap seen
@@ -47,14 +45,14 @@ returns c =
     (ap (λ (n : ℕ). length (indexOrder (a .targets .now) n)) (sym (count b))
     ∙ (eqb-true (length (indexOrder (a .targets .now) (a .f .count))) (a .f .count) (sym (d .orderable .ensures) ∙ c .if1 .taken) ∙ count b))))
 
-told : (f : tie.After-first-on-loop) → let b = start-of-first-on-loop f in let a = b .args in
+told : (f : tie.After-first-on-loop) → let b = start f in let a = b .args in
     f .first-on-loop .result ≡ firstOnLoop (a .targets .now) (length (functionAt (a .s .now) (a .f .place) .nodes))
-told f = let b = start-of-first-on-loop f in f .first-on-loop .ensures ∙ ap (firstOnLoop (b .args .targets .now)) (count b)
+told f = let b = start f in f .first-on-loop .ensures ∙ ap (firstOnLoop (b .args .targets .now)) (count b)
 
 place : tie.Need-node-place-requires
 place c κs =
     let f = c .before .before .before in
-    let b = start-of-first-on-loop f in
+    let b = start f in
     let a = b .args in
     let s = a .s .now in
     let l = found-at (a .targets .now) (length (functionAt s (a .f .place) .nodes)) _ (sym (told f) ∙ c .before .found .given .1) .0 in
@@ -67,7 +65,7 @@ returns-2 : tie.Need-returns-2
 returns-2 c =
     let d = c .before in
     let f = d .before .before .before in
-    let b = start-of-first-on-loop f in
+    let b = start f in
     let a = b .args in
     let s = a .s .now in
     let q = b .pre in
@@ -79,7 +77,7 @@ returns-2 c =
 returns-3 : tie.Need-returns-3
 returns-3 c =
     let f = c .before .before in
-    let b = start-of-first-on-loop f in
+    let b = start f in
     let a = b .args in
     let q = b .pre in
     ap seen (sym (nowhere-free (a .targets .now) (functionAt (a .s .now) (a .f .place)) (q .resolves) (q .own) (q .named) (sym (told f) ∙ c .enum-told .given .1)))

@@ -21,104 +21,38 @@ abbrev μ-loop : tie.MeasureT-loop
 
 -- ---- places
 
-abbrev start : tie.After-shared-slice-known Inv-loop μ-loop → tie.Start Inv-loop μ-loop
-start p = p .before
+abbrev known : tie.At-loop Inv-loop μ-loop → tie.After-shared-slice-known Inv-loop μ-loop
+known p = p .before .before .before
 
-abbrev after-shared-slice-known : tie.At-loop Inv-loop μ-loop → tie.After-shared-slice-known Inv-loop μ-loop
-after-shared-slice-known p = p .before .before .before
-
-abbrev at-loop : tie.In-loop Inv-loop μ-loop → tie.At-loop Inv-loop μ-loop
-at-loop p = p .before
-
-abbrev in-turn : tie.After-u16-at Inv-loop μ-loop → tie.In-loop Inv-loop μ-loop
-in-turn p = p .before
+abbrev start : tie.In-loop Inv-loop μ-loop → tie.Start Inv-loop μ-loop
+start p = known (p .before) .before
 
 -- ---- needs
 
-loop-holds : tie.Need-loop-holds Inv-loop μ-loop
-loop-holds c = (refl, omega arith, refl)
-
-mul-u16-at : tie.Need-mul-u16-at Inv-loop μ-loop
-mul-u16-at c =
-    let p1 = c .before in
-    let p2 = after-shared-slice-known p1 in
-    let p3 = start p2 in
-    omega (arith, c .loop-test .taken, p3 .pre .fits)
-
-add-u16-at : tie.Need-add-u16-at Inv-loop μ-loop
-add-u16-at c =
-    let p1 = c .before in
-    let p2 = after-shared-slice-known p1 in
-    let p3 = start p2 in
-    omega (arith, c .loop-test .taken, p3 .pre .fits)
-
-u16-at-requires : tie.Need-u16-at-requires Inv-loop μ-loop
-u16-at-requires c κs =
-    let p1 = c .before in
-    let p2 = after-shared-slice-known p1 in
-    let p3 = start p2 in
-    omega (arith, c .loop-test .taken, p3 .pre .fits)
-
-mul-out : tie.Need-mul-out Inv-loop μ-loop
-mul-out c = omega (arith, c .u16-at .ensures .1)
-
 shared-slice-read-out : tie.Need-shared-slice-read-out Inv-loop μ-loop
 shared-slice-read-out c =
-    let p1 = c .before in
-    let p2 = in-turn p1 in
-    let p3 = at-loop p2 in
-    let p4 = after-shared-slice-known p3 in
-    let p5 = start p4 in
-    let a = p5 .args in
-    let l = p3 .loop in
-    let e = p1 .u16-at .ensures .0 in
-    let b = address-below (a .count) (now (a .s)) (a .from) (length (now (a .work))) (l .i) (p5 .pre .below) (p2 .loop-test .taken) in
+    let p = c .before .before in
+    let a = start p .args in
+    let e = c .before .u16-at .ensures .0 in
+    let b = address-below (a .count) (now (a .s)) (a .from) (length (now (a .work))) (p .before .loop .i) (start p .pre .below) (p .loop-test .taken) in
     omega (arith, b, e)
-
-mul-out-2 : tie.Need-mul-out-2 Inv-loop μ-loop
-mul-out-2 c = search needs
-
-slice-write-out : tie.Need-slice-write-out Inv-loop μ-loop
-slice-write-out c =
-    let p1 = c .before in
-    let p2 = in-turn p1 in
-    let p3 = at-loop p2 in
-    let p4 = after-shared-slice-known p3 in
-    let p5 = start p4 in
-    omega (arith, p2 .loop-test .taken, p3 .loop .inv .2, p5 .pre .out)
-
-add-i : tie.Need-add-i Inv-loop μ-loop
-add-i c = search needs
-
-loop-less : tie.Need-loop-less Inv-loop μ-loop
-loop-less c = search needs
 
 loop-again : tie.Need-loop-again Inv-loop μ-loop
 loop-again c =
-    let p1 = c .before in
-    let p2 = in-turn p1 in
-    let p3 = at-loop p2 in
-    let p4 = after-shared-slice-known p3 in
-    let p5 = start p4 in
-    let l = p3 .loop in
-    let a = p5 .args in
+    let p = c .before .before in
+    let l = p .before .loop in
+    let a = start p .args in
     let m = now (a .work) in (
-      ap (λ (k : ℕ). set (l .out) (l .i) (wordAt m k)) (p1 .u16-at .ensures .0)
+      ap (λ (k : ℕ). set (l .out) (l .i) (wordAt m k)) (c .before .u16-at .ensures .0)
           ∙ output-more (now (a .out)) (l .out) m (now (a .s)) (a .from) (l .i) (l .inv .0),
-      omega (arith, p2 .loop-test .taken),
+      omega (arith, p .loop-test .taken),
       length-set (l .out) (l .i) _ ∙ l .inv .2,
     )
 
-same-length : tie.Need-same-length Inv-loop μ-loop
-same-length c = c .before .loop .inv .2
-
 returns : tie.Need-returns Inv-loop μ-loop
 returns c =
-    let p1 = c .before in
-    let p2 = after-shared-slice-known p1 in
-    let p3 = start p2 in
-    let l = p1 .loop in
-    let a = p3 .args in
+    let l = c .before .loop in
+    let a = known (c .before) .before .args in
     let z : l .i ≡ a .count = omega (arith, l .inv .1) in
     l .inv .0 ∙ ap (λ (k : ℕ). sets (now (a .out)) 0 (map (wordAt (now (a .work))) (addresses k (now (a .s)) (a .from)))) z
 
@@ -126,5 +60,18 @@ pub copy-outputs-spec : {M : Type 1} → statement M
 copy-outputs-spec =
     tie.close
     (tie.spec
-    Inv-loop μ-loop loop-holds mul-u16-at add-u16-at u16-at-requires mul-out shared-slice-read-out mul-out-2 slice-write-out add-i loop-less
-    loop-again same-length returns)
+    Inv-loop
+    μ-loop
+    (λ c. (refl, omega arith, refl))
+    (λ c. omega (arith, c .loop-test .taken, start c .pre .fits))
+    (λ c. omega (arith, c .loop-test .taken, start c .pre .fits))
+    (λ c κs. omega (arith, c .loop-test .taken, start c .pre .fits))
+    (λ c. omega (arith, c .u16-at .ensures .1))
+    shared-slice-read-out
+    (λ c. search needs)
+    (λ c. let p = c .before .before in omega (arith, p .loop-test .taken, p .before .loop .inv .2, start p .pre .out))
+    (λ c. search needs)
+    (λ c. search needs)
+    loop-again
+    (λ c. c .before .loop .inv .2)
+    returns)

@@ -2,6 +2,7 @@
 use borrow.Author.Needs.{needs}
 use Prim.Native.Nat.{ℕ}
 use mathlib.Core.Path.{_≡_, sym, _∙_}
+use mathlib.Core.Bool.{true}
 use mathlib.Core.List.{List}
 use native.Mathlib.Omega.{arith}
 use denote.Ref.{now}
@@ -60,8 +61,8 @@ list p = decoded _ _ (sym (entry p .check-code .ensures .0) ∙ p .counts .given
 abbrev first : tie.Else1 → tie.After-counts
 first p = formed (p .before)
 
-finite : (p : tie.After-arguments-allowed) → every argumentWord (now (start (entry (first (p .before))) .args .arguments)) ≡ p .arguments-allowed .result
-finite p = sym (p .arguments-allowed .ensures)
+finite : (e : tie.Else2) → every argumentWord (now (start (entry (first (counted e))) .args .arguments)) ≡ true
+finite e = sym (e .before .arguments-allowed .ensures) ∙ not-false _ (e .if2 .left)
 
 -- an answer, and 18 of it
 answered : (p : tie.After-check-code) {work′ out′ : List ℕ} {r : Ran} → let a = start p .args in
@@ -91,7 +92,7 @@ returns-3 c =
     let a = start (entry p) .args in
     answered (entry p)
     (refused-20 (now (a .code)) (now (a .arguments)) (now (a .work)) (now (a .out)) (list p) (d .if1 .left)
-    (finite (c .before) ∙ not-true _ (c .if2 .taken)))
+    (sym (c .before .arguments-allowed .ensures) ∙ not-true _ (c .if2 .taken)))
 
 returns-4 : tie.Need-returns-4
 returns-4 c =
@@ -100,8 +101,7 @@ returns-4 c =
     let p = first d in
     let a = start (entry p) .args in
     answered (entry p)
-    (refused-work (now (a .code)) (now (a .arguments)) (now (a .work)) (now (a .out)) (list p) (d .if1 .left)
-    (finite (e .before) ∙ not-false _ (e .if2 .left)) (c .if3 .taken))
+    (refused-work (now (a .code)) (now (a .arguments)) (now (a .work)) (now (a .out)) (list p) (d .if1 .left) (finite e) (c .if3 .taken))
 
 returns-5 : tie.Need-returns-5
 returns-5 c =
@@ -110,8 +110,7 @@ returns-5 c =
     let p = first d in
     let a = start (entry p) .args in
     answered (entry p)
-    (refused-out (now (a .code)) (now (a .arguments)) (now (a .work)) (now (a .out)) (list p) (d .if1 .left)
-    (finite (e .before) ∙ not-false _ (e .if2 .left)) (c .if4 .taken))
+    (refused-out (now (a .code)) (now (a .arguments)) (now (a .work)) (now (a .out)) (list p) (d .if1 .left) (finite e) (c .if4 .taken))
 
 run-checked-requires : tie.Need-run-checked-requires
 run-checked-requires c κs =
@@ -122,7 +121,7 @@ run-checked-requires c κs =
     record {
       formed = sym (entry p .check-code .ensures .0) ∙ p .counts .given .1;
       arguments-all = d .if1 .left;
-      allowed = finite (e .before) ∙ not-false _ (e .if2 .left);
+      allowed = finite e;
       work-room = held g .if3 .left;
       out-room = g .if4 .left;
     }
@@ -136,8 +135,7 @@ returns-6 c =
     let p = first d in
     let a = start (entry p) .args in
     answered (entry p)
-    (completed (now (a .code)) (now (a .arguments)) (now (a .work)) (now (a .out)) (list p) (d .if1 .left)
-    (finite (e .before) ∙ not-false _ (e .if2 .left)) (held g .if3 .left) (g .if4 .left) (r .run-checked .ensures .0) (r .run-checked .ensures .1))
+    (completed (now (a .code)) (now (a .arguments)) (now (a .work)) (now (a .out)) (list p) (d .if1 .left) (finite e) (held g .if3 .left) (g .if4 .left) (r .run-checked .ensures .0) (r .run-checked .ensures .1))
 
 pub run-spec : {M : Type 1} → statement M
 run-spec =

@@ -1,16 +1,16 @@
 use borrow.Author.Needs.{needs}
-use Prim.Native.Nat.{ℕ, _+_, _-_, _≤_, _<_}
+use Prim.Native.Nat.{ℕ, _-_, _≤_, _<_}
 use mathlib.Core.Path.{_≡_, ap, sym, _∙_, subst}
 use mathlib.Core.List.{List}
 use native.Mathlib.Omega.{arith}
-use Rattle.base.specs.Outcome.{Outcome, each}
+use Rattle.base.specs.Outcome.{Outcome, need, each}
 use Rattle.graph.specs.Graph.{Node}
 use Rattle.graph.specs.Judge.{callOk}
 use Rattle.graph.specs.Format.{version1}
-use Rattle.reader.specs.Layout.{nodeAt, nodesAt, nodeEnd, nodePlace, earlier}
+use Rattle.reader.specs.Layout.{nodeAt, nodesAt, nodePlace, earlier}
 use Rattle.reader.specs.Find.{ReadsNode}
 use Rattle.reader.specs.Records.{seen}
-use Rattle.reader.proofs.Passed.{place-reads, place-next}
+use Rattle.reader.proofs.Passed.{place-reads}
 use Rattle.checker.proofs.Calls.{each-fault, each-on, each-none, need-passed, need-failed}
 use Rattle.checker.proofs.names.calls_good.Statement.{statement}
 use Rattle.checker.proofs.names.calls_good.Tie as tie
@@ -29,40 +29,36 @@ abbrev μ-loop : tie.MeasureT-loop
 
 -- ---- places
 
-abbrev start-of-slice : tie.After-shared-slice-known Inv-loop μ-loop → tie.Start Inv-loop μ-loop
-start-of-slice c = c .before
+abbrev start : tie.At-loop Inv-loop μ-loop → tie.Start Inv-loop μ-loop
+start l = l .before .before
 
-abbrev start-of-then-1 : tie.Then1 Inv-loop μ-loop → tie.Start Inv-loop μ-loop
-start-of-then-1 c = start-of-slice (c .before .before .before)
+abbrev then-of : tie.After-wide32 Inv-loop μ-loop → tie.Then1 Inv-loop μ-loop
+then-of w = w .before .before
 
-abbrev start-of-else-1 : tie.Else1 Inv-loop μ-loop → tie.Start Inv-loop μ-loop
-start-of-else-1 c = start-of-slice (c .before .before .before)
-
-abbrev then-1-of-wide32-arg : tie.After-wide32-arg Inv-loop μ-loop → tie.Then1 Inv-loop μ-loop
-then-1-of-wide32-arg c = c .before
-
-abbrev then-1-of-then-2 : tie.Then2 Inv-loop μ-loop → tie.Then1 Inv-loop μ-loop
-then-1-of-then-2 c = then-1-of-wide32-arg (c .before .before .before)
-
-abbrev start : tie.Then1 Inv-loop μ-loop → tie.Start Inv-loop μ-loop
-start d = start-of-then-1 d
-
-left : (d : tie.Then1 Inv-loop μ-loop) → 0 < start d .args .f .count - d .before .before .loop .j
-left d = omega (arith, d .if1 .taken)
+abbrev at-loop : tie.After-wide32 Inv-loop μ-loop → tie.At-loop Inv-loop μ-loop
+at-loop w = then-of w .before .before
 
 below : (d : tie.Then1 Inv-loop μ-loop) → d .before .before .loop .j < nodeLimit
-below d = omega (arith, d .if1 .taken, start d .pre .1)
+below d = omega (arith, d .if1 .taken, start (d .before .before) .pre .1)
 
 -- the place is the node's
-place : (w : tie.After-wide32 Inv-loop μ-loop) → let d = w .before .before in let a = start d .args in
-    w .wide32 .result ≡ nodePlace (a .s .now) (a .f .first) (d .before .before .loop .j)
-place w = let d = w .before .before in w .wide32 .ensures .0 ∙ start d .pre .2 (d .before .before .loop .j) (d .if1 .taken)
+place : (w : tie.After-wide32 Inv-loop μ-loop) → let a = start (at-loop w) .args in w .wide32 .result ≡ nodePlace (a .s .now) (a .f .first) (at-loop w .loop .j)
+place w = w .wide32 .ensures .0 ∙ start (at-loop w) .pre .2 (at-loop w .loop .j) (then-of w .if1 .taken)
 
-here : (w : tie.After-wide32 Inv-loop μ-loop) → ReadsNode (start (w .before .before) .args .s .now) (w .wide32 .result)
+here : (w : tie.After-wide32 Inv-loop μ-loop) → ReadsNode (start (at-loop w) .args .s .now) (w .wide32 .result)
 here w =
-    let d = w .before .before in
-    let a = start d .args in
-    subst (ReadsNode (a .s .now)) (sym (place w)) (place-reads (a .s .now) (a .f .count) (d .before .before .loop .j) (a .f .first) (d .if1 .taken) (start d .pre .0))
+    let b = start (at-loop w) in
+    let a = b .args in
+    subst (ReadsNode (a .s .now)) (sym (place w)) (place-reads (a .s .now) (a .f .count) (at-loop w .loop .j) (a .f .first) (then-of w .if1 .taken) (b .pre .0))
+
+-- what was told of node j
+told : (g : tie.After-call-good Inv-loop μ-loop) → let l = at-loop (g .before) in let a = start l .args in
+    test (a .s .now) (a .k) (nodeAt (a .s .now) (nodePlace (a .s .now) (a .f .first) (l .loop .j))) ≡ need (g .call-good .result) 10 (g .before .wide32 .result)
+unfolding nodeAt
+told g =
+    let a = start (at-loop (g .before)) .args in
+    let s = a .s .now in
+    subst (λ (p : ℕ). callOk (earlier (version1 .header) s (a .k)) p (nodeAt s p .payload) ≡ need (g .call-good .result) 10 (g .before .wide32 .result)) (place (g .before)) (g .call-good .ensures)
 
 loop-holds : tie.Need-loop-holds Inv-loop μ-loop
 unfolding nodePlace
@@ -71,54 +67,30 @@ loop-holds c =
     let z : a .f .count - 0 ≡ a .f .count = omega arith in
     (omega arith, ap (λ (n : ℕ). each (test (a .s .now) (a .k)) (nodesAt n (a .s .now) (a .f .first))) (sym z))
 
--- the whole, from this node on
-rest : (w : tie.After-wide32 Inv-loop μ-loop) → let d = w .before .before in let a = start d .args in let l = d .before .before .loop in
-    each (test (a .s .now) (a .k)) (nodesAt (a .f .count) (a .s .now) (a .f .first)) ≡ each (test (a .s .now) (a .k)) (nodesAt (a .f .count - l .j) (a .s .now) (w .wide32 .result))
-rest w =
-    let d = w .before .before in
-    let a = start d .args in
-    let l = d .before .before .loop in
-    l .inv .1 ∙ ap (λ (p : ℕ). each (test (a .s .now) (a .k)) (nodesAt (a .f .count - l .j) (a .s .now) p)) (sym (place w))
-
 loop-again : tie.Need-loop-again Inv-loop μ-loop
-unfolding nodeAt
 loop-again c =
-    let g = c .before in
-    let w = g .before in
-    let d = w .before .before in
-    let l = d .before .before .loop in
-    let a = start d .args in
-    let s = a .s .now in
-    let n = a .f .count - l .j in
-    let m : n - 1 ≡ a .f .count - (l .j + 1) = omega arith in
-    let e : nodeEnd s (w .wide32 .result) ≡ nodePlace s (a .f .first) (l .j + 1) = ap (nodeEnd s) (place w) ∙ sym (place-next s (l .j) (a .f .first)) in (
+    let d = then-of (c .before .before) in
+    let l = d .before .before in
+    let a = start l .args in (
       omega (arith, d .if1 .taken),
-      rest w
-          ∙ each-on (test s (a .k)) s n (w .wide32 .result) (left d) (need-passed _ _ 10 (w .wide32 .result) (g .call-good .ensures) (c .if2 .taken))
-          ∙ ap (λ (i : ℕ). each (test s (a .k)) (nodesAt i s (nodeEnd s (w .wide32 .result)))) m
-          ∙ ap (λ (p : ℕ). each (test s (a .k)) (nodesAt (a .f .count - (l .j + 1)) s p)) e,
+      l .loop .inv .1 ∙ each-on (a .s .now) (a .f .first) (a .f .count) (l .loop .j) (d .if1 .taken) (test (a .s .now) (a .k)) (need-passed _ 10 _ (told (c .before)) (c .if2 .taken)),
     )
 
 returns : tie.Need-returns Inv-loop μ-loop
-unfolding nodeAt
 returns c =
-    let g = c .before in
-    let w = g .before in
-    let d = w .before .before in
-    let l = d .before .before .loop in
-    let a = start d .args in
-    let s = a .s .now in
+    let d = then-of (c .before .before) in
+    let l = d .before .before in
+    let a = start l .args in
     ap seen
     (sym
-    (rest w
-    ∙ each-fault (test s (a .k)) s (a .f .count - l .j) (w .wide32 .result) 10 (w .wide32 .result) (left d)
-    (need-failed _ _ 10 (w .wide32 .result) (g .call-good .ensures) (c .if2 .left))))
+    (l .loop .inv .1
+    ∙ each-fault (a .s .now) (a .f .first) (a .f .count) (l .loop .j) (d .if1 .taken) (test (a .s .now) (a .k)) (need-failed _ 10 _ (told (c .before)) (c .if2 .left))))
 
 returns-2 : tie.Need-returns-2 Inv-loop μ-loop
 returns-2 c =
-    let l = c .before .before .loop in
-    let a = start-of-else-1 c .args in
-    ap seen (sym (l .inv .1 ∙ each-none (test (a .s .now) (a .k)) (a .s .now) (a .f .count - l .j) _ (omega (arith, c .if1 .left))))
+    let l = c .before .before in
+    let a = start l .args in
+    ap seen (sym (l .loop .inv .1 ∙ each-none (test (a .s .now) (a .k)) (a .s .now) (a .f .count - l .loop .j) _ (omega (arith, c .if1 .left))))
 
 pub calls-good-spec : {M : Type 1} → statement M
 calls-good-spec =
@@ -130,9 +102,9 @@ calls-good-spec =
     (λ c. omega (arith, below c))
     (λ c. omega (arith, below c))
     (λ c κs. search needs)
-    (λ c κs. let b = start (c .before .before) in (here c, b .pre .3, b .pre .4))
-    (λ c. omega (arith, below (then-1-of-then-2 c)))
-    (λ c. omega (arith, then-1-of-then-2 c .if1 .taken))
+    (λ c κs. let b = start (at-loop c) in (here c, b .pre .3, b .pre .4))
+    (λ c. omega (arith, below (then-of (c .before .before))))
+    (λ c. omega (arith, then-of (c .before .before) .if1 .taken))
     loop-again
     returns
     returns-2)

@@ -10,16 +10,8 @@ use Rattle.checker.proofs.AtPorts.{input-port-at, input-port-none}
 use Rattle.checker.proofs.types.input_port.Statement.{statement}
 use Rattle.checker.proofs.types.input_port.Tie as tie
 
--- ---- places
-
-abbrev start-of-slice : tie.After-shared-slice-known → tie.Start
-start-of-slice c = c .before
-
-abbrev start-of-wide : tie.After-wide → tie.Start
-start-of-wide c = start-of-slice (c .before .before .before)
-
-abbrev start-of-slice-3 : tie.After-shared-slice-known3 → tie.Start
-start-of-slice-3 c = start-of-wide (c .before)
+abbrev start : tie.Then1 → tie.Start
+start t = t .before .before .before
 
 head : (d : tie.Start) → Holds (d .args .s .now) (d .args .at)
 head d = function-holds (d .args .s .now) (d .args .at) (d .pre)
@@ -28,7 +20,7 @@ returns : tie.Need-returns
 returns c =
     let z = c .before in
     let t = z .before in
-    let a = t .before .before .before .args in
+    let a = start t .args in
     ap (λ (n : ℕ). PortType.Is (byte (a .s .now) (a .at + 6 + n))) (z .wide .ensures .0)
     ∙ ap portOf (sym (input-port-at (a .s .now) (a .at) (a .port) (t .if1 .taken)))
 
@@ -43,7 +35,7 @@ input-port-spec =
     (λ c. omega (arith, head (c .before .before) .head))
     (λ c. omega (arith, head (c .before .before .before) .head))
     (λ c κs. search needs)
-    (λ c. omega (arith, head (start-of-wide c) .inputs, c .before .if1 .taken, c .wide .ensures .0))
-    (λ c. omega (arith, head (start-of-slice-3 c) .inputs, c .before .before .if1 .taken, c .before .wide .ensures .0))
+    (λ c. omega (arith, head (start (c .before)) .inputs, c .before .if1 .taken, c .wide .ensures .0))
+    (λ c. omega (arith, head (start (c .before .before)) .inputs, c .before .before .if1 .taken, c .before .wide .ensures .0))
     returns
     returns-2)

@@ -1,6 +1,7 @@
 use borrow.Author.Needs.{needs}
 use Prim.Native.Nat.{ℕ, _+_, _≤_, _<_}
-use mathlib.Core.Path.{_≡_, ap, sym, _∙_, subst}
+use mathlib.Core.Path.{_≡_, refl, ap, sym, _∙_, subst}
+use mathlib.Core.List.{[]}
 use mathlib.Core.Option.{some}
 use native.Mathlib.Omega.{arith}
 use lib.ListN.{length}
@@ -8,19 +9,20 @@ use Rattle.ports.specs.declared.Form.{Form}
 use Rattle.ports.specs.Ports.{formOf, own, types}
 use Rattle.base.specs.Outcome.{ok}
 use Rattle.base.specs.Bytes.{byte, u16}
-use Rattle.graph.specs.Look.{findFunction, reads}
+use Rattle.graph.specs.Look.{findFunction, reads, readsOf}
 use Rattle.graph.specs.Format.{version1}
 use Rattle.graph.specs.Read.{references}
 use Rattle.graph.specs.Judge.{callOk}
 use Rattle.reader.specs.declared.Seen.{Seen}
 use Rattle.reader.specs.declared.Reads.{Reads}
-use Rattle.reader.specs.Layout.{kindAt, nodeAt, nodePlace, inputsAt, functionAt, functionPlace, earlier}
+use Rattle.reader.specs.Layout.{kindAt, payloadAt, nodeAt, nodePlace, inputsAt, functionAt, earlier}
 use Rattle.reader.specs.Find.{ReadsNode, ReadsOf, ReadsFunction, functionFound}
 use Rattle.reader.specs.Records.{seen, operandsAt}
-use Rattle.reader.proofs.Passed.{head-fits, place-reads, function-holds, found-function, no-function, form-is}
+use Rattle.reader.proofs.Passed.{head-fits, place-reads, function-holds, no-function, form-is}
 use Rattle.checker.specs.Answers.{nodeChecked, referencesChecked}
 use Rattle.checker.specs.Slots.{RowIs}
-use Rattle.checker.proofs.Wiring.{absent-node, constant-node, references-node, call-found, call-count, call-node}
+use Rattle.checker.proofs.Wiring.{bare-node, references-node, call-found, call-count, call-node}
+use Rattle.checker.proofs.Calls.{found-callee}
 use Rattle.checker.proofs.Slotting.{few-nodes, nodes-read, row-is}
 use Rattle.checker.proofs.types.node_good.Statement.{statement}
 use Rattle.checker.proofs.types.node_good.Tie as tie
@@ -28,26 +30,11 @@ use Rattle.base.specs.Limits.{nodeLimit}
 
 -- ---- places
 
-abbrev wide32-of-ports-of : tie.After-ports-of → tie.After-wide32
-wide32-of-ports-of c = c .before .before
+abbrev start : tie.After-wide32 → tie.Start
+start w = w .before .before .before
 
-abbrev wide32-of-enum-told-4 : tie.After-enum-told4 → tie.After-wide32
-wide32-of-enum-told-4 c = wide32-of-ports-of (c .before .before .before)
-
-abbrev enum-told-4-of-find-function : tie.After-find-function → tie.After-enum-told4
-enum-told-4-of-find-function c = c .before .before
-
-abbrev arguments-of-known-told : tie.After-known-told → tie.After-arguments-at
-arguments-of-known-told c = c .before .before .before
-
-abbrev enum-told-4-of-known-told : tie.After-known-told → tie.After-enum-told4
-enum-told-4-of-known-told c = enum-told-4-of-find-function (arguments-of-known-told c .before)
-
-abbrev wide32-of-slice-2 : tie.After-shared-slice-known2 → tie.After-wide32
-wide32-of-slice-2 c = c .before
-
-abbrev wide32-of-match-keys-3 : tie.At-match-keys3 → tie.After-wide32
-wide32-of-match-keys-3 c = wide32-of-slice-2 (c .before .before .before)
+abbrev place-of : tie.After-ports-of → tie.After-wide32
+place-of c = c .before .before
 
 abbrev told-3-of-own-2 : tie.After-own2 → tie.After-enum-told3
 told-3-of-own-2 c = c .before .before
@@ -55,11 +42,20 @@ told-3-of-own-2 c = c .before .before
 abbrev row-of-told-3 : tie.After-enum-told3 → tie.After-ports-of
 row-of-told-3 c = c .before .before .before
 
-abbrev start : tie.After-wide32 → tie.Start
-start w = w .before .before .before
+abbrev place-of-call : tie.After-enum-told4 → tie.After-wide32
+place-of-call t = place-of (t .before .before .before)
+
+abbrev call-of-find : tie.After-find-function → tie.After-enum-told4
+call-of-find c = c .before .before
+
+abbrev found-arguments : tie.After-known-told → tie.After-arguments-at
+found-arguments c = c .before .before .before
+
+abbrev call-of-known : tie.After-known-told → tie.After-enum-told4
+call-of-known c = call-of-find (found-arguments c .before)
 
 small : (b : tie.Start) → b .args .i < nodeLimit
-small b = let h = few-nodes (b .args .s .now) (b .args .starts .now) (b .args .k) (b .args .f) (b .pre .0) in omega (arith, b .pre .3, h)
+small b = let h = few-nodes (b .pre .0) in omega (arith, b .pre .3, h)
 
 -- ---- the node
 
@@ -71,7 +67,7 @@ here w =
     let b = start w in
     let a = b .args in
     subst (ReadsNode (a .s .now)) (sym (place w))
-    (place-reads (a .s .now) (a .f .count) (a .i) (a .f .first) (b .pre .3) (nodes-read (a .s .now) (a .starts .now) (a .k) (a .f) (b .pre .0)))
+    (place-reads (a .s .now) (a .f .count) (a .i) (a .f .first) (b .pre .3) (nodes-read (b .pre .0)))
 
 head : (w : tie.After-wide32) → w .wide32 .result + 4 ≤ length (start w .args .s .now)
 head w = head-fits (start w .args .s .now) (w .wide32 .result) (here w)
@@ -104,25 +100,18 @@ form d h e = let w = d .before .before in form-is (start w .args .s .now) (w .wi
 
 -- ---- no references
 
-returns : tie.Need-returns
-returns c =
-    let d = c .before .before .before in
+none : (d : tie.After-ports-of) (h : Form) → d .ports-of .result .form ≡ h → let w = d .before .before in let a = start w .args in let s = a .s .now in
+    readsOf (payloadAt h (kindAt s (w .wide32 .result)) s (w .wide32 .result + 4)) ≡ [] → Seen.Passed ≡ seen (nodeChecked s (a .k) (a .f .place) (nodeAt s (nodePlace s (a .f .first) (a .i))))
+none d h e q =
     let w = d .before .before in
     let a = start w .args in
-    answer w Seen.Passed (ap seen (sym (absent-node (a .s .now) (a .k) (a .f .place) (w .wide32 .result) (form d _ (c .enum-told .given .1)))))
-
-returns-2 : tie.Need-returns-2
-returns-2 c =
-    let d = c .before .before .before in
-    let w = d .before .before in
-    let a = start w .args in
-    answer w Seen.Passed (ap seen (sym (constant-node (a .s .now) (a .k) (a .f .place) (w .wide32 .result) (form d _ (c .enum-told2 .given .1)))))
+    answer w Seen.Passed (ap seen (sym (bare-node (a .s .now) (a .k) (a .f .place) (w .wide32 .result) h (form d h e) q)))
 
 -- ---- operands
 
 fits : tie.Need-references-good-requires
 fits c κs =
-    let w = wide32-of-ports-of (row-of-told-3 (told-3-of-own-2 (c .before))) in
+    let w = place-of (row-of-told-3 (told-3-of-own-2 (c .before))) in
     let b = start w in
     let o = c .references-at .ensures .1 in
     (b .pre .0, b .pre .1, tt, o .fits, o .few, small b, row w (c .references-at .result) o)
@@ -134,7 +123,7 @@ returns-3 c =
     let o1 = o2 .before in
     let t = told-3-of-own-2 o2 in
     let d = row-of-told-3 t in
-    let w = wide32-of-ports-of d in
+    let w = place-of d in
     let a = start w .args in
     let s = a .s .now in
     let at = w .wide32 .result in
@@ -150,48 +139,36 @@ returns-3 c =
 
 -- ---- arguments
 
-abbrev wide-of : tie.After-enum-told4 → tie.After-wide32
-wide-of t = wide32-of-enum-told-4 t
-
-calls : (t : tie.After-enum-told4) → formOf (kindAt (start (wide-of t) .args .s .now) (wide-of t .wide32 .result)) ≡ Form.Call
+calls : (t : tie.After-enum-told4) → formOf (kindAt (start (place-of-call t) .args .s .now) (place-of-call t .wide32 .result)) ≡ Form.Call
 calls t = form (t .before .before .before) _ (t .enum-told4 .given .1)
 
-told : (f : tie.After-find-function) → let w = wide-of (f .before .before) in let a = start w .args in
+told : (f : tie.After-find-function) → let w = place-of-call (call-of-find f) in let a = start w .args in
     f .find-function .result ≡ functionFound (u16 (a .s .now) (w .wide32 .result + 4)) (earlier (version1 .header) (a .s .now) (a .k))
 told f =
-    let a = start (wide-of (f .before .before)) .args in
+    let a = start (place-of-call (call-of-find f)) .args in
     f .find-function .ensures ∙ ap (λ (i : ℕ). functionFound i (earlier (version1 .header) (a .s .now) (a .k))) (f .before .callee-at .ensures)
 
 -- the function that was found
-callee : (d : tie.After-known-told) → let w = wide-of (enum-told-4-of-known-told d) in let a = start w .args in
-    let g = d .before .found .given .0 in
-    (g .0 < a .k) × (g .1 .0 ≡ functionPlace (version1 .header) (a .s .now) (g .0))
-    × (findFunction (u16 (a .s .now) (w .wide32 .result + 4)) (earlier (version1 .header) (a .s .now) (a .k)) ≡ some (functionAt (a .s .now) (g .1 .0)))
-callee d =
-    let f = arguments-of-known-told d .before in
-    let w = wide-of (f .before .before) in
-    let a = start w .args in
-    found-function (version1 .header) (a .s .now) (u16 (a .s .now) (w .wide32 .result + 4)) (a .k) _ _ (sym (told f) ∙ d .before .found .given .1)
+callee : (d : tie.After-known-told) → let w = place-of-call (call-of-known d) in let a = start w .args in let p = d .before .found .given .0 .1 .0 in
+    ReadsFunction (a .s .now) p × (findFunction (u16 (a .s .now) (w .wide32 .result + 4)) (earlier (version1 .header) (a .s .now) (a .k)) ≡ some (functionAt (a .s .now) p))
+callee d = let f = found-arguments d .before in found-callee (start (place-of-call (call-of-find f)) .pre .0 .started) _ _ _ (sym (told f) ∙ d .before .found .given .1)
 
 -- its inputs fit, and are as many as the arguments
-inputs : (d : tie.After-known-told) → let w = wide-of (enum-told-4-of-known-told d) in let s = start w .args .s .now in
+inputs : (d : tie.After-known-told) → let w = place-of-call (call-of-known d) in let s = start w .args .s .now in
     d .before .found .given .0 .1 .0 + 6 + byte s (w .wide32 .result + 4 + 2) ≤ length s
 inputs d =
-    let t = enum-told-4-of-known-told d in
-    let w = wide-of t in
-    let b = start w in
-    let a = b .args in
-    let s = a .s .now in
-    let p = d .before .found .given .0 .1 .0 in
-    let h = function-holds s p (subst (ReadsFunction s) (sym (callee d .1)) (b .pre .0 .started .reads _ (callee d .0))) .inputs in
-    let e = call-count s (a .k) (a .f .place) (w .wide32 .result) (calls t) (good w) p (callee d .2) in
+    let t = call-of-known d in
+    let w = place-of-call t in
+    let a = start w .args in
+    let h = function-holds (a .s .now) _ (callee d .0) .inputs in
+    let e = call-count (a .s .now) (a .k) (a .f .place) (w .wide32 .result) (calls t) (good w) _ (callee d .1) in
     omega (arith, h, e)
 
 fits-2 : tie.Need-references-good-requires-2
 fits-2 c κs =
-    let w = wide-of (enum-told-4-of-known-told c) in
+    let w = place-of-call (call-of-known c) in
     let b = start w in
-    let n = arguments-of-known-told c .arguments-at in
+    let n = found-arguments c .arguments-at in
     let o = n .ensures .1 in
     let e : n .result .count ≡ byte (b .args .s .now) (w .wide32 .result + 4 + 2) = ap (λ (r : Reads). r .count) (n .ensures .0) in
     (b .pre .0, b .pre .1, omega (arith, inputs c, e), o .fits, o .few, small b, row w (n .result) o)
@@ -199,22 +176,22 @@ fits-2 c κs =
 returns-4 : tie.Need-returns-4
 returns-4 c =
     let d = c .before in
-    let t = enum-told-4-of-known-told d in
-    let w = wide-of t in
+    let t = call-of-known d in
+    let w = place-of-call t in
     let a = start w .args in
     let s = a .s .now in
     let at = w .wide32 .result in
     let p = d .before .found .given .0 .1 .0 in
     answer w _
     (c .references-good2 .ensures
-    ∙ ap (λ (m : Reads). seen (referencesChecked s (a .k) (a .f .place) (inputsAt (m .count) s (p + 6)) (references (m .count) s (m .first)))) (arguments-of-known-told d .arguments-at .ensures .0)
-    ∙ ap seen (sym (call-node s (a .k) (a .f .place) at (calls t) (good w) p (callee d .2))))
+    ∙ ap (λ (m : Reads). seen (referencesChecked s (a .k) (a .f .place) (inputsAt (m .count) s (p + 6)) (references (m .count) s (m .first)))) (found-arguments d .arguments-at .ensures .0)
+    ∙ ap seen (sym (call-node s (a .k) (a .f .place) at (calls t) (good w) p (callee d .1))))
 
 returns-5 : tie.Need-returns-5
 returns-5 c =
     let f = c .before .before .before in
-    let t = enum-told-4-of-find-function f in
-    let w = wide-of t in
+    let t = call-of-find f in
+    let w = place-of-call t in
     let a = start w .args in
     absurd
     (call-found (a .s .now) (a .k) (a .f .place) (w .wide32 .result) (calls t) (good w)
@@ -237,17 +214,17 @@ node-good-spec =
     (λ c. search needs)
     (λ c κs. search needs)
     (λ c κs. search needs)
-    (λ c κs. let t = told-3-of-own-2 c in let d = row-of-told-3 t in (here (wide32-of-ports-of d), d .ports-of .ensures, t .enum-told3 .given .1))
+    (λ c κs. let t = told-3-of-own-2 c in let d = row-of-told-3 t in (here (place-of d), d .ports-of .ensures, t .enum-told3 .given .1))
     fits
     (λ c. search needs)
-    (λ c κs. (here (wide-of c), calls c))
-    (λ c κs. let b = start (wide-of (c .before)) in (b .pre .0 .started, b .pre .0 .few))
-    (λ c κs. let t = enum-told-4-of-find-function c in (here (wide-of t), calls t))
+    (λ c κs. (here (place-of-call c), calls c))
+    (λ c κs. let b = start (place-of-call (c .before)) in (b .pre .0 .started, b .pre .0 .few))
+    (λ c κs. let t = call-of-find c in (here (place-of-call t), calls t))
     (λ c. search needs)
     fits-2
     (λ c. search needs)
-    returns
-    returns-2
+    (λ c. none (c .before .before .before) _ (c .enum-told .given .1) refl)
+    (λ c. none (c .before .before .before) _ (c .enum-told2 .given .1) refl)
     returns-3
     returns-4
     returns-5)

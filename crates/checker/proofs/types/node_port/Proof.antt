@@ -1,72 +1,53 @@
 use borrow.Author.Needs.{needs}
 use Prim.Native.Nat.{ℕ, _+_, _≤_}
-use mathlib.Core.Path.{_≡_, ap, sym, _∙_}
+use mathlib.Core.Path.{_≡_, refl, ap, sym, _∙_}
 use mathlib.Core.List.{List}
 use native.Mathlib.Omega.{arith}
 use lib.ListN.{length, getElem?}
 use Rattle.ports.specs.declared.Form.{Form}
-use Rattle.ports.specs.Ports.{formOf}
+use Rattle.ports.specs.Ports.{formOf, gives, givesRow}
+use Rattle.ports.specs.Kinds.{kindOf}
+use Rattle.base.specs.Bytes.{byte}
 use Rattle.graph.specs.Look.{findFunction}
 use Rattle.graph.specs.Format.{version1}
-use Rattle.graph.specs.Types.{outputsOf}
-use Rattle.reader.specs.Layout.{kindAt, earlier}
+use Rattle.graph.specs.Types.{givesOf, outputsOf}
+use Rattle.reader.specs.Layout.{kindAt, payloadAt, nodeAt, earlier}
 use Rattle.reader.proofs.Passed.{head-fits, form-is}
+use Rattle.checker.specs.declared.PortType.{PortType}
 use Rattle.checker.specs.Answers.{portOf}
-use Rattle.checker.proofs.AtPorts.{absent-gives, constant-gives, references-give, call-gives}
+use Rattle.checker.proofs.AtPorts.{row-gives, call-gives}
 use Rattle.checker.proofs.types.node_port.Statement.{statement}
 use Rattle.checker.proofs.types.node_port.Tie as tie
 
 -- ---- places
 
-abbrev start-of-slice : tie.After-shared-slice-known → tie.Start
-start-of-slice c = c .before
+abbrev start : tie.After-ports-of → tie.Start
+start d = d .before .before .before
 
-abbrev start-of-slice-3 : tie.After-shared-slice-known3 → tie.Start
-start-of-slice-3 c = start-of-slice (c .before .before .before)
-
-abbrev start-of-enum-told-4 : tie.After-enum-told4 → tie.Start
-start-of-enum-told-4 c = start-of-slice-3 (c .before .before)
+abbrev start-of-call : tie.After-enum-told4 → tie.Start
+start-of-call c = start (c .before .before .before)
 
 head : (b : tie.Start) → b .args .at + 4 ≤ length (b .args .s .now)
 head b = head-fits (b .args .s .now) (b .args .at) (b .pre .0)
 
-form : (d : tie.After-ports-of) (h : Form) → d .ports-of .result .form ≡ h → let a = d .before .before .before .args in formOf (kindAt (a .s .now) (a .at)) ≡ h
-form d h e = let a = d .before .before .before .args in form-is (a .s .now) (a .at) (d .ports-of .result) (d .ports-of .ensures) h e
+-- a node that is no call
+other : {r : PortType} (d : tie.After-ports-of) (h : Form) → d .ports-of .result .form ≡ h → let a = start d .args in let s = a .s .now in let n = nodeAt s (a .at) in
+    let early = earlier (version1 .header) s (a .k) in
+    givesOf early n (payloadAt h (kindAt s (a .at)) s (a .at + 4)) ≡ gives (kindOf (n .kind)) (n .type)
+    → r ≡ portOf (getElem? (givesRow (d .ports-of .result) (byte s (a .at + 3))) (a .port)) → r ≡ portOf (getElem? (givesOf early n (n .payload)) (a .port))
+other d h e g q =
+    let a = start d .args in
+    q ∙ ap (λ (ts : List ℕ). portOf (getElem? ts (a .port))) (sym (row-gives (a .s .now) (a .at) _ (d .ports-of .result) (d .ports-of .ensures) h e g))
 
-returns : tie.Need-returns
+calls : (c : tie.After-enum-told4) → let a = start-of-call c .args in formOf (kindAt (a .s .now) (a .at)) ≡ Form.Call
+calls c =
+    let d = c .before .before .before in
+    form-is (start d .args .s .now) (start d .args .at) (d .ports-of .result) (d .ports-of .ensures) _ (c .enum-told4 .given .1)
+
+returns : tie.Need-returns-4
 returns c =
-    let t = c .before in
-    let d = t .before .before .before in
-    let a = d .before .before .before .args in
-    c .row-port .ensures
-    ∙ ap (λ (ts : List ℕ). portOf (getElem? ts (a .port)))
-    (sym (absent-gives (a .s .now) (a .at) (earlier (version1 .header) (a .s .now) (a .k)) (d .ports-of .result) (d .ports-of .ensures) (form d _ (t .enum-told .given .1))))
-
-returns-2 : tie.Need-returns-2
-returns-2 c =
-    let t = c .before in
-    let d = t .before .before .before in
-    let a = d .before .before .before .args in
-    c .row-port2 .ensures
-    ∙ ap (λ (ts : List ℕ). portOf (getElem? ts (a .port)))
-    (sym (constant-gives (a .s .now) (a .at) (earlier (version1 .header) (a .s .now) (a .k)) (d .ports-of .result) (d .ports-of .ensures) (form d _ (t .enum-told2 .given .1))))
-
-returns-3 : tie.Need-returns-3
-returns-3 c =
-    let t = c .before in
-    let d = t .before .before .before in
-    let a = d .before .before .before .args in
-    c .row-port3 .ensures
-    ∙ ap (λ (ts : List ℕ). portOf (getElem? ts (a .port)))
-    (sym (references-give (a .s .now) (a .at) (earlier (version1 .header) (a .s .now) (a .k)) (d .ports-of .result) (d .ports-of .ensures) (form d _ (t .enum-told3 .given .1))))
-
-calls : (c : tie.After-enum-told4) → let a = start-of-enum-told-4 c .args in formOf (kindAt (a .s .now) (a .at)) ≡ Form.Call
-calls c = form (c .before .before .before) _ (c .enum-told4 .given .1)
-
-returns-4 : tie.Need-returns-4
-returns-4 c =
     let t = c .before .before in
-    let a = start-of-enum-told-4 t .args in
+    let a = start-of-call t .args in
     let s = a .s .now in
     c .callee-port .ensures
     ∙ ap (λ (i : ℕ). portOf (getElem? (outputsOf (findFunction i (earlier (version1 .header) s (a .k)))) (a .port))) (c .before .callee-at .ensures)
@@ -80,7 +61,7 @@ node-port-spec =
     (λ c. omega (arith, head (c .before .before)))
     (λ c κs. search needs)
     (λ c. omega (arith, head (c .before .before .before)))
-    (λ c. omega (arith, head (start-of-slice-3 c)))
+    (λ c. omega (arith, head (start (c .before))))
     (λ c. search needs)
     (λ c κs. search needs)
     (λ c. search needs)
@@ -88,9 +69,9 @@ node-port-spec =
     (λ c. search needs)
     (λ c κs. search needs)
     (λ c. search needs)
-    (λ c κs. (start-of-enum-told-4 c .pre .0, calls c))
-    (λ c κs. let b = start-of-enum-told-4 (c .before) in (b .pre .1, b .pre .2))
-    returns
-    returns-2
-    returns-3
-    returns-4)
+    (λ c κs. (start-of-call c .pre .0, calls c))
+    (λ c κs. let b = start-of-call (c .before) in (b .pre .1, b .pre .2))
+    (λ c. let t = c .before in other (t .before .before .before) _ (t .enum-told .given .1) refl (c .row-port .ensures))
+    (λ c. let t = c .before in other (t .before .before .before) _ (t .enum-told2 .given .1) refl (c .row-port2 .ensures))
+    (λ c. let t = c .before in other (t .before .before .before) _ (t .enum-told3 .given .1) refl (c .row-port3 .ensures))
+    returns)

@@ -1,5 +1,5 @@
 use borrow.Author.Needs.{needs}
-use Prim.Native.Nat.{_+_, _-_, _*_, _≤_}
+use Prim.Native.Nat.{_+_, _*_, _≤_}
 use mathlib.Core.Path.{_≡_, refl, ap, sym, _∙_}
 use native.Mathlib.Omega.{arith}
 use lib.ListN.{length}
@@ -21,35 +21,14 @@ abbrev μ-loop : tie.MeasureT-loop
 
 -- ---- places
 
-abbrev at-loop-of-in-loop : tie.In-loop Inv-loop μ-loop → tie.At-loop Inv-loop μ-loop
-at-loop-of-in-loop c = c .before
+abbrev port-of : tie.After-known-told Inv-loop μ-loop → tie.After-reference-port Inv-loop μ-loop
+port-of d = d .before .before .before
 
-abbrev at-loop-of-enum-told : tie.After-enum-told Inv-loop μ-loop → tie.At-loop Inv-loop μ-loop
-at-loop-of-enum-told c = at-loop-of-in-loop (c .before .before .before)
+abbrev in-loop : tie.After-shared-slice-known2 Inv-loop μ-loop → tie.In-loop Inv-loop μ-loop
+in-loop c = port-of (c .before) .before
 
-abbrev in-loop-of-match-keys-1 : tie.At-match-keys1 Inv-loop μ-loop → tie.In-loop Inv-loop μ-loop
-in-loop-of-match-keys-1 c = c .before .before
-
-abbrev in-loop-of-slice-2 : tie.After-shared-slice-known2 Inv-loop μ-loop → tie.In-loop Inv-loop μ-loop
-in-loop-of-slice-2 c = in-loop-of-match-keys-1 (c .before .before .before)
-
-abbrev at-loop-of-match-keys-1 : tie.At-match-keys1 Inv-loop μ-loop → tie.At-loop Inv-loop μ-loop
-at-loop-of-match-keys-1 c = c .before .before .before
-
-abbrev at-loop-of-slice-2 : tie.After-shared-slice-known2 Inv-loop μ-loop → tie.At-loop Inv-loop μ-loop
-at-loop-of-slice-2 c = at-loop-of-match-keys-1 (c .before .before .before)
-
-abbrev in-loop-of-then-1 : tie.Then1 Inv-loop μ-loop → tie.In-loop Inv-loop μ-loop
-in-loop-of-then-1 c = in-loop-of-slice-2 (c .before)
-
-abbrev in-loop-of-else-1 : tie.Else1 Inv-loop μ-loop → tie.In-loop Inv-loop μ-loop
-in-loop-of-else-1 c = in-loop-of-slice-2 (c .before)
-
-abbrev at-loop-of-then-1 : tie.Then1 Inv-loop μ-loop → tie.At-loop Inv-loop μ-loop
-at-loop-of-then-1 c = at-loop-of-slice-2 (c .before)
-
-abbrev at-loop-of-else-1 : tie.Else1 Inv-loop μ-loop → tie.At-loop Inv-loop μ-loop
-at-loop-of-else-1 c = at-loop-of-slice-2 (c .before)
+entry-fits : (i : tie.In-loop Inv-loop μ-loop) → i .before .loop .at + 4 ≤ length (i .before .before .before .args .s .now)
+entry-fits i = omega (arith, i .before .loop .inv .0, i .loop-test .taken)
 
 returns : tie.Need-returns Inv-loop μ-loop
 returns c =
@@ -66,7 +45,7 @@ returns c =
 returns-2 : tie.Need-returns-2 Inv-loop μ-loop
 returns-2 c =
     let d = c .before .before in
-    let r = d .before .before .before in
+    let r = port-of d in
     let i = r .before in
     let l = i .before .loop in
     let a = i .before .before .before .args in
@@ -79,7 +58,7 @@ returns-2 c =
 loop-again : tie.Need-loop-again Inv-loop μ-loop
 loop-again c =
     let d = c .before .before in
-    let r = d .before .before .before in
+    let r = port-of d in
     let i = r .before in
     let l = i .before .loop in
     let a = i .before .before .before .args in (
@@ -106,13 +85,13 @@ outputs-good-spec =
     (λ c κs. (c .before .before .before .pre .0, omega (arith, c .before .loop .inv .0, c .loop-test .taken)))
     (λ c. search needs)
     (λ c. search needs)
-    (λ c. omega (arith, at-loop-of-enum-told c .loop .inv .0, c .before .before .before .loop-test .taken))
+    (λ c. omega (arith, entry-fits (c .before .before .before)))
     returns
-    (λ c. omega (arith, at-loop-of-slice-2 c .loop .inv .0, in-loop-of-slice-2 c .loop-test .taken))
-    (λ c. omega (arith, at-loop-of-then-1 c .loop .inv .0, in-loop-of-then-1 c .loop-test .taken))
+    (λ c. omega (arith, entry-fits (in-loop c)))
+    (λ c. omega (arith, entry-fits (in-loop (c .before))))
     returns-2
-    (λ c. omega (arith, at-loop-of-else-1 c .loop .inv .0, in-loop-of-else-1 c .loop-test .taken))
-    (λ c. omega (arith, in-loop-of-else-1 c .loop-test .taken))
-    (λ c. omega (arith, in-loop-of-else-1 c .loop-test .taken))
+    (λ c. omega (arith, entry-fits (in-loop (c .before))))
+    (λ c. omega (arith, in-loop (c .before) .loop-test .taken))
+    (λ c. omega (arith, in-loop (c .before) .loop-test .taken))
     loop-again
     returns-3)

@@ -13,57 +13,51 @@ use Rattle.checker.proofs.types.reference_port.Tie as tie
 
 -- ---- places
 
-abbrev start-of-slice : tie.After-shared-slice-known → tie.Start
-start-of-slice c = c .before
+abbrev start : tie.After-u16-at → tie.Start
+start u = u .before .before
 
-abbrev start-of-then-1 : tie.Then1 → tie.Start
-start-of-then-1 c = start-of-slice (c .before .before .before)
+abbrev start-of-find : tie.After-find-node → tie.Start
+start-of-find f = start (f .before .before .before)
 
-abbrev start-of-else-1 : tie.Else1 → tie.Start
-start-of-else-1 c = start-of-slice (c .before .before .before)
-
-abbrev start-of-find-node : tie.After-find-node → tie.Start
-start-of-find-node c = start-of-else-1 (c .before)
-
-abbrev start-of-known-told : tie.After-known-told → tie.Start
-start-of-known-told c = start-of-find-node (c .before .before .before)
+abbrev find-of : tie.After-known-told → tie.After-find-node
+find-of d = d .before .before .before
 
 returns : tie.Need-returns
 returns c =
     let t = c .before in
     let u = t .before .before in
-    let a = u .before .before .args in
+    let a = start u .args in
     c .input-port .ensures ∙ sym (input-typed (a .s .now) (a .k) (a .f .place) (a .at) (sym (u .u16-at .ensures .0) ∙ t .if1 .taken))
 
 -- the nodes that are looked through are the function's
 same : (b : tie.Start) → functionAt (b .args .s .now) (b .args .f .place) .nodes ≡ nodesAt (b .args .f .count) (b .args .s .now) (b .args .f .first)
-same b = sym (same-nodes (b .args .s .now) (b .args .starts .now) (b .args .k) (b .args .f) (b .pre .0))
+same b = sym (same-nodes (b .pre .0))
 
-told : (f : tie.After-find-node) → let b = start-of-find-node f in let a = b .args in
+told : (f : tie.After-find-node) → let b = start-of-find f in let a = b .args in
     f .find-node .result ≡ nodeFound 0 (u16 (a .s .now) (a .at)) (nodesAt (a .f .count) (a .s .now) (a .f .first))
 told f =
     let u = f .before .before .before in
-    let a = u .before .before .args in
+    let a = start u .args in
     f .find-node .ensures ∙ ap (λ (i : ℕ). nodeFound 0 i (nodesAt (a .f .count) (a .s .now) (a .f .first))) (u .u16-at .ensures .0)
 
-found : (d : tie.After-known-told) → let b = start-of-known-told d in let a = b .args in
+found : (d : tie.After-known-told) → let b = start-of-find (find-of d) in let a = b .args in
     FoundNode (a .s .now) (u16 (a .s .now) (a .at)) (a .f .count) (a .f .first) 0 (d .before .found .given .0 .0) (d .before .found .given .0 .1 .0)
 found d =
-    let f = d .before .before .before in
-    let b = start-of-find-node f in
+    let f = find-of d in
+    let b = start-of-find f in
     let a = b .args in
-    found-node (a .s .now) (u16 (a .s .now) (a .at)) (a .f .count) (a .f .first) 0 _ _ (nodes-read (a .s .now) (a .starts .now) (a .k) (a .f) (b .pre .0))
+    found-node (a .s .now) (u16 (a .s .now) (a .at)) (a .f .count) (a .f .first) 0 _ _ (nodes-read (b .pre .0))
     (sym (told f) ∙ d .before .found .given .1)
 
 -- the reference names no input
-named : (f : tie.After-find-node) → let a = start-of-find-node f .args in u16 (a .s .now) (a .at) ≡ 0 → ⊥
+named : (f : tie.After-find-node) → let a = start-of-find f .args in u16 (a .s .now) (a .at) ≡ 0 → ⊥
 named f w = f .before .if1 .left (f .before .before .before .u16-at .ensures .0 ∙ w)
 
 returns-2 : tie.Need-returns-2
 returns-2 c =
     let d = c .before in
-    let f = d .before .before .before in
-    let b = start-of-find-node f in
+    let f = find-of d in
+    let b = start-of-find f in
     let a = b .args in
     c .node-port .ensures
     ∙ sym
@@ -73,7 +67,7 @@ returns-2 c =
 returns-3 : tie.Need-returns-3
 returns-3 c =
     let f = c .before .before in
-    let b = start-of-find-node f in
+    let b = start-of-find f in
     let a = b .args in
     sym
     (none-typed (a .s .now) (a .k) (a .f .place) (a .at) (named f)
@@ -86,11 +80,11 @@ reference-port-spec =
     (λ c κs. search needs)
     (λ c. search needs)
     (λ c. search needs)
-    (λ c κs. start-of-then-1 c .pre .0 .reads)
+    (λ c κs. start (c .before .before) .pre .0 .reads)
     returns
-    (λ c κs. let b = start-of-else-1 c in nodes-read (b .args .s .now) (b .args .starts .now) (b .args .k) (b .args .f) (b .pre .0))
+    (λ c κs. nodes-read (start (c .before .before) .pre .0))
     (λ c. search needs)
-    (λ c κs. let b = start-of-known-told c in (found c .reads, b .pre .0 .started, b .pre .0 .few))
+    (λ c κs. let b = start-of-find (find-of c) in (found c .reads, b .pre .0 .started, b .pre .0 .few))
     (λ c. search needs)
     returns-2
     returns-3)

@@ -3,13 +3,13 @@ use Prim.Native.Nat.{ℕ, _+_, _-_, _*_, _≤_, _<_}
 use mathlib.Core.Path.{_≡_, ap, sym, _∙_}
 use mathlib.Core.Option.{some}
 use native.Mathlib.Omega.{arith}
-use lib.ListN.{length, drop}
+use lib.ListN.{drop}
 use Rattle.graph.specs.Read.{reference, references}
 use Rattle.order.specs.Resolve.{target}
 use Rattle.reader.specs.Layout.{functionAt}
 use Rattle.reader.specs.Records.{seen}
 use Rattle.checker.specs.Answers.{wantsList, referencesChecked}
-use Rattle.checker.proofs.Wiring.{lost, mistyped, welltyped, wants-length, references-fault, references-on, references-none}
+use Rattle.checker.proofs.Wiring.{lost, mistyped, welltyped, references-fault, references-on, references-none}
 use Rattle.checker.proofs.types.references_good.Statement.{statement}
 use Rattle.checker.proofs.types.references_good.Tie as tie
 use Rattle.base.specs.Limits.{slotLimit, operandLimit}
@@ -26,20 +26,14 @@ abbrev μ-loop : tie.MeasureT-loop
 
 -- ---- places
 
-abbrev in-loop-of-slot-port : tie.After-slot-port Inv-loop μ-loop → tie.In-loop Inv-loop μ-loop
-in-loop-of-slot-port c = c .before .before .before
+abbrev port-of : tie.After-known-told Inv-loop μ-loop → tie.After-slot-port Inv-loop μ-loop
+port-of t = t .before .before .before
 
-abbrev in-loop-of-known-told : tie.After-known-told Inv-loop μ-loop → tie.In-loop Inv-loop μ-loop
-in-loop-of-known-told c = in-loop-of-slot-port (c .before .before .before)
+abbrev in-loop : tie.After-slot-port Inv-loop μ-loop → tie.In-loop Inv-loop μ-loop
+in-loop r = r .before .before .before
 
-abbrev in-loop-of-else-1 : tie.Else1 Inv-loop μ-loop → tie.In-loop Inv-loop μ-loop
-in-loop-of-else-1 c = in-loop-of-known-told (c .before .before)
-
-left : (d : tie.In-loop Inv-loop μ-loop) → 0 < d .before .before .before .args .n - d .before .loop .j
-left d = omega (arith, d .loop-test .taken)
-
-wanted : (d : tie.In-loop Inv-loop μ-loop) → let a = d .before .before .before .args in d .before .loop .j < length (wantsList (a .s .now) (a .n) (a .want))
-wanted d = let a = d .before .before .before .args in omega (arith, d .loop-test .taken, wants-length (a .s .now) (a .n) (a .want))
+abbrev inside : tie.Else1 Inv-loop μ-loop → tie.In-loop Inv-loop μ-loop
+inside c = in-loop (port-of (c .before .before))
 
 -- the slot is one of node i's
 below : (d : tie.In-loop Inv-loop μ-loop) → operandLimit * d .before .before .before .args .i + d .before .loop .j < slotLimit
@@ -71,57 +65,47 @@ slot-port-requires c κs =
 returns : tie.Need-returns Inv-loop μ-loop
 returns c =
     let r = c .before .before in
-    let d = r .before .before .before in
+    let d = in-loop r in
     let l = d .before .loop in
     let a = d .before .before .before .args in
     ap seen
     (sym
     (l .inv .2
-    ∙ references-fault (a .s .now) (a .k) (a .f .place) (wantsList (a .s .now) (a .n) (a .want)) (a .n - l .j) (l .at) (l .j) 11 (l .at) (left d) (wanted d)
+    ∙ references-fault (a .s .now) (a .k) (a .f .place) (a .n) (a .want) (l .at) (l .j) (d .loop-test .taken)
     (lost (a .s .now) (a .k) (a .f .place) (l .at) _ (sym (r .slot-port .ensures) ∙ c .enum-told .given .1))))
 
 returns-2 : tie.Need-returns-2 Inv-loop μ-loop
 returns-2 c =
     let w = c .before in
-    let t = w .before in
-    let r = t .before .before .before in
-    let d = r .before .before .before in
+    let r = port-of (w .before) in
+    let d = in-loop r in
     let l = d .before .loop in
     let a = d .before .before .before .args in
     ap seen
     (sym
     (l .inv .2
-    ∙ references-fault (a .s .now) (a .k) (a .f .place) (wantsList (a .s .now) (a .n) (a .want)) (a .n - l .j) (l .at) (l .j) 12 (l .at) (left d) (wanted d)
-    (mistyped (a .s .now) (a .k) (a .f .place) (l .at) _ (sym (r .slot-port .ensures) ∙ t .before .found .given .1) _ (λ q. c .if1 .taken (q ∙ sym (w .want-at .ensures))))))
+    ∙ references-fault (a .s .now) (a .k) (a .f .place) (a .n) (a .want) (l .at) (l .j) (d .loop-test .taken)
+    (mistyped (a .s .now) (a .k) (a .f .place) (l .at) _ (sym (r .slot-port .ensures) ∙ w .before .before .found .given .1) _ (λ q. c .if1 .taken (q ∙ sym (w .want-at .ensures))))))
 
 loop-again : tie.Need-loop-again Inv-loop μ-loop
 loop-again c =
     let w = c .before in
-    let t = w .before in
-    let r = t .before .before .before in
-    let d = r .before .before .before in
+    let r = port-of (w .before) in
+    let d = in-loop r in
     let l = d .before .loop in
-    let a = d .before .before .before .args in
-    let m : a .n - l .j - 1 ≡ a .n - (l .j + 1) = omega arith in
-    let e = sym (r .slot-port .ensures) ∙ t .before .found .given .1 in (
+    let a = d .before .before .before .args in (
       omega (arith, d .loop-test .taken),
       omega (arith, l .inv .1),
       l .inv .2
-          ∙ references-on (a .s .now) (a .k) (a .f .place) (wantsList (a .s .now) (a .n) (a .want)) (a .n - l .j) (l .at) (l .j) (left d) (wanted d)
-          (welltyped (a .s .now) (a .k) (a .f .place) (l .at) _ e _ (c .if1 .left ∙ w .want-at .ensures))
-          ∙ ap (λ (n : ℕ). referencesChecked (a .s .now) (a .k) (a .f .place) (drop (l .j + 1) (wantsList (a .s .now) (a .n) (a .want))) (references n (a .s .now) (l .at + 3))) m,
+          ∙ references-on (a .s .now) (a .k) (a .f .place) (a .n) (a .want) (l .at) (l .j) (d .loop-test .taken)
+          (welltyped (a .s .now) (a .k) (a .f .place) (l .at) _ (sym (r .slot-port .ensures) ∙ w .before .before .found .given .1) _ (c .if1 .left ∙ w .want-at .ensures)),
     )
 
 returns-3 : tie.Need-returns-3 Inv-loop μ-loop
 returns-3 c =
     let l = c .before .loop in
     let a = c .before .before .before .args in
-    let z : l .j ≡ a .n = omega arith in
-    ap seen (sym (l .inv .2 ∙ references-none (a .s .now) (a .k) (a .f .place) (wantsList (a .s .now) (a .n) (a .want)) (a .n - l .j) (l .at) (l .j) (omega (arith, z, wants-length (a .s .now) (a .n) (a .want)))))
-
--- where the loop's body stood
-abbrev inside : tie.Else1 Inv-loop μ-loop → tie.In-loop Inv-loop μ-loop
-inside c = in-loop-of-else-1 c
+    ap seen (sym (l .inv .2 ∙ references-none (a .s .now) (a .k) (a .f .place) (a .n) (a .want) (l .at) (l .j) (omega arith)))
 
 pub references-good-spec : {M : Type 1} → statement M
 references-good-spec =
@@ -139,7 +123,7 @@ references-good-spec =
     (λ c. search needs)
     (λ c. search needs)
     returns
-    (λ c κs. let d = in-loop-of-known-told c in (d .loop-test .taken, d .before .before .before .pre .2))
+    (λ c κs. let d = in-loop (port-of c) in (d .loop-test .taken, d .before .before .before .pre .2))
     returns-2
     (λ c. let d = inside c in omega (arith, d .loop-test .taken, d .before .loop .inv .1, d .before .before .before .pre .3))
     (λ c. let d = inside c in omega (arith, d .loop-test .taken, d .before .before .before .pre .4))

@@ -14,49 +14,43 @@ use Rattle.checker.proofs.types.slot_port.Tie as tie
 
 -- ---- places
 
-abbrev start-of-slice : tie.After-shared-slice-known → tie.Start
-start-of-slice c = c .before
+abbrev start : tie.After-u16-at → tie.Start
+start u = u .before .before
 
-abbrev start-of-else-1 : tie.Else1 → tie.Start
-start-of-else-1 c = start-of-slice (c .before .before .before)
+abbrev start-of-else : tie.Else1 → tie.Start
+start-of-else e = start (e .before .before)
 
-abbrev start-of-then-1 : tie.Then1 → tie.Start
-start-of-then-1 c = start-of-slice (c .before .before .before)
-
-abbrev start-of-then-2 : tie.Then2 → tie.Start
-start-of-then-2 c = start-of-else-1 (c .before .before)
+abbrev start-of-then : tie.Then2 → tie.Start
+start-of-then t = start-of-else (t .before .before)
 
 returns : tie.Need-returns
 returns c =
     let t = c .before in
     let u = t .before .before in
-    let a = u .before .before .args in
+    let a = start u .args in
     c .input-port .ensures ∙ sym (input-typed (a .s .now) (a .k) (a .f .place) (a .at) (sym (u .u16-at .ensures .0) ∙ t .if1 .taken))
 
 -- the reference names no input
-named : (e : tie.Else1) → let a = start-of-else-1 e .args in u16 (a .s .now) (a .at) ≡ 0 → ⊥
+named : (e : tie.Else1) → let a = start-of-else e .args in u16 (a .s .now) (a .at) ≡ 0 → ⊥
 named e w = e .if1 .left (e .before .before .u16-at .ensures .0 ∙ w)
 
-abbrev start : tie.Then2 → tie.Start
-start t = start-of-then-2 t
+place : (c : tie.After-wide32) → let a = start-of-then (c .before .before) .args in c .wide32 .result ≡ nodePlace (a .s .now) (a .f .first) (a .i)
+place c = let t = c .before .before in c .wide32 .ensures .0 ∙ start-of-then t .pre .1 (start-of-then t .args .i) (t .if2 .taken)
 
-place : (c : tie.After-wide32) → let a = start (c .before .before) .args in c .wide32 .result ≡ nodePlace (a .s .now) (a .f .first) (a .i)
-place c = let t = c .before .before in c .wide32 .ensures .0 ∙ start t .pre .1 (start t .args .i) (t .if2 .taken)
-
-reads : (c : tie.After-wide32) → let a = start (c .before .before) .args in ReadsNode (a .s .now) (c .wide32 .result)
+reads : (c : tie.After-wide32) → let a = start-of-then (c .before .before) .args in ReadsNode (a .s .now) (c .wide32 .result)
 reads c =
     let t = c .before .before in
-    let b = start t in
+    let b = start-of-then t in
     let a = b .args in
     subst (ReadsNode (a .s .now)) (sym (place c))
-    (place-reads (a .s .now) (a .f .count) (a .i) (a .f .first) (t .if2 .taken) (nodes-read (a .s .now) (a .starts .now) (a .k) (a .f) (b .pre .0)))
+    (place-reads (a .s .now) (a .f .count) (a .i) (a .f .first) (t .if2 .taken) (nodes-read (b .pre .0)))
 
 returns-2 : tie.Need-returns-2
 returns-2 c =
     let w = c .before in
     let t = w .before .before in
     let e = t .before .before in
-    let b = start t in
+    let b = start-of-then t in
     let a = b .args in
     let s = a .s .now in
     c .node-port .ensures
@@ -68,7 +62,7 @@ returns-2 c =
 returns-3 : tie.Need-returns-3
 returns-3 c =
     let e = c .before .before in
-    let b = start-of-else-1 e in
+    let b = start-of-else e in
     let a = b .args in
     let s = a .s .now in
     sym
@@ -82,11 +76,11 @@ slot-port-spec =
     (λ c κs. search needs)
     (λ c. search needs)
     (λ c. search needs)
-    (λ c κs. start-of-then-1 c .pre .0 .reads)
+    (λ c κs. start (c .before .before) .pre .0 .reads)
     returns
-    (λ c. let b = start c in let l = few-nodes (b .args .s .now) (b .args .starts .now) (b .args .k) (b .args .f) (b .pre .0) in omega (arith, c .if2 .taken, l))
-    (λ c. let b = start c in let l = few-nodes (b .args .s .now) (b .args .starts .now) (b .args .k) (b .args .f) (b .pre .0) in omega (arith, c .if2 .taken, l))
+    (λ c. let b = start-of-then c in let l = few-nodes (b .pre .0) in omega (arith, c .if2 .taken, l))
+    (λ c. let b = start-of-then c in let l = few-nodes (b .pre .0) in omega (arith, c .if2 .taken, l))
     (λ c κs. search needs)
-    (λ c κs. let b = start (c .before .before) in (reads c, b .pre .0 .started, b .pre .0 .few))
+    (λ c κs. let b = start-of-then (c .before .before) in (reads c, b .pre .0 .started, b .pre .0 .few))
     returns-2
     returns-3)
