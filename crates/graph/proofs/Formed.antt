@@ -26,7 +26,9 @@ use Rattle.graph.specs.Written.{flat, refBytes, outputBytes, payloadByte
 use Rattle.base.proofs.Bools.{and-inv}
 use Rattle.base.proofs.Outcomes.{took, after, passed, ok-is}
 use Rattle.base.proofs.Stands.{bytes-length, all-length, Here, moved, join, onto, whole-is, little, little-below, little-here, u16-here, u16-below, constants-here, constants-length, constants-words}
-use Rattle.graph.proofs.Accept.{all-judged}
+use Rattle.graph.specs.Checks.{Says, tableChecks}
+use Rattle.graph.proofs.First.{all-judged}
+use Rattle.graph.proofs.Accept.{all-sound}
 
 -- ---- lengths
 
@@ -326,4 +328,5 @@ module _ (s : List ℕ) (small : Bytes s) where
       let (gs, p, e1) = took (parse version1 s) (λ fs. judgeAll [] fs >> ok (reverse fs)) fs e in
       let (u, j, e2) = after (judgeAll [] gs) (ok (reverse gs)) fs e1 in
       let q : reverse gs ≡ fs = ok-is e2 in
-      subst AllSound q (all-judged [] gs u (parse-written version1 plain1 s small gs p .formed) tt j)
+      subst AllSound q
+      (all-sound [] gs (parse-written version1 plain1 s small gs p .formed) tt (subst (Says (tableChecks [] gs)) j (all-judged [] gs .0)))
