@@ -259,18 +259,7 @@ module _ (early : List Function) (f : Function) where
       >> each (λ n. refsOk early f (wantsOf early n (n .payload)) (reads n)) (f .nodes))))
 
   judge-split : judge early f ≡ (linked >> loopFree f)
-  judge-split =
-      let U = Outcome (Unit {0}) in
-      let a : U = need (not (found (findFunction (f .id) early))) 9 (f .place) in
-      let b : U = fresh [] (f .nodes) in
-      let c : U = each (λ n. callOk early (n .place) (n .payload)) (f .nodes) in
-      let d : U = each (λ o. refOk early f (o .type) (o .ref)) (f .outputs) in
-      let e : U = each (λ n. refsOk early f (wantsOf early n (n .payload)) (reads n)) (f .nodes) in
-      sym
-      (then-then a (b >> (c >> (d >> e))) (loopFree f)
-      ∙ ap (λ (x : U). a >> x)
-      (then-then b (c >> (d >> e)) (loopFree f)
-      ∙ ap (λ (x : U). b >> x) (then-then c (d >> e) (loopFree f) ∙ ap (λ (x : U). c >> x) (then-then d e (loopFree f)))))
+  judge-split = sym (simp then-then)
 
   links-judged : Judged (linkChecks early f) linked
   links-judged =

@@ -1,17 +1,17 @@
 -- `via` tells what `Path` says.
 use Prim.Native.Nat.{ℕ, zero, suc, _+_, _≤_, _<_}
-use mathlib.Core.Path.{_≡_, refl, ap}
-use mathlib.Core.Bool.{Bool, true, false, _&&_, cond}
+use mathlib.Core.Path.{_≡_, ap}
+use mathlib.Core.Bool.{Bool, true, _&&_, cond}
 use mathlib.Core.List.{List}
 use mathlib.Core.Logic.{_⊎_, inl, inr, ⊎-elim}
 use native.Mathlib.Omega.{arith}
 use lib.Dec.{eqb, ltb}
-use borrow.Author.Tests.{eqb-true, eqb-false, eq-eqb, ltb-true, lt-ltb, le-ltb}
+use borrow.Author.Tests.{eqb-true, eq-eqb, ltb-true, lt-ltb, le-ltb}
 use Rattle.base.proofs.Bools.{or-inv, or-left, or-right, and-inv, and-both}
 use Rattle.order.specs.declared.OnLoop.the-variants.{At, Nothing}
 use Rattle.order.specs.Indices.{firstOf, anyOf, slot}
 use Rattle.order.specs.Paths.{readsIndex, Path, one, more, via, onLoop, firstOnLoop}
-use Rattle.order.proofs.Range.{any-some, some-any}
+use Rattle.order.proofs.Range.{eq-or-not, any-some, some-any}
 use Rattle.base.specs.Limits.{operandLimit}
 
 module _ (ts : List ℕ) (n : ℕ) where
@@ -81,22 +81,14 @@ module _ (ts : List ℕ) (n : ℕ) where
 
   via-trans : (m k i x j : ℕ) → k ≤ x → x < k + m → via ts n k m i x ≡ true → via ts n k m x j ≡ true → via ts n k m i j ≡ true
   via-trans zero k i x j a b e f = absurd (omega arith)
-  via-trans (suc m) k i x j a b e f = pickOne (eqb x k) refl (λ l i j. via-trans m (suc k) i x j l (omega arith))
-    where
-      pickOne :
-          (b : Bool) → eqb x k ≡ b
-          → (suc k ≤ x → (i j : ℕ) → via ts n (suc k) m i x ≡ true → via ts n (suc k) m x j ≡ true → via ts n (suc k) m i j ≡ true)
-          → via ts n k (suc m) i j ≡ true
-      pickOne true q ih =
-          let h = eqb-true x k q in
-          through m k i j (to m k i (rw h at e)) (from m k j (rw h at f))
-      pickOne false q ih =
-          let d : x ≡ k → ⊥ = eqb-false x k q in
-          let l : suc k ≤ x = omega arith in
-          ⊎-elim
-          (λ ix. ⊎-elim (λ xj. wider m k i j (ih l i j ix xj)) (λ (xk, kj). through m k i j (ih l i k ix xk) kj) (split m k x j f))
-          (λ (ik, kx). ⊎-elim (λ xj. through m k i j ik (ih l k j kx xj)) (λ (xk, kj). through m k i j ik kj) (split m k x j f))
-          (split m k i x e)
+  via-trans (suc m) k i x j a b e f =
+      ⊎-elim (λ h. through m k i j (to m k i (rw h at e)) (from m k j (rw h at f)))
+      (λ d.
+      let ih : (i j : ℕ) → via ts n (suc k) m i x ≡ true → via ts n (suc k) m x j ≡ true → via ts n (suc k) m i j ≡ true =
+      λ i j. via-trans m (suc k) i x j (omega arith) (omega arith) in
+      ⊎-elim (λ ix. ⊎-elim (λ xj. wider m k i j (ih i j ix xj)) (λ (xk, kj). through m k i j (ih i k ix xk) kj) (split m k x j f))
+      (λ (ik, kx). ⊎-elim (λ xj. through m k i j ik (ih k j kx xj)) (λ (xk, kj). through m k i j ik kj) (split m k x j f)) (split m k i x e))
+      (eq-or-not x k)
 
   pub path-via : {i j : ℕ} → Path ts n i j → via ts n 0 n i j ≡ true
   path-via (one {i = i} {j = j} r) = direct n 0 i j r

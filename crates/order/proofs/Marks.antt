@@ -3,16 +3,18 @@ use Prim.Native.Nat.{ℕ, suc, _+_, _-_, _≤_, _<_}
 use mathlib.Core.Path.{_≡_, refl, ap, sym, _∙_, subst}
 use mathlib.Core.Bool.{Bool, true, false, not, _&&_, _||_, cond}
 use mathlib.Core.List.{List, [], _∷_, _++_, append-assoc, append-nil}
+use mathlib.Core.Logic.{⊎-elim}
 use native.Mathlib.Omega.{arith}
 use native.Mathlib.Nat.{not-suc-le-zero}
-use lib.Dec.{eqb, leb, ltb}
+use lib.Dec.{leb, ltb}
 use lib.ListN.{length, set, replicate, length-append, length-set, length-replicate, getD-replicate, List·getD-eq-default}
 use lib.Seq.{sets, getD-set-same, getD-set-other}
-use borrow.Author.Tests.{eqb-true, eqb-false, ltb-true, ltb-false, lt-ltb, le-ltb, not-false}
+use borrow.Author.Tests.{eq-eqb, ne-eqb, lt-ltb, le-ltb, not-false}
 use Rattle.base.specs.Lists.{member}
 use Rattle.order.specs.Indices.{firstOf, slot, settled, ready, eligible, next, orderFrom, indexOrder, marked}
-use Rattle.order.proofs.Range.{First, first-is, first-from, first-same, all-same}
+use Rattle.order.proofs.Range.{eq-or-not, First, first-is, first-from, first-same, all-same}
 use Rattle.base.specs.Limits.{nodeLimit, operandLimit}
+use Rattle.base.proofs.Numbers.{lt-or-le}
 use Rattle.base.proofs.Stores.{sets-append}
 
 -- ---- a mark more
@@ -24,19 +26,12 @@ pub mark-other : (ms : List Bool) (i v : ℕ) → (v ≡ i → ⊥) → marked (
 mark-other ms i v d = getD-set-other ms i v true false d
 
 pub mark-keeps : (ms : List Bool) (i v : ℕ) → i < length ms → marked ms v ≡ true → marked (set ms i true) v ≡ true
-mark-keeps ms i v l h = pickOne (eqb v i) refl
-  where
-    pickOne : (b : Bool) → eqb v i ≡ b → marked (set ms i true) v ≡ true
-    pickOne true e = subst (λ (w : ℕ). marked (set ms i true) w ≡ true) (sym (eqb-true v i e)) (mark-same ms i l)
-    pickOne false e = mark-other ms i v (eqb-false v i e) ∙ h
+mark-keeps ms i v l h = ⊎-elim (λ e. rw e (mark-same ms i l)) (λ d. mark-other ms i v d ∙ h) (eq-or-not v i)
 
 pub mark-none : (v : ℕ) → marked (replicate nodeLimit false) v ≡ false
-mark-none v = pickOne (ltb v nodeLimit) refl
-  where
-    pickOne : (b : Bool) → ltb v nodeLimit ≡ b → marked (replicate nodeLimit false) v ≡ false
-    pickOne true e = getD-replicate nodeLimit v false false (ltb-true v nodeLimit e)
-    pickOne false e =
-        List·getD-eq-default (replicate nodeLimit false) false (subst (λ (m : ℕ). m ≤ v) (sym (length-replicate nodeLimit false)) (ltb-false v nodeLimit e))
+mark-none v =
+    ⊎-elim (getD-replicate nodeLimit v false false)
+    (λ h. List·getD-eq-default (replicate nodeLimit false) false (subst (λ (m : ℕ). m ≤ v) (sym (length-replicate nodeLimit false)) h)) (lt-or-le v nodeLimit)
 
 -- ---- the marks tell which nodes are done
 
@@ -44,11 +39,9 @@ abbrev pub Marks : List Bool → List ℕ → Type 0
 Marks ms done = (v : ℕ) → marked ms v ≡ member v done
 
 pub mark-one : (ms : List Bool) (done : List ℕ) (i : ℕ) → i < length ms → Marks ms done → Marks (set ms i true) (i ∷ done)
-mark-one ms done i l h v = pickOne (eqb i v) refl
-  where
-    pickOne : (b : Bool) → eqb i v ≡ b → marked (set ms i true) v ≡ cond b true (member v done)
-    pickOne true e = subst (λ (w : ℕ). marked (set ms i true) w ≡ true) (eqb-true i v e) (mark-same ms i l)
-    pickOne false e = mark-other ms i v (λ q. eqb-false i v e (sym q)) ∙ h v
+mark-one ms done i l h v =
+    ⊎-elim (λ e. rw (eq-eqb i v e) (subst (λ (w : ℕ). marked (set ms i true) w ≡ true) e (mark-same ms i l)))
+    (λ d. rw (ne-eqb i v d) (mark-other ms i v (λ q. d (sym q)) ∙ h v)) (eq-or-not i v)
 
 module _ (ts : List ℕ) (n : ℕ) (p q : ℕ → Bool) (h : (v : ℕ) → p v ≡ q v) where
   pub ready-same : (i : ℕ) → ready ts n p i ≡ ready ts n q i
@@ -143,18 +136,14 @@ module _ (ts : List ℕ) (n : ℕ) where
                   ap (λ (l : List ℕ). set l count i) (s .stored)
                   ∙ (ap (λ (k : ℕ). set (sets start 0 (s .front)) k i) place ∙ sym (sets-append (s .front) (i ∷ []) start 0));
               marks = mark-one taken (s .done) i l (s .marks);
-              skipped = λ v b. skipped l first v b (ltb v low) refl;
+              skipped = λ v b.
+                  ⊎-elim (λ h. mark-keeps taken i v l (s .skipped v h)) (λ h. not-false (marked (set taken i true) v) (first .miss v h b)) (lt-or-le v low);
               bound = omega (arith, first .high, s .bound);
               size = length-set taken i true ∙ s .size;
             }
           where
             place : count ≡ 0 + length (s .front)
             place = let e = s .counted in omega arith
-
-            skipped : i < length taken → First (λ v. not (marked (set taken i true) v)) low (n - low) next-low → (v : ℕ) → v < next-low
-                → (b : Bool) → ltb v low ≡ b → marked (set taken i true) v ≡ true
-            skipped l first v a true q = mark-keeps taken i v l (s .skipped v (ltb-true v low q))
-            skipped l first v a false q = not-false (marked (set taken i true) v) (first .miss v (ltb-false v low q) a)
 
     pub scheduling-full : n ≤ count → (count ≡ length (indexOrder ts n)) × (order ≡ sets start 0 (indexOrder ts n))
     unfolding orderFrom
