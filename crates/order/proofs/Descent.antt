@@ -344,63 +344,65 @@ module _ (ts : List ℕ) (n : ℕ) where
   pub searching-none : Searching (replicate nodeLimit false) (replicate nodeLimit false) (replicate nodeLimit 0) 0 0 0
   searching-none = record { bound = omega arith; idle = λ h. refl; begun = λ v h. absurd (omega arith); descent = descent-none }
 
-  module _ (few : n ≤ nodeLimit) {taken pushed : List Bool} {stack : List ℕ} {root depth count : ℕ} (s : Searching taken pushed stack root depth count) where
-    pub searching-size : (length pushed ≡ nodeLimit) × (depth + unmarked pushed ≤ nodeLimit) × (count ≤ n)
-    searching-size = let d = s .descent .1 in (d .sizes .1, d .room, descent-within (s .descent))
+module _
+    {ts : List ℕ} {n : ℕ} (few : n ≤ nodeLimit) {taken pushed : List Bool} {stack : List ℕ} {root depth count : ℕ}
+    (s : Searching ts n taken pushed stack root depth count) where
+  pub searching-size : (length pushed ≡ nodeLimit) × (depth + unmarked pushed ≤ nodeLimit) × (count ≤ n)
+  searching-size = let d = s .descent .1 in (d .sizes .1, d .room, descent-within ts n (s .descent))
 
-    -- one mark less is missing
-    pub searching-fewer : (w : ℕ) → w < n → marked pushed w ≡ false → unmarked pushed ≡ suc (unmarked (set pushed w true))
-    searching-fewer w l e = unmarked-set pushed w (subst (λ (k : ℕ). w < k) (sym (s .descent .1 .sizes .1)) (omega arith)) e
+  -- one mark less is missing
+  pub searching-fewer : (w : ℕ) → w < n → marked pushed w ≡ false → unmarked pushed ≡ suc (unmarked (set pushed w true))
+  searching-fewer w l e = unmarked-set pushed w (subst (λ (k : ℕ). w < k) (sym (s .descent .1 .sizes .1)) (omega arith)) e
 
-    pub searching-end : n ≤ root → (count ≡ length (indexOrder ts n)) × ((v : ℕ) → marked taken v ≡ member v (indexOrder ts n))
-    searching-end h = descent-end (s .descent) (s .idle h) (λ v l. s .begun v (omega arith))
+  pub searching-end : n ≤ root → (count ≡ length (indexOrder ts n)) × ((v : ℕ) → marked taken v ≡ member v (indexOrder ts n))
+  searching-end h = descent-end ts n (s .descent) (s .idle h) (λ v l. s .begun v (omega arith))
 
-    module _ (go : root < n) where
-      still : {P : Type 0} → n ≤ root → P
-      still h = absurd (omega arith)
+  module _ (go : root < n) where
+    still : {P : Type 0} → n ≤ root → P
+    still h = absurd (omega arith)
 
-      pub searching-on : depth ≡ 0 → marked pushed root ≡ true → Searching taken pushed stack (root + 1) depth count
-      searching-on z e =
-          record {
-            bound = omega arith;
-            idle = λ h. z;
-            begun = λ v h. ⊎-elim (λ q. rw q e) (λ d. s .begun v (omega arith)) (eq-or-not v root);
-            descent = s .descent;
-          }
+    pub searching-on : depth ≡ 0 → marked pushed root ≡ true → Searching ts n taken pushed stack (root + 1) depth count
+    searching-on z e =
+        record {
+          bound = omega arith;
+          idle = λ h. z;
+          begun = λ v h. ⊎-elim (λ q. rw q e) (λ d. s .begun v (omega arith)) (eq-or-not v root);
+          descent = s .descent;
+        }
 
-      kept : (w : ℕ) → w < n → (v : ℕ) → v < root → marked (set pushed w true) v ≡ true
-      kept w l v h = mark-keeps pushed w v (subst (λ (k : ℕ). w < k) (sym (s .descent .1 .sizes .1)) (omega arith)) (s .begun v h)
+    kept : (w : ℕ) → w < n → (v : ℕ) → v < root → marked (set pushed w true) v ≡ true
+    kept w l v h = mark-keeps pushed w v (subst (λ (k : ℕ). w < k) (sym (s .descent .1 .sizes .1)) (omega arith)) (s .begun v h)
 
-      pub searching-root : depth ≡ 0 → marked pushed root ≡ false → Searching taken (set pushed root true) (set stack 0 root) root 1 count
-      searching-root z e =
-          record {
-            bound = omega arith;
-            idle = λ h. still h;
-            begun = kept root go;
-            descent =
-                subst (λ (k : ℕ). Descent taken (set pushed root true) (set stack k root) (k + 1) count) z (descent-root few (s .descent) z root go e);
-          }
+    pub searching-root : depth ≡ 0 → marked pushed root ≡ false → Searching ts n taken (set pushed root true) (set stack 0 root) root 1 count
+    searching-root z e =
+        record {
+          bound = omega arith;
+          idle = λ h. still h;
+          begun = kept root go;
+          descent =
+              subst (λ (k : ℕ). Descent ts n taken (set pushed root true) (set stack k root) (k + 1) count) z (descent-root ts n few (s .descent) z root go e);
+        }
 
-      module _ (more : 0 < depth) (v : ℕ) (top : v ≡ getD stack (depth - 1) 0) where
-        pub searching-below : v < n
-        searching-below = top-below more v top (s .descent)
+    module _ (more : 0 < depth) (v : ℕ) (top : v ≡ getD stack (depth - 1) 0) where
+      pub searching-below : v < n
+      searching-below = top-below ts n more v top (s .descent)
 
-        module _ (w : ℕ) (waiting : w ≡ waits ts n (marked taken) v) where
-          pub searching-push : w < n → marked pushed w ≡ false → Searching taken (set pushed w true) (set stack depth w) root (depth + 1) count
-          searching-push l e =
-              let (r, f) = waits-for (marked taken) v w waiting l in
-              record { bound = s .bound; idle = λ h. still h; begun = kept w l; descent = descent-push more v top few (s .descent) w r f e }
+      module _ (w : ℕ) (waiting : w ≡ waits ts n (marked taken) v) where
+        pub searching-push : w < n → marked pushed w ≡ false → Searching ts n taken (set pushed w true) (set stack depth w) root (depth + 1) count
+        searching-push l e =
+            let (r, f) = waits-for ts n (marked taken) v w waiting l in
+            record { bound = s .bound; idle = λ h. still h; begun = kept w l; descent = descent-push ts n more v top few (s .descent) w r f e }
 
-          pub searching-leave : w < n → marked pushed w ≡ true → Searching taken pushed stack root 0 count
-          searching-leave l e =
-              let (r, f) = waits-for (marked taken) v w waiting l in
-              record { bound = s .bound; idle = λ h. still h; begun = s .begun; descent = descent-leave more v top (s .descent) w r f e }
+        pub searching-leave : w < n → marked pushed w ≡ true → Searching ts n taken pushed stack root 0 count
+        searching-leave l e =
+            let (r, f) = waits-for ts n (marked taken) v w waiting l in
+            record { bound = s .bound; idle = λ h. still h; begun = s .begun; descent = descent-leave ts n more v top (s .descent) w r f e }
 
-          pub searching-take : n ≤ w → Searching (set taken v true) pushed stack root (depth - 1) (count + 1)
-          searching-take h =
-              record {
-                bound = s .bound;
-                idle = λ h. still h;
-                begun = s .begun;
-                descent = descent-take more v top few (s .descent) (waits-none (marked taken) v w waiting h);
-              }
+        pub searching-take : n ≤ w → Searching ts n (set taken v true) pushed stack root (depth - 1) (count + 1)
+        searching-take h =
+            record {
+              bound = s .bound;
+              idle = λ h. still h;
+              begun = s .begun;
+              descent = descent-take ts n more v top few (s .descent) (waits-none ts n (marked taken) v w waiting h);
+            }

@@ -227,7 +227,7 @@ nothing-seen v e = let f = mark-none v in let z : _≡_ {A = ℕ} 0 1 = cc in ab
 nothing-good : Good nothing
 nothing-good = record { room = nothing-room; queued = λ v e. nothing-seen v e; inside = λ q h. absurd (not-suc-le-zero h) }
 
-module _ (ts : List ℕ) (n : ℕ) (few : n ≤ nodeLimit) (i : ℕ) where
+module _ {ts : List ℕ} {n i : ℕ} (few : n ≤ nodeLimit) where
   pub walking-start : (w : Walk) → w ≡ visitFrom ts n i 0 operandLimit nothing → Walking ts n i 0 w
   walking-start w e =
       let s = all-step ts n few i nothing nothing-good in
@@ -240,11 +240,11 @@ module _ (ts : List ℕ) (n : ℕ) (few : n ≤ nodeLimit) (i : ℕ) where
         closed = λ q h. absurd (not-suc-le-zero h);
       })
 
-  pub at-head : (head : ℕ) (w : Walk) → Walking ts n i head w → head < w .tail → getD (w .queue) head 0 < nodeLimit
-  at-head head w k h = subst (λ (m : ℕ). getD (w .queue) head 0 < m) (k .good .room .marks) (seen-below (w .seen) (getD (w .queue) head 0) (k .good .inside head h))
+  pub at-head : {head : ℕ} {w : Walk} → Walking ts n i head w → head < w .tail → getD (w .queue) head 0 < nodeLimit
+  at-head {head} {w} k h = subst (λ (m : ℕ). getD (w .queue) head 0 < m) (k .good .room .marks) (seen-below (w .seen) (getD (w .queue) head 0) (k .good .inside head h))
 
-  pub walking-step : (head : ℕ) (w z : Walk) → Walking ts n i head w → head < w .tail → z ≡ visitFrom ts n (getD (w .queue) head 0) 0 operandLimit w → Walking ts n i (head + 1) z
-  walking-step head w z k h e =
+  pub walking-step : {head : ℕ} {w : Walk} (z : Walk) → Walking ts n i head w → head < w .tail → z ≡ visitFrom ts n (getD (w .queue) head 0) 0 operandLimit w → Walking ts n i (head + 1) z
+  walking-step {head} {w} z k h e =
       let x = getD (w .queue) head 0 in
       let y = visitFrom ts n x 0 operandLimit w in
       let s = all-step ts n few x w (k .good) in
@@ -262,21 +262,21 @@ module _ (ts : List ℕ) (n : ℕ) (few : n ≤ nodeLimit) (i : ℕ) where
       })
 
   -- the walk came back to i
-  pub walking-back : (head : ℕ) (w : Walk) → Walking ts n i head w → marked (w .seen) i ≡ true → onLoop ts n i ≡ true
-  walking-back head w k e = on-loop-iff ts n i .1 (k .reached i e)
+  pub walking-back : {head : ℕ} {w : Walk} → Walking ts n i head w → marked (w .seen) i ≡ true → onLoop ts n i ≡ true
+  walking-back k e = on-loop-iff ts n i .1 (k .reached i e)
 
   -- where nothing is left of the queue, what was seen leads only to what was seen
-  leads-seen : (head : ℕ) (w : Walk) → Walking ts n i head w → w .tail ≤ head → {x y : ℕ} → Path ts n x y
+  leads-seen : {head : ℕ} {w : Walk} → Walking ts n i head w → w .tail ≤ head → {x y : ℕ} → Path ts n x y
       → ((v : ℕ) → readsIndex ts n x v ≡ true → marked (w .seen) v ≡ true) → marked (w .seen) y ≡ true
-  leads-seen head w k h (one {j = y} r) next = next y r
-  leads-seen head w k h (more {k = x} r p) next =
+  leads-seen k h (one {j = y} r) next = next y r
+  leads-seen k h (more {k = x} r p) next =
       let (q, l, e) = k .good .queued x (next x r) in
-      leads-seen head w k h p (λ v s. k .closed q (omega arith) v (subst (λ (m : ℕ). readsIndex ts n m v ≡ true) (sym e) s))
+      leads-seen k h p (λ v s. k .closed q (omega arith) v (subst (λ (m : ℕ). readsIndex ts n m v ≡ true) (sym e) s))
 
-  pub walking-done : (head : ℕ) (w : Walk) → Walking ts n i head w → w .tail ≤ head → marked (w .seen) i ≡ onLoop ts n i
-  walking-done head w k h = pickOne (marked (w .seen) i) (onLoop ts n i) refl refl
+  pub walking-done : {head : ℕ} {w : Walk} → Walking ts n i head w → w .tail ≤ head → marked (w .seen) i ≡ onLoop ts n i
+  walking-done {head} {w} k h = pickOne (marked (w .seen) i) (onLoop ts n i) refl refl
     where
       pickOne : (a b : Bool) → marked (w .seen) i ≡ a → onLoop ts n i ≡ b → a ≡ b
-      pickOne true b qa qb = sym (walking-back head w k qa) ∙ qb
-      pickOne false true qa qb = sym qa ∙ leads-seen head w k h (on-loop-iff ts n i .0 qb) (k .first)
+      pickOne true b qa qb = sym (walking-back k qa) ∙ qb
+      pickOne false true qa qb = sym qa ∙ leads-seen k h (on-loop-iff ts n i .0 qb) (k .first)
       pickOne false false qa qb = refl
