@@ -132,16 +132,12 @@ module _ (Q : ℕ → Type 0) where
 abbrev pub Anywhere : ℕ → Type 0
 Anywhere p = Unit {0}
 
-refs-anywhere : (rs : List Ref) → RefPlaces Anywhere rs
-refs-anywhere [] = tt
-refs-anywhere (r ∷ rs) = (tt, refs-anywhere rs)
-
-nodes-anywhere : (ns : List Node) → NodePlaces Anywhere ns
-nodes-anywhere [] = tt
-nodes-anywhere (n ∷ ns) = ((tt, refs-anywhere (reads n)), nodes-anywhere ns)
+each-of : {A : Type 0} (P : A → Type 0) → ((x : A) → P x) → (xs : List A) → Each P xs
+each-of P h [] = tt
+each-of P h (x ∷ xs) = (h x, each-of P h xs)
 
 pub anywhere : (f : Function) → Places Anywhere f
-anywhere f = record { head = tt; outputs = refs-anywhere (outputRefs (f .outputs)); nodes = nodes-anywhere (f .nodes) }
+anywhere f = record { head = tt; outputs = each-of _ (λ r. tt) (outputRefs (f .outputs)); nodes = each-of _ (λ n. (tt, each-of _ (λ r. tt) (reads n))) (f .nodes) }
 
 -- ---- the places of a written table are below its end
 

@@ -87,67 +87,67 @@ module _ (ts : List ℕ) (n : ℕ) where
         size = length-replicate nodeLimit false;
       }
 
-  module _ {start order : List ℕ} {taken : List Bool} {low count : ℕ} (s : Scheduling start order taken low count) where
-    -- the search from `low` on finds what the definition finds
-    found : firstOf (eligible ts n (marked taken)) low (n - low) ≡ next ts n (λ v. member v (s .done))
-    found =
-        sym (first-from (eligible ts n (marked taken)) n low (s .bound) (λ v h. ap (λ (b : Bool). not b && ready ts n (marked taken) v) (s .skipped v h)))
-        ∙ next-same ts n (marked taken) (λ v. member v (s .done)) (s .marks)
+module _ {ts : List ℕ} {n : ℕ} {start order : List ℕ} {taken : List Bool} {low count : ℕ} (s : Scheduling ts n start order taken low count) where
+  -- the search from `low` on finds what the definition finds
+  found : firstOf (eligible ts n (marked taken)) low (n - low) ≡ next ts n (λ v. member v (s .done))
+  found =
+      sym (first-from (eligible ts n (marked taken)) n low (s .bound) (λ v h. ap (λ (b : Bool). not b && ready ts n (marked taken) v) (s .skipped v h)))
+      ∙ next-same ts n (marked taken) (λ v. member v (s .done)) (s .marks)
 
-    module _ (more : count < n) where
-      goes : orderFrom ts n (n - count) (s .done) ≡ orderFrom ts n (suc (n - (count + 1))) (s .done)
-      goes = let e : n - count ≡ suc (n - (count + 1)) = omega arith in ap (λ (k : ℕ). orderFrom ts n k (s .done)) e
+  module _ (more : count < n) where
+    goes : orderFrom ts n (n - count) (s .done) ≡ orderFrom ts n (suc (n - (count + 1))) (s .done)
+    goes = let e : n - count ≡ suc (n - (count + 1)) = omega arith in ap (λ (k : ℕ). orderFrom ts n k (s .done)) e
 
-      pub scheduling-stuck : (i : ℕ) → i ≡ firstOf (eligible ts n (marked taken)) low (n - low) → n ≤ i
-          → (count ≡ length (indexOrder ts n)) × (order ≡ sets start 0 (indexOrder ts n))
-      unfolding orderFrom
-      scheduling-stuck i e h =
-          let stop : orderFrom ts n (n - count) (s .done) ≡ [] =
-          goes
-          ∙ ap
-          (λ (b : Bool). cond b (next ts n (λ v. member v (s .done)) ∷ orderFrom ts n (n - (count + 1)) (next ts n (λ v. member v (s .done)) ∷ s .done)) [])
-          (le-ltb (next ts n (λ v. member v (s .done))) n (subst (λ (k : ℕ). n ≤ k) (e ∙ found) h)) in
-          let w : indexOrder ts n ≡ s .front = s .whole ∙ ap (λ (l : List ℕ). s .front ++ l) stop ∙ append-nil (s .front) in
-          (s .counted ∙ ap length (sym w), s .stored ∙ ap (λ (l : List ℕ). sets start 0 l) (sym w))
-
-      module _ (i : ℕ) (e : i ≡ firstOf (eligible ts n (marked taken)) low (n - low)) (h : i < n) where
-        step : orderFrom ts n (n - count) (s .done) ≡ i ∷ orderFrom ts n (n - (count + 1)) (i ∷ s .done)
-        unfolding orderFrom
-        step =
-            goes
-            ∙ subst
-            (λ (k : ℕ). cond (ltb k n) (k ∷ orderFrom ts n (n - (count + 1)) (k ∷ s .done)) [] ≡ i ∷ orderFrom ts n (n - (count + 1)) (i ∷ s .done))
-            (e ∙ found)
-            (ap (λ (b : Bool). cond b (i ∷ orderFrom ts n (n - (count + 1)) (i ∷ s .done)) []) (lt-ltb i n h))
-
-        -- node i is taken, and `low` goes on to the first that is not
-        pub scheduling-step : n ≤ nodeLimit → (next-low : ℕ) → next-low ≡ firstOf (λ v. not (marked (set taken i true) v)) low (n - low)
-            → Scheduling start (set order count i) (set taken i true) next-low (count + 1)
-        scheduling-step few next-low f =
-            let l : i < length taken = subst (λ (k : ℕ). i < k) (sym (s .size)) (omega arith) in
-            let first = subst (λ (k : ℕ). First (λ v. not (marked (set taken i true) v)) low (n - low) k) (sym f) (first-is (λ v. not (marked (set taken i true) v)) (n - low) low) in
-            record {
-              front = s .front ++ i ∷ [];
-              done = i ∷ s .done;
-              counted = sym (length-append (s .front) (i ∷ []) ∙ ap (λ (k : ℕ). k + 1) (sym (s .counted)));
-              within = omega arith;
-              whole = s .whole ∙ ap (λ (l : List ℕ). s .front ++ l) step ∙ sym (append-assoc (s .front) (i ∷ []) _);
-              stored =
-                  ap (λ (l : List ℕ). set l count i) (s .stored)
-                  ∙ (ap (λ (k : ℕ). set (sets start 0 (s .front)) k i) place ∙ sym (sets-append (s .front) (i ∷ []) start 0));
-              marks = mark-one taken (s .done) i l (s .marks);
-              skipped = λ v b.
-                  ⊎-elim (λ h. mark-keeps taken i v l (s .skipped v h)) (λ h. not-false (marked (set taken i true) v) (first .miss v h b)) (lt-or-le v low);
-              bound = omega (arith, first .high, s .bound);
-              size = length-set taken i true ∙ s .size;
-            }
-          where
-            place : count ≡ 0 + length (s .front)
-            place = let e = s .counted in omega arith
-
-    pub scheduling-full : n ≤ count → (count ≡ length (indexOrder ts n)) × (order ≡ sets start 0 (indexOrder ts n))
+    pub scheduling-stuck : (i : ℕ) → i ≡ firstOf (eligible ts n (marked taken)) low (n - low) → n ≤ i
+        → (count ≡ length (indexOrder ts n)) × (order ≡ sets start 0 (indexOrder ts n))
     unfolding orderFrom
-    scheduling-full h =
-        let e : n - count ≡ 0 = omega arith in
-        let w : indexOrder ts n ≡ s .front = s .whole ∙ ap (λ (k : ℕ). s .front ++ orderFrom ts n k (s .done)) e ∙ append-nil (s .front) in
+    scheduling-stuck i e h =
+        let stop : orderFrom ts n (n - count) (s .done) ≡ [] =
+        goes
+        ∙ ap
+        (λ (b : Bool). cond b (next ts n (λ v. member v (s .done)) ∷ orderFrom ts n (n - (count + 1)) (next ts n (λ v. member v (s .done)) ∷ s .done)) [])
+        (le-ltb (next ts n (λ v. member v (s .done))) n (subst (λ (k : ℕ). n ≤ k) (e ∙ found) h)) in
+        let w : indexOrder ts n ≡ s .front = s .whole ∙ ap (λ (l : List ℕ). s .front ++ l) stop ∙ append-nil (s .front) in
         (s .counted ∙ ap length (sym w), s .stored ∙ ap (λ (l : List ℕ). sets start 0 l) (sym w))
+
+    module _ (i : ℕ) (e : i ≡ firstOf (eligible ts n (marked taken)) low (n - low)) (h : i < n) where
+      step : orderFrom ts n (n - count) (s .done) ≡ i ∷ orderFrom ts n (n - (count + 1)) (i ∷ s .done)
+      unfolding orderFrom
+      step =
+          goes
+          ∙ subst
+          (λ (k : ℕ). cond (ltb k n) (k ∷ orderFrom ts n (n - (count + 1)) (k ∷ s .done)) [] ≡ i ∷ orderFrom ts n (n - (count + 1)) (i ∷ s .done))
+          (e ∙ found)
+          (ap (λ (b : Bool). cond b (i ∷ orderFrom ts n (n - (count + 1)) (i ∷ s .done)) []) (lt-ltb i n h))
+
+      -- node i is taken, and `low` goes on to the first that is not
+      pub scheduling-step : n ≤ nodeLimit → (next-low : ℕ) → next-low ≡ firstOf (λ v. not (marked (set taken i true) v)) low (n - low)
+          → Scheduling ts n start (set order count i) (set taken i true) next-low (count + 1)
+      scheduling-step few next-low f =
+          let l : i < length taken = subst (λ (k : ℕ). i < k) (sym (s .size)) (omega arith) in
+          let first = subst (λ (k : ℕ). First (λ v. not (marked (set taken i true) v)) low (n - low) k) (sym f) (first-is (λ v. not (marked (set taken i true) v)) (n - low) low) in
+          record {
+            front = s .front ++ i ∷ [];
+            done = i ∷ s .done;
+            counted = sym (length-append (s .front) (i ∷ []) ∙ ap (λ (k : ℕ). k + 1) (sym (s .counted)));
+            within = omega arith;
+            whole = s .whole ∙ ap (λ (l : List ℕ). s .front ++ l) step ∙ sym (append-assoc (s .front) (i ∷ []) _);
+            stored =
+                ap (λ (l : List ℕ). set l count i) (s .stored)
+                ∙ (ap (λ (k : ℕ). set (sets start 0 (s .front)) k i) place ∙ sym (sets-append (s .front) (i ∷ []) start 0));
+            marks = mark-one taken (s .done) i l (s .marks);
+            skipped = λ v b.
+                ⊎-elim (λ h. mark-keeps taken i v l (s .skipped v h)) (λ h. not-false (marked (set taken i true) v) (first .miss v h b)) (lt-or-le v low);
+            bound = omega (arith, first .high, s .bound);
+            size = length-set taken i true ∙ s .size;
+          }
+        where
+          place : count ≡ 0 + length (s .front)
+          place = let e = s .counted in omega arith
+
+  pub scheduling-full : n ≤ count → (count ≡ length (indexOrder ts n)) × (order ≡ sets start 0 (indexOrder ts n))
+  unfolding orderFrom
+  scheduling-full h =
+      let e : n - count ≡ 0 = omega arith in
+      let w : indexOrder ts n ≡ s .front = s .whole ∙ ap (λ (k : ℕ). s .front ++ orderFrom ts n k (s .done)) e ∙ append-nil (s .front) in
+      (s .counted ∙ ap length (sym w), s .stored ∙ ap (λ (l : List ℕ). sets start 0 l) (sym w))
