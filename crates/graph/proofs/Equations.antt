@@ -2,8 +2,8 @@
 -- schedule, so that an induction along the schedule gives a value to each node, and the same value for any two solutions.
 use Prim.Native.Nat.{ℕ, zero, suc, _+_}
 use mathlib.Core.Path.{_≡_, refl, ap, sym, _∙_, subst}
-use mathlib.Core.Bool.{Bool, true, false, _||_, cond}
-use mathlib.Core.List.{List, [], _∷_, reverse}
+use mathlib.Core.Bool.{Bool, true, false, cond}
+use mathlib.Core.List.{List, [], _∷_, map, reverse}
 use mathlib.Core.Option.{none, some}
 use mathlib.Core.Logic.{_⊎_, inl, inr, ⊎-elim}
 use native.Mathlib.Omega.{arith}
@@ -12,8 +12,8 @@ use lib.ListN.{length, getElem?}
 use borrow.Author.Tests.{eqb-true, eqb-false, eq-eqb}
 use Rattle.base.specs.Lists.{member, Is}
 use Rattle.base.specs.Bytes.{Bytes}
-use Rattle.base.proofs.Bools.{and-inv, or-inv, cond-or}
-use Rattle.base.proofs.Lists.{some-is, member-first, reversed, reversed-back}
+use Rattle.base.proofs.Bools.{cond-or}
+use Rattle.base.proofs.Lists.{some-is, member-first, member-inv, member-later, reversed, reversed-back}
 use Rattle.ports.specs.Kinds.{kindOf}
 use Rattle.value.specs.declared.Value.{Value}
 use Rattle.value.specs.Typed.{Of, Typed}
@@ -29,19 +29,17 @@ use Rattle.graph.specs.Sound.{Wired, Shaped, Sound, AllSound}
 use Rattle.graph.specs.Orders.{Ordered}
 use Rattle.graph.specs.Meaning.{bind, all, Call, Env, refMeans, payloadMeans, nodeMeans, functionMeans, meaningOf}
 use Rattle.graph.specs.Equations.{Solves, Model, OneMeaning}
-use Rattle.graph.proofs.Order.{is-in, in-is, schedule-within, reads-in, scheduled}
+use Rattle.graph.proofs.Order.{is-in, in-is, schedule-within, ready-reads, wired-in, scheduled}
 use Rattle.graph.proofs.Means.{node-mono, node-means}
 use Rattle.graph.proofs.Formed.{accepted}
 use Rattle.graph.proofs.Exactly.{table-back}
 
 -- ---- along the schedule
 
-ready-ref : (done : List ℕ) (rs : List Ref) → ready done rs ≡ true → (r : Ref) → Is r rs → (r .node ≡ 0) ⊎ (member (r .node) done ≡ true)
-ready-ref done [] e r h = absurd h
-ready-ref done (x ∷ xs) e r (inl q) =
-    let (a, b) = and-inv (eqb (x .node) 0 || member (x .node) done) (ready done xs) e in
-    subst (λ (y : Ref). (y .node ≡ 0) ⊎ (member (y .node) done ≡ true)) (sym q) (⊎-elim (λ z. inl (eqb-true _ _ z)) (λ m. inr m) (or-inv _ _ a))
-ready-ref done (x ∷ xs) e r (inr h) = ready-ref done xs (and-inv (eqb (x .node) 0 || member (x .node) done) (ready done xs) e .1) r h
+ref-member : (r : Ref) (rs : List Ref) → Is r rs → member (r .node) (map (λ r. r .node) rs) ≡ true
+ref-member r [] h = absurd h
+ref-member r (x ∷ xs) (inl e) = rw e (member-first (x .node) (map (λ r. r .node) xs))
+ref-member r (x ∷ xs) (inr h) = member-later (r .node) (x .node) (map (λ r. r .node) xs) (ref-member r xs h)
 
 -- what holds at a node where it holds at all that the node reads, holds at every node; k counts the nodes passed
 module _
@@ -52,13 +50,11 @@ module _
     Done k done = (i : ℕ) → member i done ≡ true → P k i
 
     done-next : (k : ℕ) (done : List ℕ) (n : Node) → Is n (f .nodes) → ready done (reads n) ≡ true → Done k done → Done (suc k) (n .id ∷ done)
-    done-next k done n is fit h i m = go (eqb (n .id) i) refl m
-      where
-        go : (b : Bool) → eqb (n .id) i ≡ b → cond b true (member i done) ≡ true → P (suc k) i
-        go true q e =
-            subst (P (suc k)) (eqb-true (n .id) i q)
-            (step k n is (λ r j. ⊎-elim (λ z. inl z) (λ x. inr (h (r .node) x)) (ready-ref done (reads n) fit r j)))
-        go false q e = more k i (h i e)
+    done-next k done n is fit h i m =
+        ⊎-elim
+        (λ q. subst (P (suc k)) q
+        (step k n is (λ r j. ⊎-elim inl (λ x. inr (h (r .node) x)) (ready-reads done (reads n) (r .node) fit (ref-member r (reads n) j)))))
+        (λ e. more k i (h i e)) (member-inv i (n .id) done m)
 
     along : (os : List Node) (done : List ℕ) (k t : ℕ) → length os + k ≡ t → ((n : Node) → Is n os → Is n (f .nodes)) → Ordered done os → Done k done
         → (i : ℕ) → (member i done ≡ true) ⊎ Is i (ids os) → P t i
@@ -82,14 +78,7 @@ module _
 
     -- and so wherever a reference leads
     pub at-refs : (ws : List ℕ) (rs : List Ref) → Wired (refType early f) ws rs → (r : Ref) → Is r rs → (r .node ≡ 0) ⊎ P (length (f .nodes)) (r .node)
-    at-refs ws [] w r h = absurd h
-    at-refs [] (x ∷ xs) w r h = absurd w
-    at-refs (t ∷ ts) (x ∷ xs) (w, ws) r (inr h) = at-refs ts xs ws r h
-    at-refs (t ∷ ts) (x ∷ xs) (w, ws) r (inl q) =
-        subst (λ (y : Ref). (y .node ≡ 0) ⊎ P (length (f .nodes)) (y .node)) (sym q) (⊎-elim (λ z. inl z) (λ i. inr (there i)) (reads-in early f x t w))
-      where
-        there : Is (x .node) (ids (f .nodes)) → P (length (f .nodes)) (x .node)
-        there i = let (n, is, e) = in-is (x .node) (f .nodes) i in rw e (at-node n is)
+    at-refs ws rs w r h = ⊎-elim inl (λ i. let (n, is, e) = in-is (r .node) (f .nodes) i in inr (rw e (at-node n is))) (wired-in early f ws rs w (r .node) (ref-member r rs h))
 
 -- ---- two solutions in one function
 
@@ -163,11 +152,7 @@ module _ (early : List Function) (f : Function) (args : List Value) (inputs : Ty
             rw (sound .resolved .own n is) o,
           )
 
-      -- two solutions have the same value at every node
-      pub nodes-agree : (n : Node) → Is n (f .nodes) → Agree env env′ (n .id)
-      nodes-agree = at-node early f sound (λ k i. Agree env env′ i) (λ k i a. a) step-agrees
-
-      -- and the same outputs
+      -- two solutions have the same outputs
       pub outputs-agree :
           (vs : List Value)
           × (all (refMeans args env) (outputRefs (f .outputs)) ≡ some vs)
@@ -317,15 +302,6 @@ module _ (early : List Function) (f : Function) (sound : AllSound (f ∷ early))
   -- each node means what its kind, or its callee, makes of the meanings of its references
   pub node-equation : Solves (meaningOf early) args (nodeMeans (meaningOf early) (f .nodes) args (length (f .nodes))) (f .nodes)
   node-equation = depth-solves early f args inputs (sound .0) (meaningOf early) (meaning-agrees early (sound .1))
-
-  -- whatever satisfies the equations at every node is that meaning
-  pub node-unique : (env : Env) → Solves (meaningOf early) args env (f .nodes) → (n : Node) → Is n (f .nodes)
-      → env (n .id) ≡ nodeMeans (meaningOf early) (f .nodes) args (length (f .nodes)) (n .id)
-  node-unique env solves n is =
-      let (vs, a, b, t) =
-      nodes-agree early f args inputs (sound .0) (meaningOf early) (meaningOf early) (meaning-agrees early (sound .1)) env
-      (nodeMeans (meaningOf early) (f .nodes) args (length (f .nodes))) solves node-equation n is in
-      a ∙ sym b
 
 module _ (fs : List Function) (sound : AllSound fs) where
   -- every function of an accepted table means something on all arguments of its types

@@ -15,7 +15,7 @@ use Rattle.graph.specs.Rules.{Meets, Fault, of-header, of-reading, of-ru
 use Rattle.base.proofs.Outcomes.{took, after, takes, stops, goes, halts, took-fault, after-fault, no-fault, ok-is}
 use Rattle.graph.proofs.Formed.{plain1, parse-written}
 use Rattle.graph.proofs.Writes.{written-parse}
-use Rattle.graph.proofs.First.{says-one, judge-all-says, table-apart}
+use Rattle.graph.proofs.First.{judged-is, all-judged}
 use Rattle.graph.proofs.FrontToBack.{parse-fault, fault-parse}
 
 module _ (s : List ℕ) where
@@ -24,7 +24,7 @@ module _ (s : List ℕ) where
   unfolding table
   table-back fs m =
       takes (parse version1 s) _ fs (written-parse version1 plain1 s fs (m .written))
-      ∙ goes (judgeAll [] fs) _ tt (says-one (tableChecks [] fs) (judgeAll [] fs) (ok tt) (table-apart [] fs) (judge-all-says [] fs) (m .rules))
+      ∙ goes (judgeAll [] fs) _ tt (judged-is (tableChecks [] fs) (judgeAll [] fs) (ok tt) (all-judged [] fs) (m .rules))
 
   gives-back : (o : Outcome ℕ) → Gives version1 s o → verdict s ≡ o
   unfolding verdict table
@@ -34,7 +34,7 @@ module _ (s : List ℕ) where
   gives-back (fault n p) (of-rules fs w f) =
       stops (table s) _ n p
       (takes (parse version1 s) _ fs (written-parse version1 plain1 s fs w)
-      ∙ halts (judgeAll [] fs) _ n p (says-one (tableChecks [] fs) (judgeAll [] fs) (fault n p) (table-apart [] fs) (judge-all-says [] fs) f))
+      ∙ halts (judgeAll [] fs) _ n p (judged-is (tableChecks [] fs) (judgeAll [] fs) (fault n p) (all-judged [] fs) f))
 
   module _ (small : Bytes s) where
     pub table-there : (gs : List Function) → table s ≡ ok gs → (fs : List Function) × Meets version1 s fs × (reverse fs ≡ gs)
@@ -42,14 +42,14 @@ module _ (s : List ℕ) where
     table-there gs e =
         let (fs, q, e1) = took (parse version1 s) _ gs e in
         let (u, j, e2) = after (judgeAll [] fs) (ok (reverse fs)) gs e1 in
-        (fs, record { written = parse-written version1 plain1 s small fs q; rules = subst (Says (tableChecks [] fs)) j (judge-all-says [] fs) }, ok-is e2)
+        (fs, record { written = parse-written version1 plain1 s small fs q; rules = subst (Says (tableChecks [] fs)) j (all-judged [] fs .0) }, ok-is e2)
 
     fault-there : (n p : ℕ) → table s ≡ fault n p → Fault version1 s n p
     unfolding table
     fault-there n p e =
         ⊎-elim (λ f. ⊎-elim of-header (λ (a, r). of-reading a r) (parse-fault version1 s n p f))
         (λ (fs, f, g).
-        ⊎-elim (λ j. of-rules fs (parse-written version1 plain1 s small fs f) (subst (Says (tableChecks [] fs)) j (judge-all-says [] fs)))
+        ⊎-elim (λ j. of-rules fs (parse-written version1 plain1 s small fs f) (subst (Says (tableChecks [] fs)) j (all-judged [] fs .0)))
         (λ (u, j, r). absurd (no-fault (reverse fs) n p r)) (after-fault (judgeAll [] fs) (ok (reverse fs)) n p g))
         (took-fault (parse version1 s) _ n p e)
 

@@ -2,9 +2,9 @@
 use Prim.Native.Nat.{ℕ}
 use mathlib.Core.Path.{_≡_, refl, ap, sym, _∙_, subst}
 use mathlib.Core.Bool.{Bool, true, false, not, _&&_, cond}
-use mathlib.Core.List.{List, [], _∷_, _++_, map}
+use mathlib.Core.List.{List, [], _∷_, _++_}
 use mathlib.Core.Option.{Option, none, some}
-use mathlib.Core.Logic.{_≢_, _⊎_, inl, inr, ⊎-elim, _↔_}
+use mathlib.Core.Logic.{_⊎_, inl, inr, ⊎-elim, _↔_}
 use native.Mathlib.Omega.{arith}
 use lib.Dec.{eqb}
 use lib.ListN.{length, getElem?}
@@ -15,17 +15,12 @@ use Rattle.graph.specs.Look.{findNode, findFunction, found, reads, outpu
 use Rattle.graph.specs.Loops.{Leads, loops}
 use Rattle.graph.specs.Types.{inputsOf, wantsOf, givesOf, givesAt, refType, outputTypes}
 use Rattle.graph.specs.Judge.{fresh, callOk, typeIs, refOk, refsOk, loopFree, judge, judgeAll}
-use Rattle.base.specs.Lists.{Is, Distinct}
-use Rattle.graph.specs.Formed.{Formed}
-use Rattle.graph.specs.Sound.{Resolved}
-use Rattle.graph.specs.Orders.{FirstOnLoop, Orders}
+use Rattle.base.specs.Lists.{Is}
+use Rattle.graph.specs.Orders.{FirstOnLoop}
 use Rattle.graph.specs.Checks.{CalleeThere, CalleeWrong, NoPort, no-input, no-node, no-port, Check, check, All, First, Says, idChecks, callChecks, refChecks, nodeRefChecks, loopChecks, linkChecks, functionChecks, tableChecks}
 use Rattle.base.proofs.Lists.{some-is, past-end, end-past}
 use Rattle.graph.proofs.Loops.{loops-iff}
-use Rattle.graph.proofs.Accept.{not-found, is-found, resolved-by}
-use Rattle.graph.proofs.Order.{order-iff}
-use Rattle.graph.proofs.Fresh.{fresh-distinct}
-use Rattle.base.proofs.Outcomes.{after, passed, goes, no-fault, then-then}
+use Rattle.base.proofs.Outcomes.{then-then}
 
 -- ---- checks in turn
 
@@ -53,8 +48,12 @@ says-one cs (ok u) (fault n p) w a b = absurd (first-all cs n p w b a)
 says-one cs (fault n p) (ok u) w a b = absurd (first-all cs n p w a b)
 says-one cs (fault n p) (fault m q) w a b = first-one cs n p m q w a b
 
-pub says-iff : (cs : List Check) (g o : Outcome (Unit {0})) → Apart cs → Says cs g → (g ≡ o) ↔ Says cs o
-says-iff cs g o w s = (λ e. subst (Says cs) e s, λ t. says-one cs g o w s t)
+-- what is given is what the checks say, and they say one thing
+abbrev pub Judged : List Check → Outcome (Unit {0}) → Type 0
+Judged cs g = Says cs g × Apart cs
+
+pub judged-is : (cs : List Check) (g o : Outcome (Unit {0})) → Judged cs g → Says cs o → g ≡ o
+judged-is cs g o (s, w) t = says-one cs g o w s t
 
 -- ---- a test, and steps one after another
 
@@ -95,12 +94,14 @@ says-then cs ds (ok u) (ok v) a b = all-append cs ds a b
 says-then cs ds (ok u) (fault n p) a b = first-right cs ds n p a b
 says-then cs ds (fault n p) h a b = first-left cs ds n p a
 
+judged-then : (cs ds : List Check) (g h : Outcome (Unit {0})) → Judged cs g → Judged ds h → Judged (cs ++ ds) (g >> h)
+judged-then cs ds g h (a, v) (b, w) = (says-then cs ds g h a b, apart-append cs ds v w)
+
 -- the same where the second is given the first's answer
-says-bind : (cs ds : List Check) (g h : Outcome (Unit {0})) → Says cs g → Says ds h → Says (cs ++ ds) (g >>= λ u. h)
-unfolding _>>=_
-says-bind cs ds (ok u) (ok v) a b = all-append cs ds a b
-says-bind cs ds (ok u) (fault n p) a b = first-right cs ds n p a b
-says-bind cs ds (fault n p) h a b = first-left cs ds n p a
+judged-bind : (cs ds : List Check) (g h : Outcome (Unit {0})) → Judged cs g → Judged ds h → Judged (cs ++ ds) (g >>= λ u. h)
+unfolding _>>_ _>>=_
+judged-bind cs ds (ok u) h a b = judged-then cs ds (ok u) h a b
+judged-bind cs ds (fault n p) h a b = judged-then cs ds (fault n p) h a b
 
 -- ---- 9
 
@@ -108,36 +109,28 @@ module _ {A : Type 0} where
   abbrev freshCheck : Option A → ℕ → Check
   freshCheck o p = check 9 p (o ≡ none) ((a : A) × (o ≡ some a))
 
-  found-says : (o : Option A) (p : ℕ) → Says (freshCheck o p ∷ []) (need (not (found o)) 9 p)
-  found-says o p = says-test (not (found o)) 9 p (not-found o) (λ e. is-found o (not-false (found o) e))
-    where
-      not-false : (b : Bool) → not b ≡ false → b ≡ true
-      not-false true e = refl
-      not-false false e = let z : _≡_ {A = ℕ} 0 1 = cc in absurd (omega arith)
+  found-judged : (o : Option A) (p : ℕ) → Judged (freshCheck o p ∷ []) (need (not (found o)) 9 p)
+  unfolding need
+  found-judged none p = ((refl, tt), (λ e (a, f). let z : _≡_ {A = ℕ} 0 1 = cc in omega arith, tt))
+  found-judged (some a) p = (inl ((a, refl), refl, refl), (λ e (b, f). let z : _≡_ {A = ℕ} 0 1 = cc in omega arith, tt))
 
-  found-apart : (o : Option A) → o ≡ none → (a : A) × (o ≡ some a) → ⊥
-  found-apart o e (a, f) = let z : _≡_ {A = ℕ} 0 1 = cc in omega arith
-
-ids-say : (before ns : List Node) → Says (idChecks before ns) (fresh before ns)
-ids-say before [] = tt
-ids-say before (n ∷ ns) =
-    says-then (freshCheck (findNode (n .id) before) (n .place) ∷ []) (idChecks (n ∷ before) ns) _ _ (found-says (findNode (n .id) before) (n .place))
-    (ids-say (n ∷ before) ns)
-
-ids-apart : (before ns : List Node) → Apart (idChecks before ns)
-ids-apart before [] = tt
-ids-apart before (n ∷ ns) = (found-apart (findNode (n .id) before), ids-apart (n ∷ before) ns)
+pub ids-judged : (before ns : List Node) → Judged (idChecks before ns) (fresh before ns)
+ids-judged before [] = (tt, tt)
+ids-judged before (n ∷ ns) =
+    judged-then (freshCheck (findNode (n .id) before) (n .place) ∷ []) (idChecks (n ∷ before) ns) _ _ (found-judged (findNode (n .id) before) (n .place))
+    (ids-judged (n ∷ before) ns)
 
 -- ---- 10
 
 call-says : (early : List Function) (at : ℕ) (p : Payload) → Says (check 10 at (CalleeThere early p) (CalleeWrong early p) ∷ []) (callOk early at p)
+unfolding need
 call-says early at (consts ws) = (tt, tt)
 call-says early at (refs rs) = (tt, tt)
 call-says early at (calls c rs) = go (findFunction c early) refl
   where
     go : (o : Option Function) → findFunction c early ≡ o
         → Says (check 10 at (CalleeThere early (calls c rs)) (CalleeWrong early (calls c rs)) ∷ []) (need (found o && eqb (length rs) (length (inputsOf o))) 10 at)
-    go none e = says-test false 10 at (λ q. let z : _≡_ {A = ℕ} 0 1 = cc in absurd (omega arith)) (λ q. inl e)
+    go none e = inl (inl e, refl, refl)
     go (some g) e =
         says-test (eqb (length rs) (length (g .inputs))) 10 at (λ q. (g, e, eqb-true _ _ q)) (λ q. inr (g, e, eqb-false (length rs) (length (g .inputs)) q))
 
@@ -147,15 +140,11 @@ call-apart early (refs rs) a b = b
 call-apart early (calls c rs) (g, e, l) (inl n) = let z : _≡_ {A = ℕ} 0 1 = cc in omega arith
 call-apart early (calls c rs) (g, e, l) (inr (h, f, m)) = m (l ∙ ap (λ (x : Function). length (x .inputs)) (some-is (sym e ∙ f)))
 
-calls-say : (early : List Function) (ns : List Node) → Says (callChecks early ns) (each (λ n. callOk early (n .place) (n .payload)) ns)
-calls-say early [] = tt
-calls-say early (n ∷ ns) =
-    says-bind (check 10 (n .place) (CalleeThere early (n .payload)) (CalleeWrong early (n .payload)) ∷ []) (callChecks early ns) _ _
-    (call-says early (n .place) (n .payload)) (calls-say early ns)
-
-calls-apart : (early : List Function) (ns : List Node) → Apart (callChecks early ns)
-calls-apart early [] = tt
-calls-apart early (n ∷ ns) = (call-apart early (n .payload), calls-apart early ns)
+pub calls-judged : (early : List Function) (ns : List Node) → Judged (callChecks early ns) (each (λ n. callOk early (n .place) (n .payload)) ns)
+calls-judged early [] = (tt, tt)
+calls-judged early (n ∷ ns) =
+    judged-bind (check 10 (n .place) (CalleeThere early (n .payload)) (CalleeWrong early (n .payload)) ∷ []) (callChecks early ns) _ _
+    (call-says early (n .place) (n .payload), (call-apart early (n .payload), tt)) (calls-judged early ns)
 
 -- ---- 11 and 12
 
@@ -177,82 +166,57 @@ module _ (early : List Function) (f : Function) where
   abbrev refCheck : ℕ → Ref → List Check
   refCheck w r = refChecks early f (w ∷ []) (r ∷ [])
 
-  ref-says : (w : ℕ) (r : Ref) → Says (refCheck w r) (refOk early f w r)
-  ref-says w r = go (refType early f r) refl
+  ref-judged : (w : ℕ) (r : Ref) → Judged (refCheck w r) (refOk early f w r)
+  unfolding need
+  ref-judged w r = (go (refType early f r) refl, (typed, (λ e (t, q, n). n (some-is (sym q ∙ e)), tt)))
     where
+      test : (t : ℕ) → refType early f r ≡ some t → (b : Bool) → eqb t w ≡ b → Says (refCheck w r) (need b 12 (r .place))
+      test t e true q = ((t, e), (e ∙ ap some (eqb-true t w q), tt))
+      test t e false q = inr ((t, e), inl ((t, e, eqb-false t w q), refl, refl))
+
       go : (o : Option ℕ) → refType early f r ≡ o → Says (refCheck w r) (typeIs w (r .place) o)
       go none e = inl (no-type r e, refl, refl)
-      go (some t) e =
-          more (need (eqb t w) 12 (r .place))
-          (says-test (eqb t w) 12 (r .place) (λ q. e ∙ ap some (eqb-true t w q)) (λ q. (t, e, eqb-false t w q)))
-        where
-          more : (g : Outcome (Unit {0}))
-              → Says (check 12 (r .place) (refType early f r ≡ some w) ((t : ℕ) × (refType early f r ≡ some t) × (t ≢ w)) ∷ []) g → Says (refCheck w r) g
-          more (ok u) a = ((t, e), a)
-          more (fault n p) x = inr ((t, e), x)
+      go (some t) e = test t e (eqb t w) refl
 
-  refs-say : (ws : List ℕ) (rs : List Ref) → Says (refChecks early f ws rs) (refsOk early f ws rs)
-  refs-say [] rs = tt
-  refs-say (w ∷ ws) [] = tt
-  refs-say (w ∷ ws) (r ∷ rs) = says-then (refCheck w r) (refChecks early f ws rs) _ _ (ref-says w r) (refs-say ws rs)
-
-  refs-apart : (ws : List ℕ) (rs : List Ref) → Apart (refChecks early f ws rs)
-  refs-apart [] rs = tt
-  refs-apart (w ∷ ws) [] = tt
-  refs-apart (w ∷ ws) (r ∷ rs) = (typed, (wanted, refs-apart ws rs))
-    where
       typed : (t : ℕ) × (refType early f r ≡ some t) → NoPort early f r → ⊥
       typed (t, e) n = let q = type-not r n in let z : _≡_ {A = ℕ} 0 1 = cc in omega arith
 
-      wanted : refType early f r ≡ some w → (t : ℕ) × (refType early f r ≡ some t) × (t ≢ w) → ⊥
-      wanted e (t, q, n) = n (some-is (sym q ∙ e))
+  refs-judged : (ws : List ℕ) (rs : List Ref) → Judged (refChecks early f ws rs) (refsOk early f ws rs)
+  refs-judged [] rs = (tt, tt)
+  refs-judged (w ∷ ws) [] = (tt, tt)
+  refs-judged (w ∷ ws) (r ∷ rs) = judged-then (refCheck w r) (refChecks early f ws rs) _ _ (ref-judged w r) (refs-judged ws rs)
 
-  outputs-say : (os : List Output) → Says (refChecks early f (outputTypes os) (outputRefs os)) (each (λ o. refOk early f (o .type) (o .ref)) os)
-  outputs-say [] = tt
-  outputs-say (o ∷ os) =
-      says-bind (refCheck (o .type) (o .ref)) (refChecks early f (outputTypes os) (outputRefs os)) _ _ (ref-says (o .type) (o .ref)) (outputs-say os)
+  pub outputs-judged : (os : List Output) → Judged (refChecks early f (outputTypes os) (outputRefs os)) (each (λ o. refOk early f (o .type) (o .ref)) os)
+  outputs-judged [] = (tt, tt)
+  outputs-judged (o ∷ os) =
+      judged-bind (refCheck (o .type) (o .ref)) (refChecks early f (outputTypes os) (outputRefs os)) _ _ (ref-judged (o .type) (o .ref)) (outputs-judged os)
 
-  node-refs-say : (ns : List Node) → Says (nodeRefChecks early f ns) (each (λ n. refsOk early f (wantsOf early n (n .payload)) (reads n)) ns)
-  node-refs-say [] = tt
-  node-refs-say (n ∷ ns) =
-      says-bind (refChecks early f (wantsOf early n (n .payload)) (reads n)) (nodeRefChecks early f ns) _ _
-      (refs-say (wantsOf early n (n .payload)) (reads n)) (node-refs-say ns)
-
-  node-refs-apart : (ns : List Node) → Apart (nodeRefChecks early f ns)
-  node-refs-apart [] = tt
-  node-refs-apart (n ∷ ns) =
-      apart-append (refChecks early f (wantsOf early n (n .payload)) (reads n)) (nodeRefChecks early f ns)
-      (refs-apart (wantsOf early n (n .payload)) (reads n)) (node-refs-apart ns)
+  pub node-refs-judged : (ns : List Node) → Judged (nodeRefChecks early f ns) (each (λ n. refsOk early f (wantsOf early n (n .payload)) (reads n)) ns)
+  node-refs-judged [] = (tt, tt)
+  node-refs-judged (n ∷ ns) =
+      judged-bind (refChecks early f (wantsOf early n (n .payload)) (reads n)) (nodeRefChecks early f ns) _ _
+      (refs-judged (wantsOf early n (n .payload)) (reads n)) (node-refs-judged ns)
 
 -- ---- 13: the first node in the table that lies on a loop
 
-not-loops : (all : List Node) (i : ℕ) → loops all i ≡ false → Leads all i i → ⊥
-not-loops all i e l = let a : loops all i ≡ true = loops-iff all i .1 l in let z : _≡_ {A = ℕ} 0 1 = cc in omega arith
-
-loops-say : (all ns : List Node) → Says (loopChecks all ns) (each (λ n. need (not (loops all (n .id))) 13 (n .place)) ns)
-loops-say all [] = tt
-loops-say all (n ∷ ns) =
-    says-bind (check 13 (n .place) (Leads all (n .id) (n .id) → ⊥) (Leads all (n .id) (n .id)) ∷ []) (loopChecks all ns) _ _ (go (loops all (n .id)) refl)
-    (loops-say all ns)
+pub loops-judged : (all ns : List Node) → Judged (loopChecks all ns) (each (λ n. need (not (loops all (n .id))) 13 (n .place)) ns)
+unfolding need
+loops-judged all [] = (tt, tt)
+loops-judged all (n ∷ ns) =
+    judged-bind (check 13 (n .place) (Leads all (n .id) (n .id) → ⊥) (Leads all (n .id) (n .id)) ∷ []) (loopChecks all ns) _ _
+    (go (loops all (n .id)) refl, ((λ a b. a b), tt)) (loops-judged all ns)
   where
     go : (b : Bool) → loops all (n .id) ≡ b
         → Says (check 13 (n .place) (Leads all (n .id) (n .id) → ⊥) (Leads all (n .id) (n .id)) ∷ []) (need (not b) 13 (n .place))
-    go true e = says-test false 13 (n .place) (λ q. let z : _≡_ {A = ℕ} 0 1 = cc in absurd (omega arith)) (λ q. loops-iff all (n .id) .0 e)
-    go false e = says-test true 13 (n .place) (λ q. not-loops all (n .id) e) (λ q. let z : _≡_ {A = ℕ} 0 1 = cc in absurd (omega arith))
-
-loops-apart : (all ns : List Node) → Apart (loopChecks all ns)
-loops-apart all [] = tt
-loops-apart all (n ∷ ns) = ((λ a b. a b), loops-apart all ns)
+    go true e = inl (loops-iff all (n .id) .0 e, refl, refl)
+    go false e = (λ l. let a = loops-iff all (n .id) .1 l in let z : _≡_ {A = ℕ} 0 1 = cc in omega arith, tt)
 
 -- the place is that of the first node that lies on one
-abbrev Found : List Node → List Node → ℕ → ℕ → Type 0
-Found all ns n p =
-    (m : Node) × (before : List Node) × (behind : List Node) × (ns ≡ before ++ m ∷ behind) × ((x : Node) → Is x before → Leads all (x .id) (x .id) → ⊥)
+first-there : (all ns : List Node) (n p : ℕ) → First (loopChecks all ns) n p
+    → (m : Node) × (before : List Node) × (behind : List Node) × (ns ≡ before ++ m ∷ behind) × ((x : Node) → Is x before → Leads all (x .id) (x .id) → ⊥)
     × Leads all (m .id) (m .id)
     × (13 ≡ n)
     × (m .place ≡ p)
-
-first-there : (all ns : List Node) (n p : ℕ) → First (loopChecks all ns) n p → Found all ns n p
 first-there all [] n p f = absurd f
 first-there all (x ∷ xs) n p (inl (a, b, c)) = (x, [], xs, refl, (λ y h. absurd h), a, b, c)
 first-there all (x ∷ xs) n p (inr (a, f)) =
@@ -282,12 +246,6 @@ first-loop ns n p = (there, back)
         let g : First (loopChecks ns ns) 13 (m .place) = subst (λ (xs : List Node). First (loopChecks ns xs) 13 (m .place)) (sym (o .stands)) h in
         rw (← b, ← c) g
 
-pub loop-place : (f : Function) (n p : ℕ) → (loopFree f ≡ fault n p) ↔ ((m : Node) × FirstOnLoop (f .nodes) m × (13 ≡ n) × (m .place ≡ p))
-loop-place f n p =
-    let i = says-iff (loopChecks (f .nodes) (f .nodes)) (loopFree f) (fault n p) (loops-apart (f .nodes) (f .nodes)) (loops-say (f .nodes) (f .nodes)) in
-    let j = first-loop (f .nodes) n p in
-    (λ e. j .0 (i .0 e), λ x. i .1 (j .1 x))
-
 -- ---- a function, and functions
 
 module _ (early : List Function) (f : Function) where
@@ -301,86 +259,20 @@ module _ (early : List Function) (f : Function) where
       >> each (λ n. refsOk early f (wantsOf early n (n .payload)) (reads n)) (f .nodes))))
 
   judge-split : judge early f ≡ (linked >> loopFree f)
-  judge-split =
-      let U = Outcome (Unit {0}) in
-      let a : U = need (not (found (findFunction (f .id) early))) 9 (f .place) in
-      let b : U = fresh [] (f .nodes) in
-      let c : U = each (λ n. callOk early (n .place) (n .payload)) (f .nodes) in
-      let d : U = each (λ o. refOk early f (o .type) (o .ref)) (f .outputs) in
-      let e : U = each (λ n. refsOk early f (wantsOf early n (n .payload)) (reads n)) (f .nodes) in
-      sym
-      (then-then a (b >> (c >> (d >> e))) (loopFree f)
-      ∙ ap (λ (x : U). a >> x)
-      (then-then b (c >> (d >> e)) (loopFree f)
-      ∙ ap (λ (x : U). b >> x) (then-then c (d >> e) (loopFree f) ∙ ap (λ (x : U). c >> x) (then-then d e (loopFree f)))))
+  judge-split = sym (simp then-then)
 
-  linked-says : Says (linkChecks early f) linked
-  linked-says =
-      says-then (freshCheck (findFunction (f .id) early) (f .place) ∷ []) _ _ _ (found-says (findFunction (f .id) early) (f .place))
-      (says-then (idChecks [] (f .nodes)) _ _ _ (ids-say [] (f .nodes))
-      (says-then (callChecks early (f .nodes)) _ _ _ (calls-say early (f .nodes))
-      (says-then (refChecks early f (outputTypes (f .outputs)) (outputRefs (f .outputs))) _ _ _ (outputs-say early f (f .outputs))
-      (node-refs-say early f (f .nodes)))))
+  links-judged : Judged (linkChecks early f) linked
+  links-judged =
+      judged-then (freshCheck (findFunction (f .id) early) (f .place) ∷ []) _ _ _ (found-judged (findFunction (f .id) early) (f .place))
+      (judged-then (idChecks [] (f .nodes)) _ _ _ (ids-judged [] (f .nodes))
+      (judged-then (callChecks early (f .nodes)) _ _ _ (calls-judged early (f .nodes))
+      (judged-then (refChecks early f (outputTypes (f .outputs)) (outputRefs (f .outputs))) _ _ _ (outputs-judged early f (f .outputs))
+      (node-refs-judged early f (f .nodes)))))
 
-  link-apart : Apart (linkChecks early f)
-  link-apart = (
-    found-apart (findFunction (f .id) early),
-    apart-append (idChecks [] (f .nodes)) _ (ids-apart [] (f .nodes))
-        (apart-append (callChecks early (f .nodes)) _ (calls-apart early (f .nodes))
-        (apart-append (refChecks early f (outputTypes (f .outputs)) (outputRefs (f .outputs))) _
-        (refs-apart early f (outputTypes (f .outputs)) (outputRefs (f .outputs))) (node-refs-apart early f (f .nodes)))),
-  )
+  pub judge-judged : Judged (functionChecks early f) (judge early f)
+  judge-judged =
+      subst (Judged (functionChecks early f)) (sym judge-split) (judged-then (linkChecks early f) _ _ _ links-judged (loops-judged (f .nodes) (f .nodes)))
 
-  function-apart : Apart (functionChecks early f)
-  function-apart = apart-append (linkChecks early f) (loopChecks (f .nodes) (f .nodes)) link-apart (loops-apart (f .nodes) (f .nodes))
-
-  pub judge-says : Says (functionChecks early f) (judge early f)
-  judge-says = subst (Says (functionChecks early f)) (sym judge-split) (says-then (linkChecks early f) _ _ _ linked-says (loops-say (f .nodes) (f .nodes)))
-
-  -- ---- 13 exactly when no order puts each node after all that it reads, where no earlier fault stands
-
-  module _ (formed : Formed f) (before : All (linkChecks early f)) where
-    only-loops : judge early f ≡ loopFree f
-    only-loops = judge-split ∙ goes linked (loopFree f) tt (says-one (linkChecks early f) linked (ok tt) link-apart linked-says before)
-
-    resolved : Resolved early f × Distinct (map (λ n. n .id) (f .nodes))
-    resolved =
-        let (x, y) = passed (not (found (findFunction (f .id) early))) 9 (f .place) _ tt (says-one (linkChecks early f) linked (ok tt) link-apart linked-says before) in
-        let (a1, f1, e2) = after (fresh [] (f .nodes)) _ tt y in
-        let (a2, f2, e3) = after (each (λ n. callOk early (n .place) (n .payload)) (f .nodes)) _ tt e2 in
-        let (a3, f3, f4) = after (each (λ o. refOk early f (o .type) (o .ref)) (f .outputs)) _ tt e3 in
-        (resolved-by early f formed (before .0) a1 a2 a3 tt f1 f2 f3 f4, fresh-distinct (f .nodes) f1)
-
-    pub order-judged : (judge early f ≡ ok tt) ↔ ((os : List Node) × Orders (f .nodes) os)
-    order-judged =
-        let i = order-iff early f (resolved .0) (resolved .1) in
-        (λ e. i .0 (sym only-loops ∙ e), λ o. only-loops ∙ i .1 o)
-
-    -- a first node on a loop, exactly when there is no order
-    pub no-order-loop : ((m : Node) × FirstOnLoop (f .nodes) m) ↔ ((os : List Node) → Orders (f .nodes) os → ⊥)
-    no-order-loop = (there, λ h. back (judge early f) refl h)
-      where
-        there : (m : Node) × FirstOnLoop (f .nodes) m → (os : List Node) → Orders (f .nodes) os → ⊥
-        there (m, o) os x =
-            no-fault tt 13 (m .place) (sym (sym only-loops ∙ order-judged .1 (os, x)) ∙ loop-place f 13 (m .place) .1 (m, o, refl, refl))
-
-        back : (g : Outcome (Unit {0})) → judge early f ≡ g → ((os : List Node) → Orders (f .nodes) os → ⊥) → (m : Node) × FirstOnLoop (f .nodes) m
-        back (ok u) e h = let (os, o) = order-judged .0 e in absurd (h os o)
-        back (fault n p) e h = let (m, o, q, r) = loop-place f n p .0 (sym only-loops ∙ e) in (m, o)
-
-    pub no-order-13 : ((p : ℕ) × (judge early f ≡ fault 13 p)) ↔ ((os : List Node) → Orders (f .nodes) os → ⊥)
-    no-order-13 = (there, back)
-      where
-        there : (p : ℕ) × (judge early f ≡ fault 13 p) → (os : List Node) → Orders (f .nodes) os → ⊥
-        there (p, e) = let (m, o, q, r) = loop-place f 13 p .0 (sym only-loops ∙ e) in no-order-loop .0 (m, o)
-
-        back : ((os : List Node) → Orders (f .nodes) os → ⊥) → (p : ℕ) × (judge early f ≡ fault 13 p)
-        back h = let (m, o) = no-order-loop .1 h in (m .place, only-loops ∙ loop-place f 13 (m .place) .1 (m, o, refl, refl))
-
-pub judge-all-says : (early fs : List Function) → Says (tableChecks early fs) (judgeAll early fs)
-judge-all-says early [] = tt
-judge-all-says early (f ∷ fs) = says-then (functionChecks early f) _ _ _ (judge-says early f) (judge-all-says (f ∷ early) fs)
-
-pub table-apart : (early fs : List Function) → Apart (tableChecks early fs)
-table-apart early [] = tt
-table-apart early (f ∷ fs) = apart-append (functionChecks early f) (tableChecks (f ∷ early) fs) (function-apart early f) (table-apart (f ∷ early) fs)
+pub all-judged : (early fs : List Function) → Judged (tableChecks early fs) (judgeAll early fs)
+all-judged early [] = (tt, tt)
+all-judged early (f ∷ fs) = judged-then (functionChecks early f) _ _ _ (judge-judged early f) (all-judged (f ∷ early) fs)

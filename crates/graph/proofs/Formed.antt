@@ -17,16 +17,20 @@ use Rattle.base.specs.Outcome.{ok, _>>_, Part}
 use Rattle.graph.specs.Graph.{Ref, Payload, Node, Output, Function}
 use Rattle.base.specs.Bytes.{byte, u16, Bytes, bytesOf, allBytes, constants}
 use Rattle.graph.specs.Format.{Format, version1}
-use Rattle.graph.specs.Read.{inputs, reference, references, outputs, payload, node, nodes, function, functions, marked, parse}
+use Rattle.graph.specs.Read.{inputs, reference, references, outputs, payload, node, nodes, inRange, function, functions, marked, parse}
 use Rattle.graph.specs.Types.{outputTypes}
 use Rattle.graph.specs.Judge.{judgeAll, table}
 use Rattle.graph.specs.Formed.{AllWithin, FormedPayload, FormedNode, Formed, AllFormed}
 use Rattle.graph.specs.Sound.{AllSound}
 use Rattle.graph.specs.Written.{flat, refBytes, outputBytes, payloadBytes, nodeBytes, functionBytes, headerBytes, tableBytes, RefsAt, PayloadAt, OutputsAt, NodesAt, FunctionAt, FunctionsAt, Short, ShortRefs, ShortPayload, ShortNode, ShortIds, Written}
+use Rattle.graph.specs.Reading.{HeadRight}
 use Rattle.base.proofs.Bools.{and-inv}
+use Rattle.base.proofs.Numbers.{between}
 use Rattle.base.proofs.Outcomes.{took, after, passed, ok-is}
 use Rattle.base.proofs.Stands.{bytes-length, all-length, Here, moved, join, onto, whole-is, little, little-below, little-here, u16-here, u16-below, constants-here, constants-length, constants-words}
-use Rattle.graph.proofs.Accept.{all-judged}
+use Rattle.graph.specs.Checks.{Says, tableChecks}
+use Rattle.graph.proofs.First.{all-judged}
+use Rattle.graph.proofs.Accept.{all-sound}
 
 -- ---- lengths
 
@@ -45,8 +49,21 @@ outputs-size (o ∷ os) = let e : length (flat outputBytes os) ≡ 4 * length os
 pub header-length : (format : Format) (count size : ℕ) → 8 ≤ format .header → length (headerBytes format count size) ≡ format .header
 header-length format count size h = let e = bytes-length (format .header - 6) size in omega arith
 
-type-code : (t : ℕ) → leb 1 t && leb t 3 ≡ true → TypeCode t
-type-code t e = let (a, b) = and-inv (leb 1 t) (leb t 3) e in (leb-true 1 t a, leb-true t 3 b)
+-- ---- what the tests of a head and of the mark tell
+
+pub in-range : (limit id nin nout count : ℕ) → inRange limit id nin nout count ≡ true → HeadRight limit id nin nout count
+in-range limit id nin nout count u =
+    let (u1, u2) = and-inv (leb 1 id && leb nin 8 && (leb 1 nout && leb nout 8)) (leb count limit) u in
+    let (u3, u4) = and-inv (leb 1 id && leb nin 8) (leb 1 nout && leb nout 8) u1 in
+    let (u5, u6) = and-inv (leb 1 id) (leb nin 8) u3 in
+    let (a, b) = between nout 8 u4 in
+    (leb-true 1 id u5, leb-true nin 8 u6, a, b, leb-true count limit u2)
+
+pub marked-bytes : (s : List ℕ) → marked s ≡ true → (byte s 0 ≡ 0x49) × (byte s 1 ≡ 0x46) × (byte s 2 ≡ 0x47)
+marked-bytes s e =
+    let (m, c) = and-inv (eqb (byte s 0) 0x49 && eqb (byte s 1) 0x46) (eqb (byte s 2) 0x47) e in
+    let (a, b) = and-inv (eqb (byte s 0) 0x49) (eqb (byte s 1) 0x46) m in
+    (eqb-true _ _ a, eqb-true _ _ b, eqb-true _ _ c)
 
 module _ (s : List ℕ) (small : Bytes s) where
   -- ---- inputs, outputs and references
@@ -61,7 +78,7 @@ module _ (s : List ℕ) (small : Bytes s) where
       let (b, e2) = passed _ _ _ _ _ e1 in
       let (r, er, e3) = took _ _ _ e2 in
       let (l, c, h) = inputs-formed n (at + 1) r er in
-      subst (InputsRead (suc n) at) (ok-is e3) (ap suc l, (type-code (byte s at) b, c), onto s (byte s at) r at refl h)
+      subst (InputsRead (suc n) at) (ok-is e3) (ap suc l, (between (byte s at) 3 b, c), onto s (byte s at) r at refl h)
 
   ref-here : (at : ℕ) → Here s at (refBytes (reference s at))
   ref-here at = join s (bytesOf 2 (u16 s at)) (byte s (at + 2) ∷ []) at (u16-here s small at) (onto s (byte s (at + 2)) [] (at + 2) refl refl)
@@ -86,7 +103,7 @@ module _ (s : List ℕ) (small : Bytes s) where
       let o : Output = record { type = byte s at; ref = reference s (at + 1) } in
       subst (OutputsRead (suc n) at) (ok-is e3) (
         ap suc l,
-        (type-code (byte s at) b, c),
+        (between (byte s at) 3 b, c),
         join s (outputBytes o) (flat outputBytes r) at (onto s (byte s at) (refBytes (reference s (at + 1))) at refl (ref-here (at + 1))) h,
         (refl, p),
         (u16-below s small (at + 1), w),
@@ -186,7 +203,7 @@ module _ (s : List ℕ) (small : Bytes s) where
 
   function-here :
       (limit at nin nout end : ℕ) (ins : List ℕ) (outs : List Output) (ns : List Node) → byte s (at + 2) ≡ nin → byte s (at + 3) ≡ nout
-      → (1 ≤ u16 s at) × (nin ≤ 8) × (1 ≤ nout) × (nout ≤ 8) × (u16 s (at + 4) ≤ limit) → InputsRead nin (at + 6) ins → OutputsRead nout (at + 6 + nin) outs
+      → HeadRight limit (u16 s at) nin nout (u16 s (at + 4)) → InputsRead nin (at + 6) ins → OutputsRead nout (at + 6 + nin) outs
       → NodesRead (u16 s (at + 4)) (at + 6 + nin + 4 * nout) (record { it = ns; next = end })
       → FunctionRead limit at (record { it = record { id = u16 s at; place = at; inputs = ins; outputs = outs; nodes = ns }; next = end })
   function-here limit at nin nout end ins outs ns bi bo (c1, c2, c3, c4, c5) (il, it, hi) (ol, ot, ho, po, wo) (nl, nt, hn, qn, pn, wn) =
@@ -226,13 +243,9 @@ module _ (s : List ℕ) (small : Bytes s) where
       let nin = byte s (at + 2) in
       let nout = byte s (at + 3) in
       let count = u16 s (at + 4) in
-      let (u1, u2) = and-inv (leb 1 (u16 s at) && leb nin 8 && (leb 1 nout && leb nout 8)) (leb count limit) u in
-      let (u3, u4) = and-inv (leb 1 (u16 s at) && leb nin 8) (leb 1 nout && leb nout 8) u1 in
-      let (u5, u6) = and-inv (leb 1 (u16 s at)) (leb nin 8) u3 in
-      let (u7, u8) = and-inv (leb 1 nout) (leb nout 8) u4 in
       subst (FunctionRead limit at) (ok-is e5)
       (function-here limit at nin nout (ns .next) ins outs (ns .it) refl refl
-      (leb-true 1 (u16 s at) u5, leb-true nin 8 u6, leb-true 1 nout u7, leb-true nout 8 u8, leb-true count limit u2) (inputs-formed nin (at + 6) ins ei)
+      (in-range limit (u16 s at) nin nout count u) (inputs-formed nin (at + 6) ins ei)
       (outputs-formed nout (at + 6 + nin) outs eo) (nodes-formed count (at + 6 + nin + 4 * nout) ns en))
 
   -- every function is formed, and has no more nodes than the limit
@@ -277,16 +290,15 @@ module _ (format : Format) (plain : Plain format) (s : List ℕ) (small : Bytes 
   table-stood : (gs : List Function) → marked s ≡ true → u16 s 3 ≡ format .version → format .size s ≡ length s → length gs ≡ byte s 5
       → Here s (format .header) (flat functionBytes gs) → length s ≡ format .header + length (flat functionBytes gs) → s ≡ tableBytes format gs
   table-stood gs mark version size count h l =
-      let (m1, b2) = and-inv (eqb (byte s 0) 0x49 && eqb (byte s 1) 0x46) (eqb (byte s 2) 0x47) mark in
-      let (b0, b1) = and-inv (eqb (byte s 0) 0x49) (eqb (byte s 1) 0x46) m1 in
+      let (b0, b1, b2) = marked-bytes s mark in
       let w = format .header - 6 in
       let body = flat functionBytes gs in
       let total = format .header + length body in
       let field : little s w 6 ≡ total = sym (plain .size s) ∙ size ∙ l in
       let head : Here s 0 (headerBytes format (length gs) total) =
-      onto s 0x49 _ 0 (eqb-true _ _ b0)
-      (onto s 0x46 _ 1 (eqb-true _ _ b1)
-      (onto s 0x47 _ 2 (eqb-true _ _ b2)
+      onto s 0x49 _ 0 b0
+      (onto s 0x46 _ 1 b1
+      (onto s 0x47 _ 2 b2
       (join s (bytesOf 2 (format .version)) (length gs ∷ bytesOf w total) 3 (subst (λ (i : ℕ). Here s 3 (bytesOf 2 i)) version (u16-here s small 3))
       (onto s (length gs) (bytesOf w total) 5 (sym count) (subst (λ (i : ℕ). Here s 6 (bytesOf w i)) field (little-here s small w 6)))))) in
       let hl = header-length format (length gs) total (plain .header) in
@@ -303,15 +315,15 @@ module _ (format : Format) (plain : Plain format) (s : List ℕ) (small : Bytes 
       let (t5, e5) = passed _ _ _ _ _ e4 in
       let (p, ep, e6) = took _ _ _ e5 in
       let (t6, e7) = passed _ _ _ _ _ e6 in
-      let (c1, c2) = and-inv (leb 1 (byte s 5)) (leb (byte s 5) 16) t5 in
+      let (c1, c2) = between (byte s 5) 16 t5 in
       let size : format .size s ≡ length s = eqb-true _ _ t4 in
       let (f, m, h, q, ps, cs, l) = functions-formed s small (format .nodeLimit) (byte s 5) (format .header) p ep in
       subst (Written format s) (ok-is e7)
       (record {
         bytes = table-stood (p .it) t2 (eqb-true _ _ t3) size l h (sym (eqb-true _ _ t6) ∙ q);
         size = subst (λ (i : ℕ). i < 256 ^ (format .header - 6)) (sym (plain .size s) ∙ size) (little-below s small (format .header - 6) 6);
-        some-function = subst (λ (i : ℕ). 1 ≤ i) (sym l) (leb-true 1 (byte s 5) c1);
-        count = subst (λ (i : ℕ). i ≤ 16) (sym l) (leb-true (byte s 5) 16 c2);
+        some-function = subst (λ (i : ℕ). 1 ≤ i) (sym l) c1;
+        count = subst (λ (i : ℕ). i ≤ 16) (sym l) c2;
         formed = f;
         nodes = m;
         ids = cs;
@@ -326,4 +338,5 @@ module _ (s : List ℕ) (small : Bytes s) where
       let (gs, p, e1) = took (parse version1 s) (λ fs. judgeAll [] fs >> ok (reverse fs)) fs e in
       let (u, j, e2) = after (judgeAll [] gs) (ok (reverse gs)) fs e1 in
       let q : reverse gs ≡ fs = ok-is e2 in
-      subst AllSound q (all-judged [] gs u (parse-written version1 plain1 s small gs p .formed) tt j)
+      subst AllSound q
+      (all-sound [] gs (parse-written version1 plain1 s small gs p .formed) tt (subst (Says (tableChecks [] gs)) j (all-judged [] gs .0)))

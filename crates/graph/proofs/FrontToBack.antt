@@ -1,6 +1,6 @@
 -- The reading gives the first fault from front to back.
 use Prim.Native.Nat.{ℕ, zero, suc, _+_, _*_, _≤_, _<_}
-use mathlib.Core.Path.{_≡_, refl, ap, sym, _∙_, subst}
+use mathlib.Core.Path.{_≡_, refl, sym, _∙_, subst}
 use mathlib.Core.Bool.{Bool, true, false, _&&_}
 use mathlib.Core.List.{List, [], _∷_}
 use mathlib.Core.Logic.{_≢_, _⊎_, inl, inr, ⊎-elim}
@@ -27,6 +27,7 @@ use Rattle.base.proofs.Bools.{and-inv, and-inv-false}
 use Rattle.base.proofs.Outcomes.{took, after, passed, takes, stops, needs, took-fault, after-fault, passed-fault, no-fault, then-then}
 use Rattle.base.proofs.Numbers.{none-at-all, between, not-between, between-apart}
 use Rattle.base.proofs.Lists.{not-every, every-apart}
+use Rattle.graph.proofs.Formed.{in-range, marked-bytes}
 use Rattle.graph.proofs.First.{Apart, first-all, says-one, says-test, says-then}
 
 module _ {A B C : Type 0} where
@@ -178,16 +179,8 @@ module _ (limit : ℕ) (s : List ℕ) where
   -- the fields of a function's head
   head-says : (at id nin nout count : ℕ)
       → Says (check 6 at (HeadRight limit id nin nout count) (HeadWrong limit id nin nout count) ∷ []) (need (inRange limit id nin nout count) 6 at)
-  head-says at id nin nout count = says-test (inRange limit id nin nout count) 6 at there back
+  head-says at id nin nout count = says-test (inRange limit id nin nout count) 6 at (in-range limit id nin nout count) back
     where
-      there : inRange limit id nin nout count ≡ true → HeadRight limit id nin nout count
-      there u =
-          let (u1, u2) = and-inv (leb 1 id && leb nin 8 && (leb 1 nout && leb nout 8)) (leb count limit) u in
-          let (u3, u4) = and-inv (leb 1 id && leb nin 8) (leb 1 nout && leb nout 8) u1 in
-          let (u5, u6) = and-inv (leb 1 id) (leb nin 8) u3 in
-          let (a, b) = between nout 8 u4 in
-          (leb-true 1 id u5, leb-true nin 8 u6, a, b, leb-true count limit u2)
-
       back : inRange limit id nin nout count ≡ false → HeadWrong limit id nin nout count
       back u =
           ⊎-elim
@@ -259,19 +252,13 @@ module _ (format : Format) (s : List ℕ) where
   header-says : Says (headerChecks format s) header
   header-says =
       says-then (check 1 0 (8 ≤ length s) (length s < 8) ∷ []) _ _ _ (says-test (leb 8 (length s)) 1 0 (leb-true 8 (length s)) (leb-false 8 (length s)))
-      (says-then (check 2 0 Marked Unmarked ∷ []) _ _ _ (says-test (Read.marked s) 2 0 marks others)
+      (says-then (check 2 0 Marked Unmarked ∷ []) _ _ _ (says-test (Read.marked s) 2 0 (marked-bytes s) others)
       (says-then (check 3 3 (u16 s 3 ≡ format .version) (u16 s 3 ≢ format .version) ∷ []) _ _ _
       (says-test (eqb (u16 s 3) (format .version)) 3 3 (eqb-true _ _) (eqb-false _ _))
       (says-then (check 4 6 (format .size s ≡ length s) (format .size s ≢ length s) ∷ []) _ _ _
       (says-test (eqb (format .size s) (length s)) 4 6 (eqb-true _ _) (eqb-false _ _))
       (says-test count-right 6 5 (between (byte s 5) 16) (not-between (byte s 5) 16)))))
     where
-      marks : Read.marked s ≡ true → Marked
-      marks e =
-          let (m, c) = and-inv (eqb (byte s 0) 0x49 && eqb (byte s 1) 0x46) (eqb (byte s 2) 0x47) e in
-          let (a, b) = and-inv (eqb (byte s 0) 0x49) (eqb (byte s 1) 0x46) m in
-          (eqb-true _ _ a, eqb-true _ _ b, eqb-true _ _ c)
-
       others : Read.marked s ≡ false → Unmarked
       others e =
           ⊎-elim (λ m. ⊎-elim (λ a. inl (eqb-false _ _ a)) (λ b. inr (inl (eqb-false _ _ b))) (and-inv-false (eqb (byte s 0) 0x49) (eqb (byte s 1) 0x46) m))
@@ -286,17 +273,7 @@ module _ (format : Format) (s : List ℕ) where
       marks (a, b, c) (inr (inr x)) = x c
 
   parse-split : Read.parse format s ≡ (header >> body)
-  parse-split =
-      let a = need (leb 8 (length s)) 1 0 in
-      let b = need (Read.marked s) 2 0 in
-      let c = need (eqb (u16 s 3) (format .version)) 3 3 in
-      let d = need (eqb (format .size s) (length s)) 4 6 in
-      let e = need count-right 6 5 in
-      sym
-      (then-then a (b >> (c >> (d >> e))) body
-      ∙ ap (λ (x : Outcome (List Function)). a >> x)
-      (then-then b (c >> (d >> e)) body
-      ∙ ap (λ (x : Outcome (List Function)). b >> x) (then-then c (d >> e) body ∙ ap (λ (x : Outcome (List Function)). c >> x) (then-then d e body))))
+  parse-split = sym (simp then-then)
 
   read-fault : (n p : ℕ) → body ≡ fault n p → readAll (format .nodeLimit) s (byte s 5) (format .header) ≡ fault n p
   read-fault n p e =

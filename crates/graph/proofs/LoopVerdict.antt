@@ -13,11 +13,14 @@ use Rattle.graph.specs.Judge.{verdict}
 use Rattle.graph.specs.Formed.{Formed}
 use Rattle.graph.specs.Written.{Written}
 use Rattle.graph.specs.Orders.{FirstOnLoop, Orders}
-use Rattle.graph.specs.Checks.{All, First, loopChecks, linkChecks, functionChecks, tableChecks}
+use Rattle.graph.specs.Checks.{All, First, idChecks, loopChecks, linkChecks, functionChecks, tableChecks}
 use Rattle.graph.specs.Reading.{headerChecks}
 use Rattle.graph.specs.Rules.{Fault, of-header, of-reading, of-rules, LoopFault}
 use Rattle.base.proofs.Outcomes.{is-each}
-use Rattle.graph.proofs.First.{all-append, all-split, first-left, first-right, first-split, first-loop, no-order-loop}
+use Rattle.graph.proofs.First.{all-append, all-split, first-left, first-right, first-split, first-loop}
+use Rattle.graph.proofs.Accept.{links-resolved}
+use Rattle.graph.proofs.Fresh.{ids-distinct}
+use Rattle.graph.proofs.Order.{no-order-loop}
 use Rattle.graph.proofs.Ranges.{Anywhere, anywhere, Rule, first-ranged, header-range, reading-range, link-range}
 use Rattle.graph.proofs.Exactly.{verdict-iff}
 
@@ -105,17 +108,16 @@ module _ (s : List ℕ) (small : Bytes s) where
   pub no-order-verdict : (before : List Function) (f : Function) (behind : List Function) → Written version1 s (before ++ f ∷ behind)
       → All (tableChecks [] before) → All (linkChecks (reverse before) f)
       → ((m : Node) × FirstOnLoop (f .nodes) m × (verdict s ≡ fault 13 (m .place))) ↔ ((os : List Node) → Orders (f .nodes) os → ⊥)
-  no-order-verdict before f behind w a l = (there, back)
+  no-order-verdict before f behind w a l = (λ (m, o, e). loop .0 (m, o), back)
     where
-      formed : Formed f
-      formed = is-each Formed (before ++ f ∷ behind) (w .formed) f (stands before f behind)
-
-      there : (m : Node) × FirstOnLoop (f .nodes) m × (verdict s ≡ fault 13 (m .place)) → (os : List Node) → Orders (f .nodes) os → ⊥
-      there (m, o, e) = no-order-loop (reverse before) f formed l .0 (m, o)
+      loop : ((m : Node) × FirstOnLoop (f .nodes) m) ↔ ((os : List Node) → Orders (f .nodes) os → ⊥)
+      loop =
+          let formed = is-each Formed (before ++ f ∷ behind) (w .formed) f (stands before f behind) in
+          no-order-loop (reverse before) f (links-resolved (reverse before) f formed l) (ids-distinct [] (f .nodes) (all-split (idChecks [] (f .nodes)) _ (l .1) .0))
 
       back : ((os : List Node) → Orders (f .nodes) os → ⊥) → (m : Node) × FirstOnLoop (f .nodes) m × (verdict s ≡ fault 13 (m .place))
       back h =
-          let (m, o) = no-order-loop (reverse before) f formed l .1 h in (
+          let (m, o) = loop .1 h in (
             m,
             o,
             verdict-13 (m .place) .1

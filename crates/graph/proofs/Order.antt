@@ -1,7 +1,7 @@
 -- The order has every node once, each after all that it reads.
 use Prim.Native.Nat.{ℕ, zero, suc, _+_, _≤_}
 use mathlib.Core.Path.{_≡_, refl, ap, sym, _∙_, subst}
-use mathlib.Core.Bool.{Bool, true, false, _&&_, _||_, cond}
+use mathlib.Core.Bool.{Bool, true, false, _||_, cond}
 use mathlib.Core.List.{List, [], _∷_, map}
 use mathlib.Core.Option.{Option, none, some}
 use mathlib.Core.Logic.{_⊎_, inl, inr, ⊎-elim, _↔_}
@@ -14,19 +14,21 @@ use Rattle.base.specs.Lists.{member, Is, Distinct}
 use Rattle.graph.specs.Look.{readIds, findNode, reads, ids}
 use Rattle.graph.specs.Loops.{readsId, Leads, one, more}
 use Rattle.graph.specs.Schedule.{ready, Picked, before, pick, order, schedule}
-use Rattle.graph.proofs.Loops.{stuck-loops, leads-node}
-use Rattle.base.proofs.Bools.{and-inv, or-inv, cond-or}
-use Rattle.graph.proofs.Accept.{loop-free-iff, among-is}
+use Rattle.graph.proofs.Loops.{found-or-none, stuck-loops, leads-node}
+use Rattle.graph.proofs.First.{loops-judged, first-loop}
+use Rattle.base.proofs.Bools.{and-inv, or-inv, and-inv-false, cond-or}
+use Rattle.graph.proofs.Accept.{no-loop}
 use Rattle.base.proofs.Outcomes.{is-each}
-use Rattle.base.specs.Outcome.{ok}
-use Rattle.base.proofs.Lists.{member-first}
+use Rattle.base.specs.Outcome.{Outcome, ok, fault}
+use Rattle.base.proofs.Lists.{member-first, member-inv, member-later}
 use Rattle.graph.specs.Sound.{Wired, Resolved, Sound}
 use Rattle.graph.specs.Formed.{FormedNode}
 use Rattle.graph.specs.Sums.{sum}
-use Rattle.graph.specs.Orders.{Orders}
+use Rattle.graph.specs.Orders.{FirstOnLoop, Orders}
 pub use Rattle.graph.specs.Orders.{Ordered}
 use Rattle.graph.specs.Types.{refType, givesAt, wantsOf}
 use Rattle.graph.specs.Judge.{loopFree}
+use Rattle.graph.specs.Checks.{Says, loopChecks}
 
 pub is-in : (n : Node) (ns : List Node) → Is n ns → Is (n .id) (ids ns)
 is-in n [] h = absurd h
@@ -37,6 +39,10 @@ pub in-is : (i : ℕ) (ns : List Node) → Is i (ids ns) → (n : Node) × Is n 
 in-is i [] h = absurd h
 in-is i (x ∷ xs) (inl e) = (x, inl refl, e)
 in-is i (x ∷ xs) (inr h) = let (n, a, e) = in-is i xs h in (n, inr a, e)
+
+or-inv-false : (a b : Bool) → a || b ≡ false → (a ≡ false) × (b ≡ false)
+or-inv-false true b e = let z : _≡_ {A = ℕ} 0 1 = cc in absurd (omega arith)
+or-inv-false false b e = (refl, e)
 
 -- ---- a node that is not ready
 
@@ -49,14 +55,12 @@ later done r rs (j, m, z, d) = (j, cond-or (eqb (r .node) j) _ m, z, d)
 
 waits : (done : List ℕ) (rs : List Ref) → ready done rs ≡ false → Waits done rs
 waits done [] e = let z : _≡_ {A = ℕ} 0 1 = cc in absurd (omega arith)
-waits done (r ∷ rs) e = go (eqb (r .node) 0) (member (r .node) done) refl refl (λ f. later done r rs (waits done rs f)) e
+waits done (r ∷ rs) e = ⊎-elim here (λ b. later done r rs (waits done rs b)) (and-inv-false (eqb (r .node) 0 || member (r .node) done) (ready done rs) e)
   where
-    go :
-        (a b : Bool) → eqb (r .node) 0 ≡ a → member (r .node) done ≡ b → (ready done rs ≡ false → Waits done (r ∷ rs))
-        → (a || b) && ready done rs ≡ false → Waits done (r ∷ rs)
-    go true b qa qb ih f = ih f
-    go false true qa qb ih f = ih f
-    go false false qa qb ih f = (r .node, rw (eq-eqb (r .node) (r .node) refl) refl, eqb-false _ _ qa, qb)
+    here : eqb (r .node) 0 || member (r .node) done ≡ false → Waits done (r ∷ rs)
+    here f =
+        let (a, b) = or-inv-false (eqb (r .node) 0) (member (r .node) done) f in
+        (r .node, member-first (r .node) (map (λ r. r .node) rs), eqb-false (r .node) 0 a, b)
 
 before-none : (n : Node) (o : Option Picked) → before n o ≡ none → o ≡ none
 before-none n none e = refl
@@ -79,6 +83,7 @@ pub record Split (done : List ℕ) (p : Picked) (left : List Node) : Type 0 wher
   pub fit : ready done (reads (p .node)) ≡ true
   pub total : (g : Node → ℕ) → sum g left ≡ g (p .node) + sum g (p .rest)
   pub size : length left ≡ suc (length (p .rest))
+  pub picked : Is (p .node) left
   pub here : (n : Node) → Is n left → (n ≡ p .node) ⊎ Is n (p .rest)
   pub there : (n : Node) → Is n (p .rest) → Is n left
 
@@ -90,7 +95,7 @@ before-some n none p e = let z : _≡_ {A = ℕ} 0 1 = cc in absurd (omega arith
 before-some n (some q) p e = (q, refl, cc)
 
 push : (done : List ℕ) (x : Node) (xs : List Node) (q : Picked) → Split done q xs → Split done (pushed x q) (x ∷ xs)
-push done x xs q s = record { fit = s .fit; total = total; size = ap suc (s .size); here = here; there = there }
+push done x xs q s = record { fit = s .fit; total = total; size = ap suc (s .size); picked = inr (s .picked); here = here; there = there }
   where
     total : (g : Node → ℕ) → g x + sum g xs ≡ g (q .node) + (g x + sum g (q .rest))
     total g = let e : sum g xs ≡ g (q .node) + sum g (q .rest) = s .total g in omega arith
@@ -104,19 +109,7 @@ push done x xs q s = record { fit = s .fit; total = total; size = ap suc (s .siz
     there n (inr h) = inr (s .there n h)
 
 first : (done : List ℕ) (x : Node) (xs : List Node) → ready done (reads x) ≡ true → Split done (record { node = x; rest = xs }) (x ∷ xs)
-first done x xs e = record { fit = e; total = λ g. refl; size = refl; here = λ n h. h; there = λ n h. inr h }
-
-picked-in : (done : List ℕ) (left : List Node) (p : Picked) → pick done left ≡ some p → Is (p .node) left
-picked-in done [] p e = let z : _≡_ {A = ℕ} 0 1 = cc in absurd (omega arith)
-picked-in done (x ∷ xs) p e = go (ready done (reads x)) (λ q f. picked-in done xs q f) e
-  where
-    go :
-        (b : Bool) → ((q : Picked) → pick done xs ≡ some q → Is (q .node) xs)
-        → cond b (some (record { node = x; rest = xs })) (before x (pick done xs)) ≡ some p → Is (p .node) (x ∷ xs)
-    go true ih f = let top : Picked = record { node = x; rest = xs } in let a : top ≡ p = cc in inl (ap (λ (q : Picked). q .node) (sym a))
-    go false ih f =
-        let (q, a, b) = before-some x (pick done xs) p f in
-        subst (λ (o : Picked). Is (o .node) (x ∷ xs)) b (inr (ih q a))
+first done x xs e = record { fit = e; total = λ g. refl; size = refl; picked = inl refl; here = λ n h. h; there = λ n h. inr h }
 
 pick-some : (done : List ℕ) (left : List Node) (p : Picked) → pick done left ≡ some p → Split done p left
 pick-some done [] p e = let z : _≡_ {A = ℕ} 0 1 = cc in absurd (omega arith)
@@ -220,7 +213,7 @@ order-within (suc k) done left n h = go (pick done left) refl (λ d l a. order-w
         (o : Option Picked) → pick done left ≡ o → ((d : List ℕ) (l : List Node) → Is n (order k d l) → Is n l)
         → Is n (elim o as (λ q. List Node) [ none ↦ [] | some p ↦ p .node ∷ order k (p .node .id ∷ done) (p .rest) ]) → Is n left
     go none e ih a = absurd a
-    go (some p) e ih (inl a) = subst (λ (x : Node). Is x left) (sym a) (picked-in done left p e)
+    go (some p) e ih (inl a) = subst (λ (x : Node). Is x left) (sym a) (pick-some done left p e .picked)
     go (some p) e ih (inr a) = pick-some done left p e .there n (ih (p .node .id ∷ done) (p .rest) a)
 
 pub schedule-within : (ns : List Node) (n : Node) → Is n (schedule ns) → Is n ns
@@ -230,14 +223,7 @@ schedule-within ns n h = order-within (length ns) [] ns n h
 -- ---- what an accepted function reads is an input or a node of it
 
 found-in : (ns : List Node) (early : List Function) (j p w : ℕ) → getElem? (givesAt early (findNode j ns)) p ≡ some w → Is j (ids ns)
-found-in [] early j p w e = let z : _≡_ {A = ℕ} 0 1 = cc in absurd (omega arith)
-found-in (x ∷ xs) early j p w e = go (eqb (x .id) j) refl (λ f. found-in xs early j p w f) e
-  where
-    go :
-        (b : Bool) → eqb (x .id) j ≡ b → (getElem? (givesAt early (findNode j xs)) p ≡ some w → Is j (ids xs))
-        → getElem? (givesAt early (cond b (some x) (findNode j xs))) p ≡ some w → (j ≡ x .id) ⊎ Is j (ids xs)
-    go true q ih f = inl (sym (eqb-true (x .id) j q))
-    go false q ih f = inr (ih f)
+found-in ns early j p w e = ⊎-elim (λ q. let a = rw q at e in let z : _≡_ {A = ℕ} 0 1 = cc in absurd (omega arith)) (λ h. h) (found-or-none j ns)
 
 pub reads-in : (early : List Function) (f : Function) (r : Ref) (w : ℕ) → refType early f r ≡ some w → (r .node ≡ 0) ⊎ Is (r .node) (ids (f .nodes))
 reads-in early f r w e = go (eqb (r .node) 0) refl e
@@ -253,13 +239,9 @@ pub wired-in :
     → (j ≡ 0) ⊎ Is j (ids (f .nodes))
 wired-in early f ws [] h j e = let z : _≡_ {A = ℕ} 0 1 = cc in absurd (omega arith)
 wired-in early f [] (r ∷ rs) h j e = absurd h
-wired-in early f (w ∷ ws) (r ∷ rs) (t, h) j e = go (eqb (r .node) j) refl (λ g. wired-in early f ws rs h j g) e
-  where
-    go :
-        (b : Bool) → eqb (r .node) j ≡ b → (member j (map (λ r. r .node) rs) ≡ true → (j ≡ 0) ⊎ Is j (ids (f .nodes)))
-        → cond b true (member j (map (λ r. r .node) rs)) ≡ true → (j ≡ 0) ⊎ Is j (ids (f .nodes))
-    go true q ih g = subst (λ (i : ℕ). (i ≡ 0) ⊎ Is i (ids (f .nodes))) (eqb-true (r .node) j q) (reads-in early f r w t)
-    go false q ih g = ih g
+wired-in early f (w ∷ ws) (r ∷ rs) (t, h) j e =
+    ⊎-elim (λ q. subst (λ (i : ℕ). (i ≡ 0) ⊎ Is i (ids (f .nodes))) q (reads-in early f r w t)) (wired-in early f ws rs h j)
+    (member-inv j (r .node) (map (λ r. r .node) rs) e)
 
 pub sound-closed : (early : List Function) (f : Function) → Sound early f → Closed (f .nodes)
 sound-closed early f s = record {
@@ -274,20 +256,13 @@ scheduled early f s = schedule-right (f .nodes) (sound-closed early f s)
 
 -- ---- where there is an order there is no loop
 
-ready-reads : (done : List ℕ) (rs : List Ref) (j : ℕ) → ready done rs ≡ true → member j (map (λ r. r .node) rs) ≡ true → (j ≡ 0) ⊎ (member j done ≡ true)
+pub ready-reads : (done : List ℕ) (rs : List Ref) (j : ℕ) → ready done rs ≡ true → member j (map (λ r. r .node) rs) ≡ true → (j ≡ 0) ⊎ (member j done ≡ true)
 ready-reads done [] j e m = let z : _≡_ {A = ℕ} 0 1 = cc in absurd (omega arith)
 ready-reads done (r ∷ rs) j e m =
     let (a, b) = and-inv (eqb (r .node) 0 || member (r .node) done) (ready done rs) e in
-    pickOne (eqb (r .node) j) refl a (λ q. ready-reads done rs j b q) m
-  where
-    pickOne :
-        (b : Bool) → eqb (r .node) j ≡ b → eqb (r .node) 0 || member (r .node) done ≡ true
-        → (member j (map (λ r. r .node) rs) ≡ true → (j ≡ 0) ⊎ (member j done ≡ true)) → cond b true (member j (map (λ r. r .node) rs)) ≡ true
-        → (j ≡ 0) ⊎ (member j done ≡ true)
-    pickOne true q a ih m =
-        let e = eqb-true (r .node) j q in
-        ⊎-elim (λ x. inl (sym e ∙ eqb-true (r .node) 0 x)) (λ x. inr (subst (λ (i : ℕ). member i done ≡ true) e x)) (or-inv _ _ a)
-    pickOne false q a ih m = ih m
+    ⊎-elim
+    (λ q. subst (λ (i : ℕ). (i ≡ 0) ⊎ (member i done ≡ true)) q (⊎-elim (λ z. inl (eqb-true _ _ z)) inr (or-inv (eqb (r .node) 0) (member (r .node) done) a)))
+    (ready-reads done rs j b) (member-inv j (r .node) (map (λ r. r .node) rs) m)
 
 module _ (ns : List Node) (own : (n : Node) → Is n ns → findNode (n .id) ns ≡ some n) (named : (n : Node) → Is n ns → 1 ≤ n .id) where
   -- what is done leads only to what is done, and never back
@@ -296,7 +271,7 @@ module _ (ns : List Node) (own : (n : Node) → Is n ns → findNode (n .id) ns 
 
   no-zero : (j : ℕ) → Leads ns 0 j → ⊥
   no-zero j p =
-      let (n, is, e) = among-is 0 ns (leads-node ns p) in
+      let (n, is, e) = in-is 0 ns (leads-node ns p) in
       let h = named n is in
       omega arith
 
@@ -308,25 +283,23 @@ module _ (ns : List Node) (own : (n : Node) → Is n ns → findNode (n .id) ns 
       (ready-reads done (reads n) k fit (subst (λ (o : Option Node). member k (readIds o) ≡ true) (ap (λ (x : ℕ). findNode x ns) e ∙ own n is) r))
 
   good-step : (done : List ℕ) (n : Node) → Is n ns → Good done → ready done (reads n) ≡ true → Good (n .id ∷ done)
-  good-step done n is g fit i j m p = pickOne (eqb (n .id) i) (member i done) refl refl m
+  good-step done n is g fit i j m p = ⊎-elim new (λ b. let (x, y) = g i j b p in (wider x, y)) (either (member i done) refl)
     where
       wider : (j ≡ 0) ⊎ (member j done ≡ true) → (j ≡ 0) ⊎ (member j (n .id ∷ done) ≡ true)
-      wider (inl e) = inl e
-      wider (inr e) = inr (cond-or (eqb (n .id) j) _ e)
+      wider h = ⊎-elim inl (λ e. inr (member-later j (n .id) done e)) h
 
-      pickOne :
-          (a b : Bool) → eqb (n .id) i ≡ a → member i done ≡ b → cond a true b ≡ true
-          → ((j ≡ 0) ⊎ (member j (n .id ∷ done) ≡ true)) × (i ≡ j → ⊥)
-      pickOne a true qa qb h = let (x, y) = g i j qb p in (wider x, y)
-      pickOne true false qa qb h =
-          let e = eqb-true (n .id) i qa in
+      either : (b : Bool) → member i done ≡ b → ((n .id ≡ i) × (b ≡ false)) ⊎ (b ≡ true)
+      either true q = inr refl
+      either false q = ⊎-elim (λ e. inl (e, refl)) (λ b. let z : _≡_ {A = ℕ} 0 1 = cc in absurd (omega arith)) (member-inv i (n .id) done m)
+
+      new : (n .id ≡ i) × (member i done ≡ false) → ((j ≡ 0) ⊎ (member j (n .id ∷ done) ≡ true)) × (i ≡ j → ⊥)
+      new (e, q) =
           let x = from-new done n is g fit i j (sym e) p in (
             wider x,
             λ s.
                 ⊎-elim (λ z. let l = named n is in omega arith)
                 (λ w. let v : member i done ≡ true = rw s w in let z : _≡_ {A = ℕ} 0 1 = cc in omega arith) x,
           )
-      pickOne false false qa qb h = let z : _≡_ {A = ℕ} 0 1 = cc in absurd (omega arith)
 
   -- the ids done at the end
   abbrev ends : List ℕ → List Node → List ℕ
@@ -350,7 +323,7 @@ module _ (ns : List Node) (own : (n : Node) → Is n ns → findNode (n .id) ns 
 
   ordered-free : (os : List Node) → ((n : Node) → Is n os → Is n ns) → ((n : Node) → Is n ns → Is n os) → Ordered [] os → (i : ℕ) → Leads ns i i → ⊥
   ordered-free os within has o i p =
-      let (n, is, e) = among-is i ns (leads-node ns p) in
+      let (n, is, e) = in-is i ns (leads-node ns p) in
       let none-done : Good [] = λ a b m q. let z : _≡_ {A = ℕ} 0 1 = cc in absurd (omega arith) in
       let g = good-end os [] within o none-done in
       g i i (rw e (ends-has os [] n (has n is))) p .1 refl
@@ -361,21 +334,17 @@ module _ (ns : List Node) (own : (n : Node) → Is n ns → findNode (n .id) ns 
 abbrev count : ℕ → List Node → ℕ
 count i = sum (λ n. cond (eqb (n .id) i) 1 0)
 
-absent-count : (i : ℕ) (ns : List Node) → member i (ids ns) ≡ false → count i ns ≡ 0
-absent-count i [] e = refl
-absent-count i (n ∷ ns) e = go (eqb (n .id) i) e (absent-count i ns)
+member-count : (i : ℕ) (ns : List Node) → (b : Bool) → member i (ids ns) ≡ b → cond b (1 ≤ count i ns) (count i ns ≡ 0)
+member-count i [] true e = let z : _≡_ {A = ℕ} 0 1 = cc in absurd (omega arith)
+member-count i [] false e = refl
+member-count i (n ∷ ns) b e = go (eqb (n .id) i) b e (member-count i ns b)
   where
-    go : (b : Bool) → cond b true (member i (ids ns)) ≡ false → (member i (ids ns) ≡ false → count i ns ≡ 0) → cond b 1 0 + count i ns ≡ 0
-    go true e ih = let z : _≡_ {A = ℕ} 0 1 = cc in absurd (omega arith)
-    go false e ih = let z = ih e in omega arith
-
-member-count : (i : ℕ) (ns : List Node) → member i (ids ns) ≡ true → 1 ≤ count i ns
-member-count i [] e = let z : _≡_ {A = ℕ} 0 1 = cc in absurd (omega arith)
-member-count i (n ∷ ns) e = go (eqb (n .id) i) e (member-count i ns)
-  where
-    go : (b : Bool) → cond b true (member i (ids ns)) ≡ true → (member i (ids ns) ≡ true → 1 ≤ count i ns) → 1 ≤ cond b 1 0 + count i ns
-    go true e ih = omega arith
-    go false e ih = let z = ih e in omega arith
+    go : (c b : Bool) → cond c true (member i (ids ns)) ≡ b → (member i (ids ns) ≡ b → cond b (1 ≤ count i ns) (count i ns ≡ 0))
+        → cond b (1 ≤ cond c 1 0 + count i ns) (cond c 1 0 + count i ns ≡ 0)
+    go true true e ih = omega arith
+    go true false e ih = let z : _≡_ {A = ℕ} 0 1 = cc in absurd (omega arith)
+    go false true e ih = let z = ih e in omega arith
+    go false false e ih = let z = ih e in omega arith
 
 distinct-count : (ns : List Node) → Distinct (ids ns) → (i : ℕ) → count i ns ≤ 1
 distinct-count [] d i = omega arith
@@ -383,7 +352,7 @@ distinct-count (n ∷ ns) (m, d) i = go (eqb (n .id) i) refl (distinct-count ns 
   where
     go : (b : Bool) → eqb (n .id) i ≡ b → count i ns ≤ 1 → cond b 1 0 + count i ns ≤ 1
     go true q l =
-        let z : count i ns ≡ 0 = absent-count i ns (subst (λ (j : ℕ). member j (ids ns) ≡ false) (eqb-true (n .id) i q) m) in
+        let z : count i ns ≡ 0 = member-count i ns false (subst (λ (j : ℕ). member j (ids ns) ≡ false) (eqb-true (n .id) i q) m) in
         omega arith
     go false q l = omega arith
 
@@ -393,7 +362,7 @@ count-distinct (n ∷ ns) h = (go (member (n .id) (ids ns)) refl, count-distinct
   where
     go : (b : Bool) → member (n .id) (ids ns) ≡ b → b ≡ false
     go true e =
-        let a : 1 ≤ count (n .id) ns = member-count (n .id) ns e in
+        let a : 1 ≤ count (n .id) ns = member-count (n .id) ns true e in
         let l : cond (eqb (n .id) (n .id)) 1 0 + count (n .id) ns ≤ 1 = h (n .id) in
         let q : _≡_ {A = ℕ} (cond (eqb (n .id) (n .id)) 1 0) 1 = rw (eq-eqb (n .id) (n .id) refl) refl in
         absurd (omega arith)
@@ -404,25 +373,20 @@ pub schedule-distinct : (early : List Function) (f : Function) → Sound early f
 schedule-distinct early f s d =
     count-distinct (schedule (f .nodes)) (λ i. rw (scheduled early f s .total (λ n. cond (eqb (n .id) i) 1 0)) (distinct-count (f .nodes) d i))
 
--- where no earlier fault stands, 13 is not given exactly when there is an order
-pub order-iff : (early : List Function) (f : Function) → Resolved early f → Distinct (ids (f .nodes))
-    → (loopFree f ≡ ok tt) ↔ ((os : List Node) × Orders (f .nodes) os)
-order-iff early f r d = (there, back)
+-- where no earlier fault stands, a node lies on a loop exactly when there is no order
+pub no-order-loop : (early : List Function) (f : Function) → Resolved early f → Distinct (ids (f .nodes))
+    → ((m : Node) × FirstOnLoop (f .nodes) m) ↔ ((os : List Node) → Orders (f .nodes) os → ⊥)
+no-order-loop early f r d = (there, λ h. back h (loopFree f) (loops-judged (f .nodes) (f .nodes) .0))
   where
-    there : loopFree f ≡ ok tt → (os : List Node) × Orders (f .nodes) os
-    there e =
-        let s : Sound early f = record { resolved = r; free = loop-free-iff f .0 e } in
-        let right = scheduled early f s in (
-          schedule (f .nodes),
-          record {
-            within = schedule-within (f .nodes);
-            has = right .has;
-            once = schedule-distinct early f s d;
-            ordered = right .ordered;
-          },
-        )
+    there : (m : Node) × FirstOnLoop (f .nodes) m → (os : List Node) → Orders (f .nodes) os → ⊥
+    there (m, l) os o =
+        ordered-free (f .nodes) (r .own) (λ n h. is-each FormedNode (f .nodes) (r .formed .nodes) n h .id) os (o .within) (o .has) (o .ordered) (m .id) (l .lies)
 
-    back : (os : List Node) × Orders (f .nodes) os → loopFree f ≡ ok tt
-    back (os, o) =
-        loop-free-iff f .1
-        (ordered-free (f .nodes) (r .own) (λ n h. is-each FormedNode (f .nodes) (r .formed .nodes) n h .id) os (o .within) (o .has) (o .ordered))
+    back : ((os : List Node) → Orders (f .nodes) os → ⊥) → (g : Outcome (Unit {0})) → Says (loopChecks (f .nodes) (f .nodes)) g → (m : Node) × FirstOnLoop (f .nodes) m
+    back h (fault n p) a = let (m, l, q, s) = first-loop (f .nodes) n p .0 a in (m, l)
+    back h (ok u) a =
+        let s : Sound early f = record { resolved = r; free = no-loop (f .nodes) a } in
+        let right = scheduled early f s in
+        absurd
+        (h (schedule (f .nodes))
+        (record { within = schedule-within (f .nodes); has = right .has; once = schedule-distinct early f s d; ordered = right .ordered }))

@@ -5,7 +5,6 @@ use mathlib.Core.List.{List, [], _∷_, _++_}
 use mathlib.Core.Logic.{_⊎_, inl, inr, ⊎-elim}
 use native.Mathlib.Omega.{arith}
 use lib.ListN.{length, length-append}
-use lib.Arith.{lt-of-le-ne}
 use Rattle.ports.specs.declared.Form.the-variants.{Absent, Constant, References, Call}
 use Rattle.base.specs.Lists.{Each}
 use Rattle.base.specs.Outcome.{ok, fault}
@@ -68,15 +67,6 @@ module _ (limit : ℕ) (s : List ℕ) where
       let (a, b, c) = first-ranged (AtRecord at) (recordChecks limit s h at) n p (record-range h at) f in
       (a, omega arith, inl c)
   reading-range (on (fit, x) r) = let (a, b, c) = reading-range r in (a, b, inr (⊎-elim (λ e. omega arith) (λ l. l) c))
-
-  -- 8 is given only before the end
-  pub reading-left : {hs : List Shape} {at n p : ℕ} → Reading limit s hs at (fault n p) → n ≡ 8 → at ≤ length s → p < length s
-  reading-left (end {at = at} {o = fault n p} (inl (x, e, q))) i l = subst (λ (k : ℕ). k < length s) q (lt-of-le-ne l x)
-  reading-left (end {at = at} {o = fault n p} (inr (x, f))) i l = absurd f
-  reading-left (stop {h = h} {at = at} {n = n} {p = p} f) i l =
-      let (a, b, c) = first-ranged (AtRecord at) (recordChecks limit s h at) n p (record-range h at) f in
-      absurd (omega arith)
-  reading-left (on (fit, x) r) i l = reading-left r i fit
 
 -- ---- 9 to 13
 
@@ -142,20 +132,12 @@ module _ (Q : ℕ → Type 0) where
 abbrev pub Anywhere : ℕ → Type 0
 Anywhere p = Unit {0}
 
-refs-anywhere : (rs : List Ref) → RefPlaces Anywhere rs
-refs-anywhere [] = tt
-refs-anywhere (r ∷ rs) = (tt, refs-anywhere rs)
-
-nodes-anywhere : (ns : List Node) → NodePlaces Anywhere ns
-nodes-anywhere [] = tt
-nodes-anywhere (n ∷ ns) = ((tt, refs-anywhere (reads n)), nodes-anywhere ns)
+each-of : {A : Type 0} (P : A → Type 0) → ((x : A) → P x) → (xs : List A) → Each P xs
+each-of P h [] = tt
+each-of P h (x ∷ xs) = (h x, each-of P h xs)
 
 pub anywhere : (f : Function) → Places Anywhere f
-anywhere f = record { head = tt; outputs = refs-anywhere (outputRefs (f .outputs)); nodes = nodes-anywhere (f .nodes) }
-
-all-anywhere : (fs : List Function) → Each (Places Anywhere) fs
-all-anywhere [] = tt
-all-anywhere (f ∷ fs) = (anywhere f, all-anywhere fs)
+anywhere f = record { head = tt; outputs = each-of _ (λ r. tt) (outputRefs (f .outputs)); nodes = each-of _ (λ n. (tt, each-of _ (λ r. tt) (reads n))) (f .nodes) }
 
 -- ---- the places of a written table are below its end
 
@@ -245,16 +227,3 @@ module _ (s : List ℕ) (small : Bytes s) where
   count-bounds n e =
       let (fs, m, l) = verdict-iff s small (ok n) .0 e in
       (subst (λ (i : ℕ). 1 ≤ i) l (m .written .some-function), subst (λ (i : ℕ). i ≤ 16) l (m .written .count))
-
-  -- where 8 is given there are bytes after the last function
-  pub left-over : (p : ℕ) → verdict s ≡ fault 8 p → p < length s
-  left-over p e = go (verdict-iff s small (fault 8 p) .0 e)
-    where
-      go : Fault version1 s 8 p → p < length s
-      go (of-header f) =
-          let (a, b, c) = first-ranged (λ n q. (1 ≤ n) × (n ≤ 6) × (q ≤ 6)) (headerChecks version1 s) 8 p (header-range version1 s) f in
-          absurd (omega arith)
-      go (of-reading (x, y) r) = reading-left 256 s r refl x
-      go (of-rules fs w f) =
-          let (a, b, c) = first-ranged (Rule Anywhere 13) (tableChecks [] fs) 8 p (table-range Anywhere [] fs (all-anywhere fs)) f in
-          absurd (omega arith)

@@ -9,9 +9,10 @@ use lib.Dec.{eqb, leb, ltb}
 use lib.ListN.{length}
 use borrow.Author.Tests.{eqb-true, eqb-false, ne-eqb, ltb-true, ltb-false, not-true}
 use Rattle.base.specs.Lists.{member}
+use Rattle.base.proofs.Lists.{member-inv}
 use Rattle.base.proofs.Bools.{and-inv, or-inv, or-left, or-right}
 use Rattle.order.specs.Indices.{slot, settled, ready, eligible, next, orderFrom, indexOrder}
-use Rattle.order.proofs.Range.{First, first-is, all-each, each-all}
+use Rattle.order.proofs.Range.{eq-or-not, true-or-false, First, first-is, all-each, each-all}
 use Rattle.base.specs.Limits.{operandLimit}
 
 -- ---- how many of the k numbers from i on are missing
@@ -49,14 +50,11 @@ missing-one (suc k) i f is a b e = pickOne (eqb f i) refl (λ l. missing-one k (
 
 pub missing-none : (k i : ℕ) (is : List ℕ) → missing is i k ≡ 0 → (v : ℕ) → i ≤ v → v < i + k → member v is ≡ true
 missing-none zero i is e v a b = absurd (omega arith)
-missing-none (suc k) i is e v a b = pickOne (member i is) refl e (λ f l. missing-none k (suc i) is f v l (omega arith)) (eqb v i) refl
-  where
-    pickOne :
-        (m : Bool) → member i is ≡ m → cond m (missing is (suc i) k) (suc (missing is (suc i) k)) ≡ 0
-        → (missing is (suc i) k ≡ 0 → suc i ≤ v → member v is ≡ true) → (c : Bool) → eqb v i ≡ c → member v is ≡ true
-    pickOne true q f ih true w = ap (λ (x : ℕ). member x is) (eqb-true v i w) ∙ q
-    pickOne true q f ih false w = let d : v ≡ i → ⊥ = eqb-false v i w in ih f (omega arith)
-    pickOne false q f ih c w = absurd (omega arith)
+missing-none (suc k) i is e v a b =
+    ⊎-elim
+    (λ q.
+    ⊎-elim (λ w. ap (λ (x : ℕ). member x is) w ∙ q) (λ d. missing-none k (suc i) is (rw q at e) v (omega arith) (omega arith)) (eq-or-not v i))
+    (λ q. let z = rw q at e in absurd (omega arith)) (true-or-false (member i is))
 
 missing-same : (is os : List ℕ) → ((v : ℕ) → member v is ≡ member v os) → (k i : ℕ) → missing is i k ≡ missing os i k
 missing-same is os h zero i = refl
@@ -111,18 +109,15 @@ module _ (ts : List ℕ) (n : ℕ) where
   -- what can be taken at all is among the nodes to which none can be added
   inside : (done : ℕ → Bool) → Stuck done → (is : List ℕ) → Built is → (v : ℕ) → member v is ≡ true → done v ≡ true
   inside done s [] b v e = let z : _≡_ {A = ℕ} 0 1 = cc in absurd (omega arith)
-  inside done s (f ∷ is) (l, c, b) v e = pickOne (λ w h. inside done s is b w h) (eqb f v) refl e
+  inside done s (f ∷ is) (l, c, b) v e =
+      ⊎-elim
+      (λ q. subst (λ (k : ℕ). done k ≡ true) q
+      (new (done f) refl (ready-more (λ w. member w is) done (inside done s is b) f (and-inv (not (member f is)) (ready ts n (λ w. member w is) f) c .1))))
+      (inside done s is b v) (member-inv v f is e)
     where
       new : (x : Bool) → done f ≡ x → ready ts n done f ≡ true → x ≡ true
       new true q r = refl
       new false q r = sym (s f l) ∙ ap (λ (y : Bool). not y && ready ts n done f) q ∙ r
-
-      pickOne : ((w : ℕ) → member w is ≡ true → done w ≡ true) → (x : Bool) → eqb f v ≡ x → cond x true (member v is) ≡ true → done v ≡ true
-      pickOne ih true q h =
-          subst (λ (k : ℕ). done k ≡ true) (eqb-true f v q)
-          (new (done f) refl
-          (ready-more (λ w. member w is) done ih f (and-inv (not (member f is)) (ready ts n (λ w. member w is) f) c .1)))
-      pickOne ih false q h = ih v h
 
   same-members : (is os : List ℕ) → Built is → Built os → Stuck (λ v. member v is) → Stuck (λ v. member v os) → (v : ℕ) → member v is ≡ member v os
   same-members is os a b s t v = pickOne (member v is) (member v os) (inside (λ w. member w os) t is a v) (inside (λ w. member w is) s os b v)

@@ -1,18 +1,24 @@
 -- `via` tells what `Path` says.
 use Prim.Native.Nat.{ℕ, zero, suc, _+_, _≤_, _<_}
-use mathlib.Core.Path.{_≡_, refl, ap}
-use mathlib.Core.Bool.{Bool, true, false, _&&_, cond}
+use mathlib.Core.Path.{_≡_, refl, ap, sym, _∙_}
+use mathlib.Core.Bool.{Bool, true, cond}
 use mathlib.Core.List.{List}
-use mathlib.Core.Logic.{_⊎_, inl, inr, ⊎-elim}
+use mathlib.Core.Logic.{inl, inr, ⊎-elim}
 use native.Mathlib.Omega.{arith}
 use lib.Dec.{eqb, ltb}
-use borrow.Author.Tests.{eqb-true, eqb-false, eq-eqb, ltb-true, lt-ltb, le-ltb}
-use Rattle.base.proofs.Bools.{or-inv, or-left, or-right, and-inv, and-both}
+use borrow.Author.Tests.{eqb-true, eq-eqb, ltb-true, lt-ltb, le-ltb}
+use Rattle.base.specs.Lists.{Is, span}
+use Rattle.graph.proofs.Loops.{passing, passing-leads, passing-one, passing-trans}
+use Rattle.base.proofs.Bools.{and-inv, and-both}
 use Rattle.order.specs.declared.OnLoop.the-variants.{At, Nothing}
 use Rattle.order.specs.Indices.{firstOf, anyOf, slot}
 use Rattle.order.specs.Paths.{readsIndex, Path, one, more, via, onLoop, firstOnLoop}
-use Rattle.order.proofs.Range.{any-some, some-any}
+use Rattle.order.proofs.Range.{eq-or-not, any-some, some-any}
 use Rattle.base.specs.Limits.{operandLimit}
+
+span-has : (n a k : ℕ) → a ≤ k → k < a + n → Is k (span a n)
+span-has zero a k l h = absurd (omega arith)
+span-has (suc n) a k l h = ⊎-elim inl (λ d. inr (span-has n (suc a) k (omega arith) (omega arith))) (eq-or-not k a)
 
 module _ (ts : List ℕ) (n : ℕ) where
   -- ---- one step
@@ -33,79 +39,28 @@ module _ (ts : List ℕ) (n : ℕ) where
   slot-read i j s l e h =
       and-both (ltb j n) _ (lt-ltb j n h) (some-any (λ s. eqb (slot ts i s) j) operandLimit 0 s (omega arith) (omega arith) (eq-eqb (slot ts i s) j e))
 
-  -- ---- the test tells only what is so
+  -- ---- loops
 
   pub follow : {i k j : ℕ} → Path ts n i k → Path ts n k j → Path ts n i j
   follow (one r) q = more r q
   follow (more r p) q = more r (follow p q)
 
-  pub via-path : (m k i j : ℕ) → via ts n k m i j ≡ true → Path ts n i j
-  unfolding via
-  via-path zero k i j e = one e
-  via-path (suc m) k i j e =
-      ⊎-elim (λ a. via-path m (suc k) i j a)
-      (λ b.
-      let (l, r) = and-inv (via ts n (suc k) m i k) (via ts n (suc k) m k j) b in
-      follow (via-path m (suc k) i k l) (via-path m (suc k) k j r))
-      (or-inv (via ts n (suc k) m i j) (via ts n (suc k) m i k && via ts n (suc k) m k j) e)
+  via-passing : (m k i j : ℕ) → via ts n k m i j ≡ passing (readsIndex ts n) (span k m) i j
+  unfolding via passing
+  via-passing zero k i j = refl
+  via-passing (suc m) k i j = rw (via-passing m (suc k) i j, via-passing m (suc k) i k, via-passing m (suc k) k j)
 
-  -- ---- and all that is so
-
-  wider : (m k i j : ℕ) → via ts n (suc k) m i j ≡ true → via ts n k (suc m) i j ≡ true
-  unfolding via
-  wider m k i j e = or-left (via ts n (suc k) m i j) _ e
-
-  direct : (m k i j : ℕ) → readsIndex ts n i j ≡ true → via ts n k m i j ≡ true
-  unfolding via
-  direct zero k i j e = e
-  direct (suc m) k i j e = or-left (via ts n (suc k) m i j) _ (direct m (suc k) i j e)
-
-  split :
-      (m k i j : ℕ) → via ts n k (suc m) i j ≡ true
-      → (via ts n (suc k) m i j ≡ true) ⊎ ((via ts n (suc k) m i k ≡ true) × (via ts n (suc k) m k j ≡ true))
-  unfolding via
-  split m k i j e = ⊎-elim (λ a. inl a) (λ b. inr (and-inv _ _ b)) (or-inv (via ts n (suc k) m i j) _ e)
-
-  -- to k by way of k and the others: by way of the others alone
-  to : (m k i : ℕ) → via ts n k (suc m) i k ≡ true → via ts n (suc k) m i k ≡ true
-  unfolding via
-  to m k i e = ⊎-elim (λ a. a) (λ b. and-inv (via ts n (suc k) m i k) _ b .0) (or-inv (via ts n (suc k) m i k) _ e)
-
-  from : (m k j : ℕ) → via ts n k (suc m) k j ≡ true → via ts n (suc k) m k j ≡ true
-  unfolding via
-  from m k j e = ⊎-elim (λ a. a) (λ b. and-inv (via ts n (suc k) m k k) _ b .1) (or-inv (via ts n (suc k) m k j) _ e)
-
-  through : (m k i j : ℕ) → via ts n (suc k) m i k ≡ true → via ts n (suc k) m k j ≡ true → via ts n k (suc m) i j ≡ true
-  unfolding via
-  through m k i j e f = or-right (via ts n (suc k) m i j) _ (and-both _ _ e f)
-
-  via-trans : (m k i x j : ℕ) → k ≤ x → x < k + m → via ts n k m i x ≡ true → via ts n k m x j ≡ true → via ts n k m i j ≡ true
-  via-trans zero k i x j a b e f = absurd (omega arith)
-  via-trans (suc m) k i x j a b e f = pickOne (eqb x k) refl (λ l i j. via-trans m (suc k) i x j l (omega arith))
-    where
-      pickOne :
-          (b : Bool) → eqb x k ≡ b
-          → (suc k ≤ x → (i j : ℕ) → via ts n (suc k) m i x ≡ true → via ts n (suc k) m x j ≡ true → via ts n (suc k) m i j ≡ true)
-          → via ts n k (suc m) i j ≡ true
-      pickOne true q ih =
-          let h = eqb-true x k q in
-          through m k i j (to m k i (rw h at e)) (from m k j (rw h at f))
-      pickOne false q ih =
-          let d : x ≡ k → ⊥ = eqb-false x k q in
-          let l : suc k ≤ x = omega arith in
-          ⊎-elim
-          (λ ix. ⊎-elim (λ xj. wider m k i j (ih l i j ix xj)) (λ (xk, kj). through m k i j (ih l i k ix xk) kj) (split m k x j f))
-          (λ (ik, kx). ⊎-elim (λ xj. through m k i j ik (ih l k j kx xj)) (λ (xk, kj). through m k i j ik kj) (split m k x j f))
-          (split m k i x e)
-
-  pub path-via : {i j : ℕ} → Path ts n i j → via ts n 0 n i j ≡ true
-  path-via (one {i = i} {j = j} r) = direct n 0 i j r
-  path-via (more {i = i} {k = k} {j = j} r p) =
+  path-passing : {i j : ℕ} → Path ts n i j → passing (readsIndex ts n) (span 0 n) i j ≡ true
+  path-passing (one {i = i} {j = j} r) = passing-one (readsIndex ts n) (span 0 n) i j r
+  path-passing (more {i = i} {k = k} {j = j} r p) =
       let l = read-below i k r in
-      via-trans n 0 i k j (omega arith) (omega arith) (direct n 0 i k r) (path-via p)
+      passing-trans (readsIndex ts n) (span 0 n) i k j (span-has n 0 k (omega arith) (omega arith)) (passing-one (readsIndex ts n) (span 0 n) i k r) (path-passing p)
 
   pub on-loop-iff : (i : ℕ) → (onLoop ts n i ≡ true → Path ts n i i) × (Path ts n i i → onLoop ts n i ≡ true)
-  on-loop-iff i = (via-path n 0 i i, path-via)
+  on-loop-iff i = (
+    λ e. passing-leads (readsIndex ts n) (Path ts n) (λ i j r. one r) (λ i k j. follow) (span 0 n) i i (sym (via-passing n 0 i i) ∙ e),
+    λ p. via-passing n 0 i i ∙ path-passing p,
+  )
 
   -- ---- the first node on a loop
 

@@ -1,18 +1,19 @@
 -- No node of the order lies on a loop; where every node is in the order, none does.
 use Prim.Native.Nat.{ℕ, _<_}
 use mathlib.Core.Path.{_≡_, refl, ap, sym, _∙_, subst}
-use mathlib.Core.Bool.{Bool, true, false, not, cond}
+use mathlib.Core.Bool.{true, false, not}
 use mathlib.Core.List.{List, [], _∷_}
 use mathlib.Core.Logic.{⊎-elim}
 use native.Mathlib.Omega.{arith}
-use lib.Dec.{eqb, leb}
+use lib.Dec.{leb}
 use lib.ListN.{length}
-use borrow.Author.Tests.{eqb-true, leb-true}
+use borrow.Author.Tests.{leb-true}
 use Rattle.base.specs.Lists.{member}
+use Rattle.base.proofs.Lists.{member-later, member-inv}
 use Rattle.base.proofs.Bools.{and-inv, or-inv}
 use Rattle.order.specs.Indices.{slot, settled, ready, eligible, indexOrder}
 use Rattle.order.specs.Paths.{readsIndex, Path, one, more, onLoop}
-use Rattle.order.proofs.Range.{all-each}
+use Rattle.order.proofs.Range.{true-or-false, both, all-each}
 use Rattle.order.proofs.Closure.{read-below, read-slot, on-loop-iff}
 use Rattle.order.proofs.AnyOrder.{missing-none, Built, fresh, built-size, ordered}
 use Rattle.base.specs.Limits.{operandLimit}
@@ -41,24 +42,11 @@ module _ (ts : List ℕ) (n : ℕ) where
   safe-step : (is : List ℕ) (f : ℕ) → Safe is → eligible ts n (λ w. member w is) f ≡ true → Safe (f ∷ is)
   safe-step is f s e x y m p =
       let b = and-inv (not (member f is)) (ready ts n (λ w. member w is) f) e .1 in
-      pickOne (fresh ts n (λ w. member w is) f e) (λ q. from-ready is f s b p q) (eqb f x) refl m
-    where
-      wider : (c : Bool) → member y is ≡ true → cond c true (member y is) ≡ true
-      wider true h = refl
-      wider false h = h
-
-      pickOne : member f is ≡ false → (x ≡ f → member y is ≡ true) → (c : Bool) → eqb f x ≡ c → cond c true (member x is) ≡ true
-          → (cond (eqb f y) true (member y is) ≡ true) × (x ≡ y → ⊥)
-      pickOne a new true q h =
-          let g : f ≡ x = eqb-true f x q in
-          let t = new (sym g) in (
-            wider (eqb f y) t,
-            λ w.
-                let u : member f is ≡ true = ap (λ (k : ℕ). member k is) (g ∙ w) ∙ t in
-                let z : _≡_ {A = ℕ} 0 1 = cc in
-                omega arith,
-          )
-      pickOne a new false q h = let (t, d) = s x y h p in (wider (eqb f y) t, d)
+      ⊎-elim
+      (λ g.
+      let t = from-ready is f s b p (sym g) in
+      (member-later y f is t, λ w. both (member f is) (ap (λ (k : ℕ). member k is) (g ∙ w) ∙ t) (fresh ts n (λ w. member w is) f e)))
+      (λ h. let (t, d) = s x y h p in (member-later y f is t, d)) (member-inv x f is m)
 
   pub path-below : {x y : ℕ} → Path ts n x y → y < n
   path-below (one {i = x} {j = y} r) = read-below ts n x y r
@@ -74,11 +62,7 @@ module _ (ts : List ℕ) (n : ℕ) where
   ordered-free x e p = let (os, b, s, size, members) = ordered ts n in built-safe os b x x (members x ∙ e) p .1 refl
 
   pub ordered-clear : (x : ℕ) → member x (indexOrder ts n) ≡ true → onLoop ts n x ≡ false
-  ordered-clear x e = pickOne (onLoop ts n x) (λ q. ordered-free x e (on-loop-iff ts n x .0 q))
-    where
-      pickOne : (b : Bool) → (b ≡ true → ⊥) → b ≡ false
-      pickOne true h = absurd (h refl)
-      pickOne false h = refl
+  ordered-clear x e = ⊎-elim (λ q. absurd (ordered-free x e (on-loop-iff ts n x .0 q))) (λ q. q) (true-or-false (onLoop ts n x))
 
   pub complete-free : length (indexOrder ts n) ≡ n → (x : ℕ) → Path ts n x x → ⊥
   complete-free e x p =

@@ -1,31 +1,28 @@
 -- Descents along slots: what waits for nothing is taken, and what waits for itself never is.
 use Prim.Native.Nat.{ℕ, suc, _+_, _-_, _≤_, _<_}
 use mathlib.Core.Path.{_≡_, refl, ap, sym, _∙_, subst}
-use mathlib.Core.Bool.{Bool, true, false, not, _||_, cond}
+use mathlib.Core.Bool.{Bool, true, false, not, cond}
 use mathlib.Core.List.{List, [], _∷_, _++_}
 use mathlib.Core.Logic.{_⊎_, inl, inr, ⊎-elim}
 use native.Mathlib.Omega.{arith}
-use lib.Dec.{eqb, leb, ltb}
+use lib.Dec.{ltb}
 use lib.ListN.{length, getD, set, replicate, length-set, length-replicate}
 use lib.Seq.{getD-set-same, getD-set-other}
-use borrow.Author.Tests.{eqb-true, eqb-false, ltb-true, ltb-false, lt-ltb, le-ltb, le-leb, not-true, not-false}
+use borrow.Author.Tests.{lt-ltb, le-ltb, le-leb, lt-leb, not-true, not-false}
 use Rattle.base.specs.Lists.{member}
 use Rattle.base.proofs.Bools.{and-inv, and-both}
 use Rattle.order.specs.Indices.{firstOf, slot, settled, ready, eligible, waits, indexOrder, marked}
 use Rattle.order.specs.Paths.{readsIndex}
 use Rattle.order.specs.Walk.{unmarked}
-use Rattle.order.proofs.Range.{First, first-is, all-each, each-all}
+use Rattle.order.proofs.Range.{eq-or-not, true-or-false, both, first-is, all-each, each-all}
+use Rattle.base.proofs.Numbers.{lt-or-le}
 use Rattle.order.proofs.Marks.{Marks, mark-same, mark-other, mark-keeps, mark-none, mark-one, ready-same}
-use Rattle.order.proofs.Closure.{read-below, slot-read}
+use Rattle.order.proofs.Closure.{read-below, read-slot, slot-read}
 use Rattle.order.proofs.Reached.{unmarked-none, unmarked-set}
 use Rattle.order.proofs.AnyOrder.{Built, fresh, built-size, any-order}
 use Rattle.order.proofs.Complete.{ready-reads}
 use Rattle.base.specs.Limits.{operandLimit, nodeLimit}
 use Rattle.base.proofs.Lists.{member-first, member-inv, member-later, member-not, member-left, member-right, member-either}
-
-both : {P : Type 0} → (b : Bool) → b ≡ true → b ≡ false → P
-both true e f = let z : _≡_ {A = ℕ} 0 1 = cc in absurd (omega arith)
-both false e f = let z : _≡_ {A = ℕ} 0 1 = cc in absurd (omega arith)
 
 -- ---- the stack
 
@@ -55,49 +52,39 @@ module _ (ts : List ℕ) (n : ℕ) where
     pub waits-nowhere : (j : ℕ) → operandLimit ≤ j → firstOf unsettled 0 operandLimit ≡ j → n ≡ waits ts n done i
     waits-nowhere j l e = ap (λ (b : Bool). cond b (slot ts i j) n) (sym (le-ltb j operandLimit l)) ∙ ap found (sym e)
 
-    split : (a b : Bool) → not (a || b) ≡ true → (a ≡ false) × (b ≡ false)
-    split true b e = both false e refl
-    split false true e = both false e refl
-    split false false e = (refl, refl)
+    -- it waits for what a slot holds that is not settled, or it is ready
+    waits-cases : (w : ℕ) → w ≡ waits ts n done i
+        → ((j : ℕ) × (j < operandLimit) × (slot ts i j ≡ w) × (settled n done w ≡ false)) ⊎ ((w ≡ n) × (ready ts n done i ≡ true))
+    waits-cases w e =
+        let j = firstOf unsettled 0 operandLimit in
+        let first = first-is unsettled operandLimit 0 in
+        ⊎-elim
+        (λ l.
+        let q : slot ts i j ≡ w = waits-at j l refl ∙ sym e in
+        inl (j, l, q, subst (λ (v : ℕ). settled n done v ≡ false) q (not-true (settled n done (slot ts i j)) (first .hit (omega arith)))))
+        (λ h. inr (
+          e ∙ sym (waits-nowhere j h refl),
+          each-all (λ k. settled n done (slot ts i k)) operandLimit 0 (λ k a b. not-false (settled n done (slot ts i k)) (first .miss k a (omega arith))),
+        ))
+        (lt-or-le j operandLimit)
 
     module _ (w : ℕ) (e : w ≡ waits ts n done i) where
       -- it reads it, and it is not done
       waits-for : w < n → (readsIndex ts n i w ≡ true) × (done w ≡ false)
-      waits-for l = pickOne (firstOf unsettled 0 operandLimit) (first-is unsettled operandLimit 0) (ltb (firstOf unsettled 0 operandLimit) operandLimit) refl e
-        where
-          pickOne : (f : ℕ) → First unsettled 0 operandLimit f → (b : Bool) → ltb f operandLimit ≡ b → w ≡ cond b (slot ts i f) n → (readsIndex ts n i w ≡ true) × (done w ≡ false)
-          pickOne f first true q h =
-              let a = ltb-true f operandLimit q in (
-                slot-read ts n i w f a (sym h) l,
-                ap done h ∙ split (leb n (slot ts i f)) (done (slot ts i f)) (first .hit (omega arith)) .1,
-              )
-          pickOne f first false q h = absurd (omega arith)
+      waits-for l =
+          ⊎-elim (λ (j, a, q, u). (slot-read ts n i w j a q l, rw (lt-leb n w l) at u)) (λ (q, r). absurd (omega arith)) (waits-cases w e)
 
       pub waits-unready : w < n → ready ts n done i ≡ false
-      waits-unready l =
-          pickOne (firstOf unsettled 0 operandLimit) (first-is unsettled operandLimit 0) (ltb (firstOf unsettled 0 operandLimit) operandLimit) refl e (ready ts n done i) refl
+      waits-unready l = ⊎-elim (λ r. both (done w) (done-read r) (waits-for l .1)) (λ r. r) (true-or-false (ready ts n done i))
         where
-          pickOne :
-              (f : ℕ) → First unsettled 0 operandLimit f → (b : Bool) → ltb f operandLimit ≡ b → w ≡ cond b (slot ts i f) n → (c : Bool) → ready ts n done i ≡ c → c ≡ false
-          pickOne f first b q h false r = refl
-          pickOne f first true q h true r =
-              let a = ltb-true f operandLimit q in
-              both (settled n done (slot ts i f)) (all-each (λ j. settled n done (slot ts i j)) operandLimit 0 r f (omega arith) (omega arith))
-              (not-true (settled n done (slot ts i f)) (first .hit (omega arith)))
-          pickOne f first false q h true r = absurd (omega arith)
+          done-read : ready ts n done i ≡ true → done w ≡ true
+          done-read r =
+              let (s, a, q) = read-slot ts n i w (waits-for l .0) in
+              let t = all-each (λ j. settled n done (slot ts i j)) operandLimit 0 r s (omega arith) (omega arith) in
+              rw (q, lt-leb n w l) at t
 
       pub waits-none : n ≤ w → ready ts n done i ≡ true
-      waits-none l = pickOne (firstOf unsettled 0 operandLimit) (first-is unsettled operandLimit 0) (ltb (firstOf unsettled 0 operandLimit) operandLimit) refl e
-        where
-          pickOne : (f : ℕ) → First unsettled 0 operandLimit f → (b : Bool) → ltb f operandLimit ≡ b → w ≡ cond b (slot ts i f) n → ready ts n done i ≡ true
-          pickOne f first true q h =
-              let a = ltb-true f operandLimit q in
-              let x = split (leb n (slot ts i f)) (done (slot ts i f)) (first .hit (omega arith)) .0 in
-              let y = le-leb n (slot ts i f) (subst (λ (k : ℕ). n ≤ k) h l) in
-              both (leb n (slot ts i f)) y x
-          pickOne f first false q h =
-              let a = ltb-false f operandLimit q in
-              each-all (λ j. settled n done (slot ts i j)) operandLimit 0 (λ j b c. not-false (settled n done (slot ts i j)) (first .miss j b (omega arith)))
+      waits-none l = ⊎-elim (λ (j, a, q, u). both true refl (rw (le-leb n w l) at u)) (λ (q, r). r) (waits-cases w e)
 
   -- ---- the path
 
@@ -137,9 +124,7 @@ module _ (ts : List ℕ) (n : ℕ) where
     pub closed : Closed held held
     pub known : (v : ℕ) → marked pushed v ≡ true → (member v done ≡ true) ⊎ (member v (path ++ held) ≡ true)
     pub seen : (v : ℕ) → (member v done ≡ true) ⊎ (member v path ≡ true) → marked pushed v ≡ true
-    pub size : length taken ≡ nodeLimit
-    pub places : length pushed ≡ nodeLimit
-    pub slots : length stack ≡ nodeLimit
+    pub sizes : (length taken ≡ nodeLimit) × (length pushed ≡ nodeLimit) × (length stack ≡ nodeLimit)
     pub room : depth + unmarked pushed ≤ nodeLimit
 
   abbrev Descent : List Bool → List Bool → List ℕ → ℕ → ℕ → Type 0
@@ -162,9 +147,7 @@ module _ (ts : List ℕ) (n : ℕ) where
       closed = λ v e. both false e refl;
       known = λ v e. both (marked (replicate nodeLimit false) v) e (mark-none v);
       seen = λ v e. ⊎-elim (λ a. both false a refl) (λ a. both false a refl) e;
-      size = length-replicate nodeLimit false;
-      places = length-replicate nodeLimit false;
-      slots = length-replicate {A = ℕ} nodeLimit 0;
+      sizes = (length-replicate nodeLimit false, length-replicate nodeLimit false, length-replicate {A = ℕ} nodeLimit 0);
       room = let e = unmarked-none nodeLimit in omega arith;
     },
   )
@@ -178,9 +161,9 @@ module _ (ts : List ℕ) (n : ℕ) where
     pushing : (few : n ≤ nodeLimit) (path : List ℕ) → (d : Descending taken pushed stack path depth count) → (w : ℕ) → w < n → Linked (w ∷ path)
         → marked pushed w ≡ false → member w (d .done) ≡ false → Descent taken (set pushed w true) (set stack depth w) (depth + 1) count
     pushing few path d w l links e f =
-        let u = unmarked-set pushed w (subst (λ (k : ℕ). w < k) (sym (d .places)) (omega arith)) e in
-        let s : depth < nodeLimit = omega (arith, d .room) in
-        let m : w < length pushed = subst (λ (k : ℕ). w < k) (sym (d .places)) (omega arith) in (
+        let m : w < length pushed = subst (λ (k : ℕ). w < k) (sym (d .sizes .1)) (omega arith) in
+        let u = unmarked-set pushed w m e in
+        let s : depth < nodeLimit = omega (arith, d .room) in (
           w ∷ path,
           record {
             done = d .done;
@@ -191,7 +174,7 @@ module _ (ts : List ℕ) (n : ℕ) where
             deep = omega (arith, d .deep);
             stored = (
               ap (λ (k : ℕ). getD (set stack depth w) k 0) (sym (d .deep))
-                  ∙ getD-set-same stack depth w 0 (subst (λ (k : ℕ). depth < k) (sym (d .slots)) s),
+                  ∙ getD-set-same stack depth w 0 (subst (λ (k : ℕ). depth < k) (sym (d .sizes .2)) s),
               stored-past stack path depth w (omega (arith, d .deep)) (d .stored),
             );
             linked = links;
@@ -199,34 +182,25 @@ module _ (ts : List ℕ) (n : ℕ) where
             waiting = λ v h.
                 ⊎-elim (λ q. subst (λ (k : ℕ). member k (d .done) ≡ false) q f) (λ a. d .waiting v a) (member-inv v w (path ++ d .held) h);
             closed = d .closed;
-            known = λ v h. known v h (eqb v w) refl;
+            known = λ v h.
+                ⊎-elim (λ q. inr (subst (λ (k : ℕ). member k (w ∷ path ++ d .held) ≡ true) (sym q) (member-first w (path ++ d .held))))
+                (λ q. ⊎-elim inl (λ b. inr (member-later v w (path ++ d .held) b)) (d .known v (sym (mark-other pushed w v q) ∙ h))) (eq-or-not v w);
             seen = λ v h.
                 ⊎-elim (λ a. mark-keeps pushed w v m (d .seen v (inl a)))
                 (λ b.
                 ⊎-elim (λ q. subst (λ (k : ℕ). marked (set pushed w true) k ≡ true) q (mark-same pushed w m))
                 (λ c. mark-keeps pushed w v m (d .seen v (inr c))) (member-inv v w path b)) h;
-            size = d .size;
-            places = length-set pushed w true ∙ d .places;
-            slots = length-set stack depth w ∙ d .slots;
+            sizes = (d .sizes .0, length-set pushed w true ∙ d .sizes .1, length-set stack depth w ∙ d .sizes .2);
             room = omega (arith, d .room, u);
           },
         )
-      where
-        known : (v : ℕ) → marked (set pushed w true) v ≡ true → (b : Bool) → eqb v w ≡ b
-            → (member v (d .done) ≡ true) ⊎ (member v (w ∷ path ++ d .held) ≡ true)
-        known v h true q = inr (subst (λ (k : ℕ). member k (w ∷ path ++ d .held) ≡ true) (sym (eqb-true v w q)) (member-first w (path ++ d .held)))
-        known v h false q =
-            ⊎-elim (λ a. inl a) (λ b. inr (member-later v w (path ++ d .held) b)) (d .known v (sym (mark-other pushed w v (eqb-false v w q)) ∙ h))
 
     -- ---- nothing was begun
 
     descent-root : n ≤ nodeLimit → Descent taken pushed stack depth count → depth ≡ 0 → (w : ℕ) → w < n → marked pushed w ≡ false
         → Descent taken (set pushed w true) (set stack depth w) (depth + 1) count
-    descent-root few ([], d) z w l e = pushing few [] d w l tt e (pickOne (member w (d .done)) refl)
-      where
-        pickOne : (b : Bool) → member w (d .done) ≡ b → b ≡ false
-        pickOne true q = both (marked pushed w) (d .seen w (inl q)) e
-        pickOne false q = refl
+    descent-root few ([], d) z w l e =
+        pushing few [] d w l tt e (⊎-elim (λ q. both (marked pushed w) (d .seen w (inl q)) e) (λ q. q) (true-or-false (member w (d .done))))
     descent-root few (x ∷ path, d) z w l e = absurd (omega (arith, d .deep))
 
     -- every node was pushed
@@ -286,9 +260,7 @@ module _ (ts : List ℕ) (n : ℕ) where
               (member-either u (x ∷ path) (d .held) h);
           known = d .known;
           seen = λ u h. ⊎-elim (λ a. d .seen u (inl a)) (λ b. both false b refl) h;
-          size = d .size;
-          places = d .places;
-          slots = d .slots;
+          sizes = d .sizes;
           room = omega (arith, d .room);
         },
       )
@@ -321,7 +293,7 @@ module _ (ts : List ℕ) (n : ℕ) where
                     (ap not (subst (λ (k : ℕ). member k (d .done) ≡ false) (at-top x path d) (d .waiting x (member-first x (path ++ d .held))))) can,
                 d .built,
               );
-              marks = mark-one taken (d .done) v (subst (λ (k : ℕ). v < k) (sym (d .size)) (subst (λ (k : ℕ). k < nodeLimit) (at-top x path d) (omega arith))) (d .marks);
+              marks = mark-one taken (d .done) v (subst (λ (k : ℕ). v < k) (sym (d .sizes .0)) (subst (λ (k : ℕ). k < nodeLimit) (at-top x path d) (omega arith))) (d .marks);
               counted = omega (arith, d .counted);
               deep = omega (arith, d .deep);
               stored = d .stored .1;
@@ -341,9 +313,7 @@ module _ (ts : List ℕ) (n : ℕ) where
                   (λ q. subst (λ (k : ℕ). marked pushed k ≡ true) (at-top x path d ∙ q) (d .seen x (inr (member-first x path))))
                   (λ b. d .seen u (inl b)) (member-inv u v (d .done) a))
                   (λ b. d .seen u (inr (member-later u x path b))) h;
-              size = length-set taken v true ∙ d .size;
-              places = d .places;
-              slots = d .slots;
+              sizes = (length-set taken v true ∙ d .sizes .0, d .sizes .1, d .sizes .2);
               room = omega (arith, d .room);
             },
           )
@@ -374,61 +344,65 @@ module _ (ts : List ℕ) (n : ℕ) where
   pub searching-none : Searching (replicate nodeLimit false) (replicate nodeLimit false) (replicate nodeLimit 0) 0 0 0
   searching-none = record { bound = omega arith; idle = λ h. refl; begun = λ v h. absurd (omega arith); descent = descent-none }
 
-  module _ (few : n ≤ nodeLimit) {taken pushed : List Bool} {stack : List ℕ} {root depth count : ℕ} (s : Searching taken pushed stack root depth count) where
-    pub searching-size : (length pushed ≡ nodeLimit) × (depth + unmarked pushed ≤ nodeLimit) × (count ≤ n)
-    searching-size = let d = s .descent .1 in (d .places, d .room, descent-within (s .descent))
+module _
+    {ts : List ℕ} {n : ℕ} (few : n ≤ nodeLimit) {taken pushed : List Bool} {stack : List ℕ} {root depth count : ℕ}
+    (s : Searching ts n taken pushed stack root depth count) where
+  pub searching-size : (length pushed ≡ nodeLimit) × (depth + unmarked pushed ≤ nodeLimit) × (count ≤ n)
+  searching-size = let d = s .descent .1 in (d .sizes .1, d .room, descent-within ts n (s .descent))
 
-    -- one mark less is missing
-    pub searching-fewer : (w : ℕ) → w < n → marked pushed w ≡ false → unmarked pushed ≡ suc (unmarked (set pushed w true))
-    searching-fewer w l e = unmarked-set pushed w (subst (λ (k : ℕ). w < k) (sym (s .descent .1 .places)) (omega arith)) e
+  -- one mark less is missing
+  pub searching-fewer : (w : ℕ) → w < n → marked pushed w ≡ false → unmarked pushed ≡ suc (unmarked (set pushed w true))
+  searching-fewer w l e = unmarked-set pushed w (subst (λ (k : ℕ). w < k) (sym (s .descent .1 .sizes .1)) (omega arith)) e
 
-    pub searching-end : n ≤ root → (count ≡ length (indexOrder ts n)) × ((v : ℕ) → marked taken v ≡ member v (indexOrder ts n))
-    searching-end h = descent-end (s .descent) (s .idle h) (λ v l. s .begun v (omega arith))
+  pub searching-end : n ≤ root → (count ≡ length (indexOrder ts n)) × ((v : ℕ) → marked taken v ≡ member v (indexOrder ts n))
+  searching-end h = descent-end ts n (s .descent) (s .idle h) (λ v l. s .begun v (omega arith))
 
-    module _ (go : root < n) where
-      still : {P : Type 0} → n ≤ root → P
-      still h = absurd (omega arith)
+  module _ (go : root < n) where
+    still : {P : Type 0} → n ≤ root → P
+    still h = absurd (omega arith)
 
-      pub searching-on : depth ≡ 0 → marked pushed root ≡ true → Searching taken pushed stack (root + 1) depth count
-      searching-on z e = record { bound = omega arith; idle = λ h. z; begun = λ v h. begun v h (eqb v root) refl; descent = s .descent }
-        where
-          begun : (v : ℕ) → v < root + 1 → (b : Bool) → eqb v root ≡ b → marked pushed v ≡ true
-          begun v h true q = subst (λ (k : ℕ). marked pushed k ≡ true) (sym (eqb-true v root q)) e
-          begun v h false q = let d : v ≡ root → ⊥ = eqb-false v root q in s .begun v (omega arith)
+    pub searching-on : depth ≡ 0 → marked pushed root ≡ true → Searching ts n taken pushed stack (root + 1) depth count
+    searching-on z e =
+        record {
+          bound = omega arith;
+          idle = λ h. z;
+          begun = λ v h. ⊎-elim (λ q. rw q e) (λ d. s .begun v (omega arith)) (eq-or-not v root);
+          descent = s .descent;
+        }
 
-      kept : (w : ℕ) → w < n → (v : ℕ) → v < root → marked (set pushed w true) v ≡ true
-      kept w l v h = mark-keeps pushed w v (subst (λ (k : ℕ). w < k) (sym (s .descent .1 .places)) (omega arith)) (s .begun v h)
+    kept : (w : ℕ) → w < n → (v : ℕ) → v < root → marked (set pushed w true) v ≡ true
+    kept w l v h = mark-keeps pushed w v (subst (λ (k : ℕ). w < k) (sym (s .descent .1 .sizes .1)) (omega arith)) (s .begun v h)
 
-      pub searching-root : depth ≡ 0 → marked pushed root ≡ false → Searching taken (set pushed root true) (set stack 0 root) root 1 count
-      searching-root z e =
-          record {
-            bound = omega arith;
-            idle = λ h. still h;
-            begun = kept root go;
-            descent =
-                subst (λ (k : ℕ). Descent taken (set pushed root true) (set stack k root) (k + 1) count) z (descent-root few (s .descent) z root go e);
-          }
+    pub searching-root : depth ≡ 0 → marked pushed root ≡ false → Searching ts n taken (set pushed root true) (set stack 0 root) root 1 count
+    searching-root z e =
+        record {
+          bound = omega arith;
+          idle = λ h. still h;
+          begun = kept root go;
+          descent =
+              subst (λ (k : ℕ). Descent ts n taken (set pushed root true) (set stack k root) (k + 1) count) z (descent-root ts n few (s .descent) z root go e);
+        }
 
-      module _ (more : 0 < depth) (v : ℕ) (top : v ≡ getD stack (depth - 1) 0) where
-        pub searching-below : v < n
-        searching-below = top-below more v top (s .descent)
+    module _ (more : 0 < depth) (v : ℕ) (top : v ≡ getD stack (depth - 1) 0) where
+      pub searching-below : v < n
+      searching-below = top-below ts n more v top (s .descent)
 
-        module _ (w : ℕ) (waiting : w ≡ waits ts n (marked taken) v) where
-          pub searching-push : w < n → marked pushed w ≡ false → Searching taken (set pushed w true) (set stack depth w) root (depth + 1) count
-          searching-push l e =
-              let (r, f) = waits-for (marked taken) v w waiting l in
-              record { bound = s .bound; idle = λ h. still h; begun = kept w l; descent = descent-push more v top few (s .descent) w r f e }
+      module _ (w : ℕ) (waiting : w ≡ waits ts n (marked taken) v) where
+        pub searching-push : w < n → marked pushed w ≡ false → Searching ts n taken (set pushed w true) (set stack depth w) root (depth + 1) count
+        searching-push l e =
+            let (r, f) = waits-for ts n (marked taken) v w waiting l in
+            record { bound = s .bound; idle = λ h. still h; begun = kept w l; descent = descent-push ts n more v top few (s .descent) w r f e }
 
-          pub searching-leave : w < n → marked pushed w ≡ true → Searching taken pushed stack root 0 count
-          searching-leave l e =
-              let (r, f) = waits-for (marked taken) v w waiting l in
-              record { bound = s .bound; idle = λ h. still h; begun = s .begun; descent = descent-leave more v top (s .descent) w r f e }
+        pub searching-leave : w < n → marked pushed w ≡ true → Searching ts n taken pushed stack root 0 count
+        searching-leave l e =
+            let (r, f) = waits-for ts n (marked taken) v w waiting l in
+            record { bound = s .bound; idle = λ h. still h; begun = s .begun; descent = descent-leave ts n more v top (s .descent) w r f e }
 
-          pub searching-take : n ≤ w → Searching (set taken v true) pushed stack root (depth - 1) (count + 1)
-          searching-take h =
-              record {
-                bound = s .bound;
-                idle = λ h. still h;
-                begun = s .begun;
-                descent = descent-take more v top few (s .descent) (waits-none (marked taken) v w waiting h);
-              }
+        pub searching-take : n ≤ w → Searching ts n (set taken v true) pushed stack root (depth - 1) (count + 1)
+        searching-take h =
+            record {
+              bound = s .bound;
+              idle = λ h. still h;
+              begun = s .begun;
+              descent = descent-take ts n more v top few (s .descent) (waits-none ts n (marked taken) v w waiting h);
+            }

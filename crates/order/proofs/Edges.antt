@@ -2,9 +2,9 @@
 use Prim.Native.Nat.{ℕ, _≤_, _<_}
 use mathlib.Core.Path.{_≡_, refl, ap, sym, _∙_, subst}
 use mathlib.Core.Bool.{Bool, true, false, cond}
-use mathlib.Core.List.{List, [], _∷_, map}
+use mathlib.Core.List.{List, map}
 use mathlib.Core.Option.{Option, none, some}
-use mathlib.Core.Logic.{_⊎_, inl, inr}
+use mathlib.Core.Logic.{⊎-elim}
 use native.Mathlib.Omega.{arith}
 use lib.Dec.{eqb}
 use lib.ListN.{length, getElem?}
@@ -14,18 +14,13 @@ use Rattle.graph.specs.Look.{findNode, readIds, reads, ids}
 use Rattle.base.specs.Lists.{member, Is}
 use Rattle.graph.specs.Loops.{readsId, Leads}
 use Rattle.graph.specs.Loops as Ids
-use Rattle.graph.proofs.Loops.{Among, leads-node}
-use Rattle.graph.proofs.Accept.{among-is}
+use Rattle.graph.proofs.Loops.{leads-node}
+use Rattle.graph.proofs.Order.{in-is}
 use Rattle.order.specs.Paths.{readsIndex, Path, one, more}
 use Rattle.order.specs.Resolve.{indexOf, target, Resolves}
 use Rattle.order.proofs.Closure.{read-below, read-slot, slot-read}
 use Rattle.order.proofs.Nodes.{at-is, at-below, index-of, in-index, ref-member, member-ref}
 use Rattle.base.specs.Limits.{noNode}
-
-among-in : (i : ℕ) (ns : List Node) → Among i ns → Is i (ids ns)
-among-in i [] h = absurd h
-among-in i (x ∷ xs) (inl e) = inl e
-among-in i (x ∷ xs) (inr h) = inr (among-in i xs h)
 
 module _ (ts : List ℕ) (ns : List Node) (r : Resolves ts ns) where
   -- ---- one step
@@ -84,22 +79,15 @@ module _ (ts : List ℕ) (ns : List Node) (r : Resolves ts ns) where
     -- an id from which a path leads is a node's
     not-zero : {i j : ℕ} → Leads ns i j → i ≡ 0 → ⊥
     not-zero {i} p z =
-        let (n, is, e) = among-is i ns (leads-node ns p) in
+        let (n, is, e) = in-is i ns (leads-node ns p) in
         let h = named n is in
         omega arith
 
     step : (i j : ℕ) → readsId ns i j ≡ true → (j ≡ 0 → ⊥) → readsIndex ts (length ns) (indexOf i ns) (indexOf j ns) ≡ true
     step i j s z =
-        let (m, stands, found, same) = index-of i ns (in-index i ns (among-in i ns (leads-node ns (Ids.one s)))) in
+        let (m, stands, found, same) = index-of i ns (in-index i ns (leads-node ns (Ids.one s))) in
         let h : member j (map (λ q. q .node) (reads m)) ≡ true = ap (λ (o : Option Node). member j (readIds o)) (sym found) ∙ s in
-        ref-edge (indexOf i ns) j m stands h z (inside m stands h)
-      where
-        inside : (m : Node) → getElem? ns (indexOf i ns) ≡ some m → member j (map (λ q. q .node) (reads m)) ≡ true → Is j (ids ns)
-        inside m stands h = pickOne (r .closed m j (at-is ns (indexOf i ns) m stands) h)
-          where
-            pickOne : (j ≡ 0) ⊎ Is j (ids ns) → Is j (ids ns)
-            pickOne (inl e) = absurd (z e)
-            pickOne (inr a) = a
+        ref-edge (indexOf i ns) j m stands h z (⊎-elim (λ e. absurd (z e)) (λ a. a) (r .closed m j (at-is ns (indexOf i ns) m stands) h))
 
     pub leads-path : {i j : ℕ} → Leads ns i j → (j ≡ 0 → ⊥) → Path ts (length ns) (indexOf i ns) (indexOf j ns)
     leads-path (Ids.one {i = i} {j = j} s) z = one (step i j s z)

@@ -1,19 +1,19 @@
 -- Nodes by index and by id, and what the slots of a node hold.
 use Prim.Native.Nat.{ℕ, zero, suc, _≤_, _<_}
-use mathlib.Core.Path.{_≡_, refl, ap, sym, _∙_, subst}
+use mathlib.Core.Path.{_≡_, refl, ap, sym, subst}
 use mathlib.Core.Bool.{Bool, true, false, cond}
 use mathlib.Core.List.{List, [], _∷_, map}
 use mathlib.Core.Option.{some}
-use mathlib.Core.Logic.{_⊎_, inl, inr}
+use mathlib.Core.Logic.{_⊎_, inl, inr, ⊎-elim}
 use native.Mathlib.Omega.{arith}
 use lib.Dec.{eqb}
 use lib.ListN.{length, getElem?}
-use borrow.Author.Tests.{eqb-true, eqb-false, eq-eqb, ne-eqb}
+use borrow.Author.Tests.{eqb-true, eqb-false, eq-eqb}
 use Rattle.graph.specs.Graph.{Ref, Node}
 use Rattle.graph.specs.Look.{findNode, ids}
 use Rattle.base.specs.Lists.{member, Is}
 use Rattle.order.specs.Resolve.{indexOf}
-use Rattle.base.proofs.Lists.{some-is}
+use Rattle.base.proofs.Lists.{some-is, member-first, member-later, member-inv}
 
 -- ---- what stands at an index
 
@@ -71,21 +71,6 @@ index-first (n ∷ ns) (suc v) x e = pickOne (eqb (n .id) (x .id)) (index-first 
     pickOne true h = omega arith
     pickOne false h = omega arith
 
--- the first node that has the id stands at i
-pub index-here : (ns : List Node) (j i : ℕ) (x : Node) → getElem? ns i ≡ some x → x .id ≡ j
-    → ((v : ℕ) (y : Node) → v < i → getElem? ns v ≡ some y → y .id ≡ j → ⊥) → indexOf j ns ≡ i
-index-here [] j i x e q h = let z : _≡_ {A = ℕ} 0 1 = cc in absurd (omega arith)
-index-here (n ∷ ns) j zero x e q h = ap (λ (b : Bool). cond b 0 (suc (indexOf j ns))) (eq-eqb (n .id) j (ap (λ (m : Node). m .id) (some-is e) ∙ q))
-index-here (n ∷ ns) j (suc i) x e q h =
-    ap (λ (b : Bool). cond b 0 (suc (indexOf j ns))) (ne-eqb (n .id) j (h 0 n (omega arith) refl))
-    ∙ ap suc (index-here ns j i x e q (λ v y l s. h (suc v) y (omega arith) s))
-
--- no node has it
-pub index-none : (ns : List Node) (j : ℕ) → ((v : ℕ) (y : Node) → getElem? ns v ≡ some y → y .id ≡ j → ⊥) → indexOf j ns ≡ length ns
-index-none [] j h = refl
-index-none (n ∷ ns) j h =
-    ap (λ (b : Bool). cond b 0 (suc (indexOf j ns))) (ne-eqb (n .id) j (h 0 n refl)) ∙ ap suc (index-none ns j (λ v y s. h (suc v) y s))
-
 -- ---- references by index
 
 abbrev nodes : List Ref → List ℕ
@@ -93,21 +78,10 @@ nodes = map (λ r. r .node)
 
 pub ref-member : (rs : List Ref) (s : ℕ) (r : Ref) → getElem? rs s ≡ some r → member (r .node) (nodes rs) ≡ true
 ref-member [] s r e = let z : _≡_ {A = ℕ} 0 1 = cc in absurd (omega arith)
-ref-member (x ∷ rs) zero r e =
-    let q : x ≡ r = cc in
-    ap (λ (b : Bool). cond b true (member (r .node) (nodes rs))) (eq-eqb (x .node) (r .node) (ap (λ (y : Ref). y .node) q))
-ref-member (x ∷ rs) (suc s) r e = pickOne (eqb (x .node) (r .node)) (ref-member rs s r e)
-  where
-    pickOne : (b : Bool) → member (r .node) (nodes rs) ≡ true → cond b true (member (r .node) (nodes rs)) ≡ true
-    pickOne true h = refl
-    pickOne false h = h
+ref-member (x ∷ rs) zero r e = rw (← some-is e) (member-first (x .node) (nodes rs))
+ref-member (x ∷ rs) (suc s) r e = member-later (r .node) (x .node) (nodes rs) (ref-member rs s r e)
 
 pub member-ref : (rs : List Ref) (j : ℕ) → member j (nodes rs) ≡ true → (s : ℕ) × (r : Ref) × (getElem? rs s ≡ some r) × (r .node ≡ j)
 member-ref [] j e = let z : _≡_ {A = ℕ} 0 1 = cc in absurd (omega arith)
-member-ref (x ∷ rs) j e = pickOne (eqb (x .node) j) refl (λ h. member-ref rs j h) e
-  where
-    pickOne :
-        (b : Bool) → eqb (x .node) j ≡ b → (member j (nodes rs) ≡ true → (s : ℕ) × (r : Ref) × (getElem? rs s ≡ some r) × (r .node ≡ j))
-        → cond b true (member j (nodes rs)) ≡ true → (s : ℕ) × (r : Ref) × (getElem? (x ∷ rs) s ≡ some r) × (r .node ≡ j)
-    pickOne true q ih h = (0, x, refl, eqb-true (x .node) j q)
-    pickOne false q ih h = let (s, r, a, b) = ih h in (suc s, r, a, b)
+member-ref (x ∷ rs) j e =
+    ⊎-elim (λ q. (0, x, refl, q)) (λ h. let (s, r, a, b) = member-ref rs j h in (suc s, r, a, b)) (member-inv j (x .node) (nodes rs) e)

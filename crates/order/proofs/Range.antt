@@ -1,15 +1,26 @@
 -- The first, all and any of some numbers.
 use Prim.Native.Nat.{ℕ, zero, suc, _+_, _-_, _≤_, _<_}
 use mathlib.Core.Path.{_≡_, refl, ap, sym, _∙_}
-use mathlib.Core.Bool.{Bool, true, false, _||_, cond}
-use mathlib.Core.Logic.{⊎-elim}
+use mathlib.Core.Bool.{Bool, true, false, cond}
+use mathlib.Core.Logic.{_⊎_, inl, inr, ⊎-elim}
 use native.Mathlib.Omega.{arith}
 use native.Mathlib.Numerals.{add-one}
-use lib.Dec.{eqb}
-use borrow.Author.Tests.{eqb-true, eqb-false}
 use Rattle.base.proofs.Bools.{or-inv, or-left, or-right, and-inv, and-both}
-use Rattle.base.proofs.Numbers.{one-less}
+use Rattle.base.proofs.Numbers.{lt-or-le, one-less}
 use Rattle.order.specs.Indices.{firstOf, allOf, anyOf}
+
+-- ---- either
+
+pub eq-or-not : (a b : ℕ) → (a ≡ b) ⊎ (a ≡ b → ⊥)
+eq-or-not a b =
+    ⊎-elim (λ l. inr (λ e. omega arith)) (λ h. ⊎-elim (λ l. inr (λ e. omega arith)) (λ g. inl (omega arith)) (lt-or-le b a)) (lt-or-le a b)
+
+pub true-or-false : (b : Bool) → (b ≡ true) ⊎ (b ≡ false)
+true-or-false true = inl refl
+true-or-false false = inr refl
+
+pub both : {P : Type 0} → (b : Bool) → b ≡ true → b ≡ false → P
+both b e f = let z : _≡_ {A = ℕ} 0 1 = cc in absurd (omega arith)
 
 module _ (p : ℕ → Bool) where
   -- ---- the first
@@ -45,11 +56,12 @@ module _ (p : ℕ → Bool) where
       pickOne : (b : Bool) → p i ≡ b → First (suc i) k (firstOf p (suc i) k) → First i (suc k) (cond b i (firstOf p (suc i) k))
       pickOne true e h = record { low = omega arith; high = omega arith; hit = λ l. e; miss = λ v a b. absurd (omega arith) }
       pickOne false e h =
-          record { low = omega (arith, h .low); high = omega (arith, h .high); hit = λ l. h .hit (omega arith); miss = λ v a b. miss v a b (eqb v i) refl }
-        where
-          miss : (v : ℕ) → i ≤ v → v < firstOf p (suc i) k → (b : Bool) → eqb v i ≡ b → p v ≡ false
-          miss v a b true q = ap p (eqb-true v i q) ∙ e
-          miss v a b false q = let d : v ≡ i → ⊥ = eqb-false v i q in h .miss v (omega arith) b
+          record {
+            low = omega (arith, h .low);
+            high = omega (arith, h .high);
+            hit = λ l. h .hit (omega arith);
+            miss = λ v a b. ⊎-elim (λ q. ap p q ∙ e) (λ d. h .miss v (omega arith) b) (eq-or-not v i);
+          }
 
   -- none of the first d passes
   pub first-past : (d i k : ℕ) → ((v : ℕ) → i ≤ v → v < i + d → p v ≡ false) → firstOf p i (d + k) ≡ firstOf p (i + d) k
@@ -77,11 +89,7 @@ module _ (p : ℕ → Bool) where
   all-each zero i e v a b = absurd (omega arith)
   all-each (suc k) i e v a b =
       let (x, y) = and-inv (p i) (allOf p (suc i) k) e in
-      pickOne x (λ l. all-each k (suc i) y v l (omega arith)) (eqb v i) refl
-    where
-      pickOne : p i ≡ true → (suc i ≤ v → p v ≡ true) → (b : Bool) → eqb v i ≡ b → p v ≡ true
-      pickOne x ih true q = ap p (eqb-true v i q) ∙ x
-      pickOne x ih false q = let d : v ≡ i → ⊥ = eqb-false v i q in ih (omega arith)
+      ⊎-elim (λ q. ap p q ∙ x) (λ d. all-each k (suc i) y v (omega arith) (omega arith)) (eq-or-not v i)
 
   pub each-all : (k i : ℕ) → ((v : ℕ) → i ≤ v → v < i + k → p v ≡ true) → allOf p i k ≡ true
   unfolding allOf
@@ -101,13 +109,9 @@ module _ (p : ℕ → Bool) where
   pub some-any : (k i v : ℕ) → i ≤ v → v < i + k → p v ≡ true → anyOf p i k ≡ true
   unfolding anyOf
   some-any zero i v a b e = absurd (omega arith)
-  some-any (suc k) i v a b e = pickOne (λ l. some-any k (suc i) v l (omega arith) e) (eqb v i) refl
-    where
-      pickOne : (suc i ≤ v → anyOf p (suc i) k ≡ true) → (b : Bool) → eqb v i ≡ b → p i || anyOf p (suc i) k ≡ true
-      pickOne ih true q = or-left (p i) (anyOf p (suc i) k) (ap p (sym (eqb-true v i q)) ∙ e)
-      pickOne ih false q =
-          let d : v ≡ i → ⊥ = eqb-false v i q in
-          or-right (p i) (anyOf p (suc i) k) (ih (omega arith))
+  some-any (suc k) i v a b e =
+      ⊎-elim (λ q. or-left (p i) (anyOf p (suc i) k) (ap p (sym q) ∙ e))
+      (λ d. or-right (p i) (anyOf p (suc i) k) (some-any k (suc i) v (omega arith) (omega arith) e)) (eq-or-not v i)
 
 -- ---- the same of two tests that agree
 

@@ -16,6 +16,8 @@ use Rattle.order.specs.Paths.{readsIndex, Path, one, more, onLoop}
 use Rattle.order.specs.Walk.{Walk, walk, visit, visitFrom, unmarked, Room}
 use Rattle.order.proofs.Marks.{mark-same, mark-other, mark-keeps, mark-none}
 use Rattle.order.proofs.Closure.{read-below, read-slot, slot-read, follow, on-loop-iff}
+use Rattle.order.proofs.Range.{eq-or-not, both}
+use Rattle.base.proofs.Numbers.{lt-or-le}
 use Rattle.base.specs.Limits.{nodeLimit, operandLimit}
 
 -- ---- marks that are not set
@@ -32,14 +34,7 @@ unmarked-set (true ∷ ms) (suc v) h e = unmarked-set ms v (omega arith) e
 unmarked-set (false ∷ ms) (suc v) h e = ap suc (unmarked-set ms v (omega arith) e)
 
 seen-below : (ms : List Bool) (v : ℕ) → marked ms v ≡ true → v < length ms
-seen-below ms v e = pickOne (ltb v (length ms)) refl
-  where
-    pickOne : (b : Bool) → ltb v (length ms) ≡ b → v < length ms
-    pickOne true q = ltb-true v (length ms) q
-    pickOne false q =
-        let f : marked ms v ≡ false = List·getD-eq-default ms false (ltb-false v (length ms) q) in
-        let z : _≡_ {A = ℕ} 0 1 = cc in
-        absurd (omega arith)
+seen-below ms v e = ⊎-elim (λ l. l) (λ h. both (marked ms v) e (List·getD-eq-default ms false h)) (lt-or-le v (length ms))
 
 -- ---- one visit
 
@@ -61,32 +56,29 @@ added-room w v r l e =
       rest = omega (arith, r .rest);
     }
 
-pub visit-room : (n v : ℕ) (w : Walk) → n ≤ nodeLimit → Room w → Room (visit n v w)
-visit-room n v w few r = pickOne (ltb v n) (marked (w .seen) v) refl refl
+-- a visit adds a node that was not seen, or does nothing
+visit-cases : (P : Walk → Type 0) (n v : ℕ) (w : Walk) → (v < n → marked (w .seen) v ≡ false → P (added v w)) → ((v < n → marked (w .seen) v ≡ true) → P w)
+    → P (visit n v w)
+visit-cases P n v w new old = pickOne (ltb v n) (marked (w .seen) v) refl refl
   where
-    pickOne : (a b : Bool) → ltb v n ≡ a → marked (w .seen) v ≡ b → Room (cond (a && not b) (added v w) w)
-    pickOne true true qa qb = r
-    pickOne true false qa qb = let l = ltb-true v n qa in added-room w v r (omega arith) qb
-    pickOne false b qa qb = r
+    pickOne : (a b : Bool) → ltb v n ≡ a → marked (w .seen) v ≡ b → P (cond (a && not b) (added v w) w)
+    pickOne true true qa qb = old (λ l. qb)
+    pickOne true false qa qb = new (ltb-true v n qa) qb
+    pickOne false b qa qb = old (λ l. absurd (omega (arith, ltb-false v n qa)))
+
+pub visit-room : (n v : ℕ) (w : Walk) → n ≤ nodeLimit → Room w → Room (visit n v w)
+visit-room n v w few r = visit-cases Room n v w (λ l e. added-room w v r (omega arith) e) (λ h. r)
 
 -- what a visit does, by the node x that the slot's value v is
 module _ (n x v : ℕ) (w : Walk) (same : x ≡ v) where
   pub visit-new : x < n → marked (w .seen) x ≡ false → walk (set (w .seen) x true) (set (w .queue) (w .tail) v) (w .tail + 1) ≡ visit n v w
-  visit-new l e = subst (λ (k : ℕ). walk (set (w .seen) k true) (set (w .queue) (w .tail) v) (w .tail + 1) ≡ visit n v w) (sym same) found
-    where
-      found : added v w ≡ visit n v w
-      found =
-          ap (λ (b : Bool). cond (b && not false) (added v w) w) (sym (lt-ltb v n (subst (λ (k : ℕ). k < n) same l)))
-          ∙ ap (λ (b : Bool). cond (ltb v n && not b) (added v w) w) (sym (ap (marked (w .seen)) (sym same) ∙ e))
+  visit-new l e = rw (same, lt-ltb v n (subst (λ (k : ℕ). k < n) same l), ap (marked (w .seen)) (sym same) ∙ e) refl
 
   pub visit-seen : x < n → marked (w .seen) x ≡ true → w ≡ visit n v w
-  visit-seen l e =
-      ap (λ (b : Bool). cond (b && not true) (added v w) w) (sym (lt-ltb v n (subst (λ (k : ℕ). k < n) same l)))
-      ∙ ap (λ (b : Bool). cond (ltb v n && not b) (added v w) w) (sym (ap (marked (w .seen)) (sym same) ∙ e))
+  visit-seen l e = rw (lt-ltb v n (subst (λ (k : ℕ). k < n) same l), ap (marked (w .seen)) (sym same) ∙ e) refl
 
   pub visit-none : n ≤ x → w ≡ visit n v w
-  visit-none l =
-      ap (λ (b : Bool). cond (b && not (marked (w .seen) v)) (added v w) w) (sym (le-ltb v n (subst (λ (k : ℕ). n ≤ k) same l)))
+  visit-none l = rw (le-ltb v n (subst (λ (k : ℕ). n ≤ k) same l)) refl
 
 -- the nodes in the queue are those that were seen
 pub record Good (w : Walk) : Type 0 where
@@ -153,20 +145,11 @@ module _ {P : ℕ → Type 0} where
       fresh u h false q = inl (sym (mark-other (w .seen) v u (eqb-false u v q)) ∙ h)
 
   visit-step : (n v : ℕ) (w : Walk) → n ≤ nodeLimit → Good w → (v < n → P v) → Step P w (visit n v w)
-  visit-step n v w few g p = pickOne (ltb v n) (marked (w .seen) v) refl refl
-    where
-      pickOne : (a b : Bool) → ltb v n ≡ a → marked (w .seen) v ≡ b → Step P w (cond (a && not b) (added v w) w)
-      pickOne true true qa qb = step-none w g
-      pickOne true false qa qb = let l = ltb-true v n qa in step-added w v g (omega arith) qb (p l)
-      pickOne false b qa qb = step-none w g
+  visit-step n v w few g p = visit-cases (Step P w) n v w (λ l e. step-added w v g (omega arith) e (p l)) (λ h. step-none w g)
 
 visit-marks : (n v : ℕ) (w : Walk) → n ≤ nodeLimit → Room w → v < n → marked (visit n v w .seen) v ≡ true
 visit-marks n v w few r l =
-    ap (λ (b : Bool). marked (cond (b && not (marked (w .seen) v)) (added v w) w .seen) v) (lt-ltb v n l) ∙ pickOne (marked (w .seen) v) refl
-  where
-    pickOne : (b : Bool) → marked (w .seen) v ≡ b → marked (cond (not b) (added v w) w .seen) v ≡ true
-    pickOne true q = q
-    pickOne false q = mark-same (w .seen) v (subst (λ (k : ℕ). v < k) (sym (r .marks)) (omega arith))
+    visit-cases (λ z. marked (z .seen) v ≡ true) n v w (λ h e. mark-same (w .seen) v (subst (λ (k : ℕ). v < k) (sym (r .marks)) (omega arith))) (λ h. h l)
 
 -- ---- the slots of a node
 
@@ -208,16 +191,10 @@ module _ (ts : List ℕ) (n : ℕ) (few : n ≤ nodeLimit) (i : ℕ) where
   from-marks (suc k) j w h g s a b l =
       let y = visit n (slot ts i j) w in
       let t = visit-step {P = λ u. Unit {0}} n (slot ts i j) w few g (λ l. tt) in
-      pickOne (from-step k (suc j) y (omega arith) (t .good)) (λ a. from-marks k (suc j) y (omega arith) (t .good) s a (omega arith) l) (eqb s j) refl
-    where
-      pickOne :
-          Step (λ u. readsIndex ts n i u ≡ true) (visit n (slot ts i j) w) (visitFrom ts n i (suc j) k (visit n (slot ts i j) w))
-          → (suc j ≤ s → marked (visitFrom ts n i (suc j) k (visit n (slot ts i j) w) .seen) (slot ts i s) ≡ true) → (b : Bool) → eqb s j ≡ b
-          → marked (visitFrom ts n i (suc j) k (visit n (slot ts i j) w) .seen) (slot ts i s) ≡ true
-      pickOne t ih true q =
-          t .keeps (slot ts i s)
-          (subst (λ (x : ℕ). marked (visit n (slot ts i x) w .seen) (slot ts i s) ≡ true) (eqb-true s j q) (visit-marks n (slot ts i s) w few (g .room) l))
-      pickOne t ih false q = let d : s ≡ j → ⊥ = eqb-false s j q in ih (omega arith)
+      ⊎-elim
+      (λ q. from-step k (suc j) y (omega arith) (t .good) .keeps (slot ts i s)
+      (subst (λ (x : ℕ). marked (visit n (slot ts i x) w .seen) (slot ts i s) ≡ true) q (visit-marks n (slot ts i s) w few (g .room) l)))
+      (λ d. from-marks k (suc j) y (omega arith) (t .good) s (omega arith) (omega arith) l) (eq-or-not s j)
 
   all-step : (w : Walk) → Good w → Step (λ u. readsIndex ts n i u ≡ true) w (visitFrom ts n i 0 operandLimit w)
   all-step w g = from-step operandLimit 0 w (omega arith) g
@@ -250,7 +227,7 @@ nothing-seen v e = let f = mark-none v in let z : _≡_ {A = ℕ} 0 1 = cc in ab
 nothing-good : Good nothing
 nothing-good = record { room = nothing-room; queued = λ v e. nothing-seen v e; inside = λ q h. absurd (not-suc-le-zero h) }
 
-module _ (ts : List ℕ) (n : ℕ) (few : n ≤ nodeLimit) (i : ℕ) where
+module _ {ts : List ℕ} {n i : ℕ} (few : n ≤ nodeLimit) where
   pub walking-start : (w : Walk) → w ≡ visitFrom ts n i 0 operandLimit nothing → Walking ts n i 0 w
   walking-start w e =
       let s = all-step ts n few i nothing nothing-good in
@@ -263,12 +240,13 @@ module _ (ts : List ℕ) (n : ℕ) (few : n ≤ nodeLimit) (i : ℕ) where
         closed = λ q h. absurd (not-suc-le-zero h);
       })
 
-  pub at-head : (head : ℕ) (w : Walk) → Walking ts n i head w → head < w .tail → getD (w .queue) head 0 < nodeLimit
-  at-head head w k h = subst (λ (m : ℕ). getD (w .queue) head 0 < m) (k .good .room .marks) (seen-below (w .seen) (getD (w .queue) head 0) (k .good .inside head h))
+  pub at-head : {head : ℕ} {w : Walk} → Walking ts n i head w → head < w .tail → getD (w .queue) head 0 < nodeLimit
+  at-head {head} {w} k h = subst (λ (m : ℕ). getD (w .queue) head 0 < m) (k .good .room .marks) (seen-below (w .seen) (getD (w .queue) head 0) (k .good .inside head h))
 
-  pub walking-step : (head : ℕ) (w z : Walk) → Walking ts n i head w → head < w .tail → z ≡ visitFrom ts n (getD (w .queue) head 0) 0 operandLimit w → Walking ts n i (head + 1) z
-  walking-step head w z k h e =
+  pub walking-step : {head : ℕ} {w : Walk} (z : Walk) → Walking ts n i head w → head < w .tail → z ≡ visitFrom ts n (getD (w .queue) head 0) 0 operandLimit w → Walking ts n i (head + 1) z
+  walking-step {head} {w} z k h e =
       let x = getD (w .queue) head 0 in
+      let y = visitFrom ts n x 0 operandLimit w in
       let s = all-step ts n few x w (k .good) in
       subst (Walking ts n i (head + 1)) (sym e)
       (record {
@@ -276,38 +254,29 @@ module _ (ts : List ℕ) (n : ℕ) (few : n ≤ nodeLimit) (i : ℕ) where
         bound = omega (arith, s .grows);
         reached = λ v a. ⊎-elim (λ b. k .reached v b) (λ r. follow ts n (k .reached x (k .good .inside head h)) (one r)) (s .fresh v a);
         first = λ v r. s .keeps v (k .first v r);
-        closed = λ q l v r. closed s q l v r (eqb q head) refl;
+        closed = λ q l v r.
+            ⊎-elim
+            (λ d. all-marks ts n few x w (k .good) v (subst (λ (m : ℕ). readsIndex ts n m v ≡ true) (ap (λ (m : ℕ). getD (y .queue) m 0) d ∙ s .kept head h) r))
+            (λ d. s .keeps v (k .closed q (omega arith) v (subst (λ (m : ℕ). readsIndex ts n m v ≡ true) (s .kept q (omega (arith, k .bound))) r)))
+            (eq-or-not q head);
       })
-    where
-      closed :
-          Step (λ u. readsIndex ts n (getD (w .queue) head 0) u ≡ true) w (visitFrom ts n (getD (w .queue) head 0) 0 operandLimit w) → (q : ℕ) → q < head + 1 → (v : ℕ)
-          → readsIndex ts n (getD (visitFrom ts n (getD (w .queue) head 0) 0 operandLimit w .queue) q 0) v ≡ true → (b : Bool) → eqb q head ≡ b
-          → marked (visitFrom ts n (getD (w .queue) head 0) 0 operandLimit w .seen) v ≡ true
-      closed s q l v r true d =
-          let a : getD (visitFrom ts n (getD (w .queue) head 0) 0 operandLimit w .queue) q 0 ≡ getD (w .queue) head 0 =
-          ap (λ (m : ℕ). getD (visitFrom ts n (getD (w .queue) head 0) 0 operandLimit w .queue) m 0) (eqb-true q head d) ∙ s .kept head h in
-          all-marks ts n few (getD (w .queue) head 0) w (k .good) v (subst (λ (m : ℕ). readsIndex ts n m v ≡ true) a r)
-      closed s q l v r false d =
-          let f : q ≡ head → ⊥ = eqb-false q head d in
-          let b : q < w .tail = omega (arith, k .bound) in
-          s .keeps v (k .closed q (omega arith) v (subst (λ (m : ℕ). readsIndex ts n m v ≡ true) (s .kept q b) r))
 
   -- the walk came back to i
-  pub walking-back : (head : ℕ) (w : Walk) → Walking ts n i head w → marked (w .seen) i ≡ true → onLoop ts n i ≡ true
-  walking-back head w k e = on-loop-iff ts n i .1 (k .reached i e)
+  pub walking-back : {head : ℕ} {w : Walk} → Walking ts n i head w → marked (w .seen) i ≡ true → onLoop ts n i ≡ true
+  walking-back k e = on-loop-iff ts n i .1 (k .reached i e)
 
   -- where nothing is left of the queue, what was seen leads only to what was seen
-  leads-seen : (head : ℕ) (w : Walk) → Walking ts n i head w → w .tail ≤ head → {x y : ℕ} → Path ts n x y
+  leads-seen : {head : ℕ} {w : Walk} → Walking ts n i head w → w .tail ≤ head → {x y : ℕ} → Path ts n x y
       → ((v : ℕ) → readsIndex ts n x v ≡ true → marked (w .seen) v ≡ true) → marked (w .seen) y ≡ true
-  leads-seen head w k h (one {j = y} r) next = next y r
-  leads-seen head w k h (more {k = x} r p) next =
+  leads-seen k h (one {j = y} r) next = next y r
+  leads-seen k h (more {k = x} r p) next =
       let (q, l, e) = k .good .queued x (next x r) in
-      leads-seen head w k h p (λ v s. k .closed q (omega arith) v (subst (λ (m : ℕ). readsIndex ts n m v ≡ true) (sym e) s))
+      leads-seen k h p (λ v s. k .closed q (omega arith) v (subst (λ (m : ℕ). readsIndex ts n m v ≡ true) (sym e) s))
 
-  pub walking-done : (head : ℕ) (w : Walk) → Walking ts n i head w → w .tail ≤ head → marked (w .seen) i ≡ onLoop ts n i
-  walking-done head w k h = pickOne (marked (w .seen) i) (onLoop ts n i) refl refl
+  pub walking-done : {head : ℕ} {w : Walk} → Walking ts n i head w → w .tail ≤ head → marked (w .seen) i ≡ onLoop ts n i
+  walking-done {head} {w} k h = pickOne (marked (w .seen) i) (onLoop ts n i) refl refl
     where
       pickOne : (a b : Bool) → marked (w .seen) i ≡ a → onLoop ts n i ≡ b → a ≡ b
-      pickOne true b qa qb = sym (walking-back head w k qa) ∙ qb
-      pickOne false true qa qb = sym qa ∙ leads-seen head w k h (on-loop-iff ts n i .0 qb) (k .first)
+      pickOne true b qa qb = sym (walking-back k qa) ∙ qb
+      pickOne false true qa qb = sym qa ∙ leads-seen k h (on-loop-iff ts n i .0 qb) (k .first)
       pickOne false false qa qb = refl

@@ -1,12 +1,10 @@
 -- What an accepted table gives: its functions by position, their places, and that each is sound over those before it.
 use Prim.Native.Nat.{ℕ, zero, suc, _+_, _-_, _≤_, _<_}
-use mathlib.Core.Path.{_≡_, refl, sym, ap, _∙_, subst}
-use mathlib.Core.Bool.{Bool, true, false, _&&_}
+use mathlib.Core.Path.{_≡_, sym, ap, _∙_, subst}
 use mathlib.Core.List.{List, _∷_}
+use mathlib.Core.Logic.{⊎-elim}
 use native.Mathlib.Omega.{arith}
-use lib.Dec.{leb, eqb}
 use lib.ListN.{length}
-use borrow.Author.Tests.{leb-true, eqb-true, eqb-false}
 use Rattle.base.specs.Limits.{functionLimit, portLimit}
 use Rattle.base.specs.Outcome.{Outcome, ok, fault, _>>=_}
 use Rattle.base.specs.Bytes.{byte, u16, Bytes}
@@ -15,9 +13,9 @@ use Rattle.graph.specs.Format.{version1}
 use Rattle.graph.specs.Read.{functions, parse}
 use Rattle.graph.specs.Judge.{table, verdict}
 use Rattle.graph.specs.Sound.{AllSound}
-use Rattle.base.proofs.Bools.{and-inv}
 use Rattle.base.proofs.Outcomes.{took, passed, ok-is}
-use Rattle.graph.proofs.Formed.{accepted}
+use Rattle.base.proofs.Numbers.{lt-or-eq}
+use Rattle.graph.proofs.Formed.{in-range, accepted}
 use Rattle.reader.specs.Layout.{inputCount, outputCount, functionPlace, earlier}
 use Rattle.reader.specs.Find.{ReadsFunction}
 use Rattle.reader.specs.Records.{seen}
@@ -77,11 +75,8 @@ at-places s (suc n) k r (suc j) l =
 sound-at : (s : List ℕ) (n k : ℕ) → k < n → AllSound (before s n) → AllSound (before s (suc k))
 unfolding earlier
 sound-at s zero k l h = absurd (omega arith)
-sound-at s (suc n) k l (a, h) = pickOne (eqb k n) refl (λ m. sound-at s n k m h)
-  where
-    pickOne : (b : Bool) → eqb k n ≡ b → (k < n → AllSound (before s (suc k))) → AllSound (before s (suc k))
-    pickOne true e ih = let q : n ≡ k = sym (eqb-true k n e) in subst (λ (j : ℕ). AllSound (before s (suc j))) q (a, h)
-    pickOne false e ih = let q : k ≡ n → ⊥ = eqb-false k n e in ih (omega arith)
+sound-at s (suc n) k l (a, h) =
+    ⊎-elim (λ m. sound-at s n k m h) (λ q. subst (λ (j : ℕ). AllSound (before s (suc j))) (sym q) (a, h)) (lt-or-eq k n l)
 
 module _ (s : List ℕ) (n : ℕ) (e : verdict s ≡ ok n) (small : Bytes s) where
   -- there are at most functionLimit
@@ -121,12 +116,7 @@ fewer s k j acc l = let m = acc .most in record { functions = acc .functions; ju
 -- a function that was read has few ports
 pub few-ports : (s : List ℕ) (at : ℕ) → ReadsFunction s at → (inputCount s at ≤ portLimit) × (outputCount s at ≤ portLimit)
 few-ports s at (x, e) =
-    let inputs = inputCount s at in
-    let outputs = outputCount s at in
     let (t, e1) = passed _ _ _ _ _ e in
     let (u, e2) = passed _ _ _ _ _ e1 in
-    let (u1, u2) = and-inv (leb 1 (u16 s at) && leb inputs portLimit && (leb 1 outputs && leb outputs portLimit)) (leb (u16 s (at + 4)) (version1 .nodeLimit)) u in
-    let (u3, u4) = and-inv (leb 1 (u16 s at) && leb inputs portLimit) (leb 1 outputs && leb outputs portLimit) u1 in
-    let (u5, u6) = and-inv (leb 1 (u16 s at)) (leb inputs portLimit) u3 in
-    let (u7, u8) = and-inv (leb 1 outputs) (leb outputs portLimit) u4 in
-    (leb-true _ _ u6, leb-true _ _ u8)
+    let (id, ins, some, outs, nodes) = in-range (version1 .nodeLimit) (u16 s at) (inputCount s at) (outputCount s at) (u16 s (at + 4)) u in
+    (ins, outs)

@@ -1,13 +1,12 @@
 -- An array whose first entries are a function's values.
 use Prim.Native.Nat.{ℕ, zero, suc, _+_, _≤_, _<_}
 use mathlib.Core.Path.{_≡_, refl, sym, ap, _∙_, subst}
-use mathlib.Core.Bool.{Bool, true, false}
 use mathlib.Core.List.{List, [], _∷_}
+use mathlib.Core.Logic.{⊎-elim}
 use native.Mathlib.Omega.{arith}
-use lib.Dec.{eqb}
 use lib.ListN.{length, getD, set, length-append}
 use lib.Seq.{sets, length-sets, getD-set-same, getD-set-other}
-use borrow.Author.Tests.{eqb-true, eqb-false}
+use Rattle.base.proofs.Numbers.{lt-or-eq}
 use Rattle.base.specs.Limits.{functionLimit}
 use Rattle.reader.specs.Find.{Started}
 use Rattle.sums.specs.Position.{tabulate, placeOf, AllRead}
@@ -38,14 +37,12 @@ module _ (f : ℕ → ℕ) where
   tabulated xs zero l j jl = absurd (omega arith)
   tabulated xs (suc n) l j jl =
       let z : n + 1 ≡ suc n = omega arith in
-      subst (λ (m : ℕ). getD (sets xs 0 (tabulate f m)) j 0 ≡ f j) z (ap (λ (ys : List ℕ). getD ys j 0) (tabulate-more xs n) ∙ pickOne (eqb j n) refl (λ m. tabulated xs n (omega arith) j m))
-    where
-      pickOne : (b : Bool) → eqb j n ≡ b → (j < n → getD (sets xs 0 (tabulate f n)) j 0 ≡ f j) → getD (set (sets xs 0 (tabulate f n)) n (f n)) j 0 ≡ f j
-      pickOne true e ih =
-          let q : j ≡ n = eqb-true j n e in
-          let m : length (sets xs 0 (tabulate f n)) ≡ length xs = length-sets xs 0 (tabulate f n) in
-          rw q (getD-set-same (sets xs 0 (tabulate f n)) n (f n) 0 (omega arith))
-      pickOne false e ih = let q : j ≡ n → ⊥ = eqb-false j n e in getD-set-other (sets xs 0 (tabulate f n)) n j (f n) 0 q ∙ ih (omega arith)
+      let ys = sets xs 0 (tabulate f n) in
+      let m : length ys ≡ length xs = length-sets xs 0 (tabulate f n) in
+      subst (λ (m : ℕ). getD (sets xs 0 (tabulate f m)) j 0 ≡ f j) z
+      (ap (λ (zs : List ℕ). getD zs j 0) (tabulate-more xs n)
+      ∙ ⊎-elim (λ b. getD-set-other ys n j (f n) 0 (λ q. omega arith) ∙ tabulated xs n (omega arith) j b)
+      (λ q. rw q (getD-set-same ys n (f n) 0 (omega arith))) (lt-or-eq j n jl))
 
   -- the same of an array that is known to hold them
   pub tabulated-in : (xs ys : List ℕ) (n : ℕ) → ys ≡ sets xs 0 (tabulate f n) → n ≤ length xs → (j : ℕ) → j < n → getD ys j 0 ≡ f j

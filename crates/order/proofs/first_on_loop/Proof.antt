@@ -16,17 +16,6 @@ Inv-loop targets n ordered i₀ i = (i ≤ n) × (firstOf (onLoop targets n) 0 n
 abbrev μ-loop : tie.MeasureT-loop
 μ-loop targets n ordered i₀ i = n - i
 
--- ---- places
-
-abbrev start-of-ordered : tie.After-ordered Inv-loop μ-loop → tie.Start Inv-loop μ-loop
-start-of-ordered c = c .before
-
-abbrev start-of-in-loop : tie.In-loop Inv-loop μ-loop → tie.Start Inv-loop μ-loop
-start-of-in-loop c = start-of-ordered (c .before .before .before)
-
-abbrev start-of-loop : tie.After-loop Inv-loop μ-loop → tie.Start Inv-loop μ-loop
-start-of-loop c = start-of-ordered (c .before .before .before)
-
 take-all-requires : tie.Need-take-all-requires Inv-loop μ-loop
 take-all-requires c κs = (c .before .pre, refl)
 
@@ -52,7 +41,8 @@ loop-again c =
 returns : tie.Need-returns Inv-loop μ-loop
 returns c =
     let d = c .before .before .before in
-    let a = start-of-in-loop d .args in
+    let t = d .before .before in
+    let a = t .before .before .args in
     let l = d .before .loop in
     sym
     (loop-at (a .targets .now) (a .n) (l .i) (d .loop-test .taken)
@@ -61,7 +51,8 @@ returns c =
 loop-again-2 : tie.Need-loop-again-2 Inv-loop μ-loop
 loop-again-2 c =
     let d = c .before .before .before in
-    let a = start-of-in-loop d .args in
+    let t = d .before .before in
+    let a = t .before .before .args in
     let l = d .before .loop in (
       search needs,
       l .inv .1 ∙ first-miss (onLoop (a .targets .now) (a .n)) (a .n) (l .i) (d .loop-test .taken) (sym (c .before .on-loop .ensures) ∙ c .if2 .left),
@@ -69,7 +60,8 @@ loop-again-2 c =
 
 returns-2 : tie.Need-returns-2 Inv-loop μ-loop
 returns-2 c =
-    let a = start-of-loop c .args in
+    let t = c .before .before in
+    let a = t .before .before .args in
     let l = c .before .loop in
     sym
     (loop-nowhere (a .targets .now) (a .n) (l .i) (c .loop-test .left)

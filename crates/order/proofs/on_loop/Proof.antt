@@ -16,34 +16,18 @@ abbrev μ-loop : tie.MeasureT-loop
 
 -- ---- places
 
-abbrev wide16-of-else-1 : tie.Else1 Inv-loop μ-loop → tie.After-wide16 Inv-loop μ-loop
-wide16-of-else-1 c = c .before
-
-abbrev wide16-of-visit-all-2 : tie.After-visit-all2 Inv-loop μ-loop → tie.After-wide16 Inv-loop μ-loop
-wide16-of-visit-all-2 c = wide16-of-else-1 (c .before .before .before)
-
-abbrev start-of-queue : tie.After-queue Inv-loop μ-loop → tie.Start Inv-loop μ-loop
-start-of-queue c = c .before .before
-
 abbrev start-of-in-loop : tie.In-loop Inv-loop μ-loop → tie.Start Inv-loop μ-loop
-start-of-in-loop c = start-of-queue (c .before .before .before)
-
-abbrev start-of-loop : tie.After-loop Inv-loop μ-loop → tie.Start Inv-loop μ-loop
-start-of-loop c = start-of-queue (c .before .before .before)
-
-abbrev in-loop-of-else-1 : tie.Else1 Inv-loop μ-loop → tie.In-loop Inv-loop μ-loop
-in-loop-of-else-1 c = c .before .before
+start-of-in-loop c = let q = c .before .before .before in q .before .before
 
 abbrev in-loop-of-visit-all-2 : tie.After-visit-all2 Inv-loop μ-loop → tie.In-loop Inv-loop μ-loop
-in-loop-of-visit-all-2 c = in-loop-of-else-1 (c .before .before .before)
+in-loop-of-visit-all-2 c = let e = c .before .before .before in e .before .before
 
 visit-all-requires : tie.Need-visit-all-requires Inv-loop μ-loop
 visit-all-requires c κs = let p = c .before .before .pre in (p .0, omega arith, nothing-room)
 
 loop-holds : tie.Need-loop-holds Inv-loop μ-loop
 loop-holds c =
-    let s = c .before .before .before in
-    walking-start (s .args .targets .now) (s .args .n) (s .pre .0) (s .args .i)
+    walking-start (c .before .before .before .pre .0)
     (walk (c .visit-all .last .1 .1 .1 .0) (c .visit-all .last .1 .1 .1 .1 .0) (c .visit-all .result)) (c .visit-all .ensures)
 
 -- the queue ends at most where the array does
@@ -54,17 +38,10 @@ short c = let l = c .before .loop in let e = l .inv .good .room .rest in omega (
 narrow : (c : tie.After-wide16 Inv-loop μ-loop) → c .wide16 .result < nodeLimit
 narrow c =
     let d = c .before in
-    let s = start-of-in-loop d in
-    let l = d .before .loop in
-    subst (λ (k : ℕ). k < nodeLimit) (sym (c .wide16 .ensures .0))
-    (at-head (s .args .targets .now) (s .args .n) (s .pre .0) (s .args .i) (l .head) (walk (l .seen) (l .queue) (l .tail)) (l .inv) (d .loop-test .taken))
+    subst (λ (k : ℕ). k < nodeLimit) (sym (c .wide16 .ensures .0)) (at-head (start-of-in-loop d .pre .0) (d .before .loop .inv) (d .loop-test .taken))
 
 returns : tie.Need-returns Inv-loop μ-loop
-returns c =
-    let d = c .before .before in
-    let s = start-of-in-loop d in
-    let l = d .before .loop in
-    sym (walking-back (s .args .targets .now) (s .args .n) (s .pre .0) (s .args .i) (l .head) (walk (l .seen) (l .queue) (l .tail)) (l .inv) (c .if1 .taken))
+returns c = let d = c .before .before in sym (walking-back (start-of-in-loop d .pre .0) (d .before .loop .inv) (c .if1 .taken))
 
 visit-all-requires-2 : tie.Need-visit-all-requires-2 Inv-loop μ-loop
 visit-all-requires-2 c κs =
@@ -74,20 +51,16 @@ visit-all-requires-2 c κs =
 
 loop-again : tie.Need-loop-again Inv-loop μ-loop
 loop-again c =
-    let w = wide16-of-visit-all-2 c in
-    let d = w .before in
+    let e = c .before .before .before in
+    let d = in-loop-of-visit-all-2 c in
     let s = start-of-in-loop d in
     let l = d .before .loop in
-    walking-step (s .args .targets .now) (s .args .n) (s .pre .0) (s .args .i) (l .head) (walk (l .seen) (l .queue) (l .tail))
-    (walk (c .visit-all2 .last .1 .1 .1 .0) (c .visit-all2 .last .1 .1 .1 .1 .0) (c .visit-all2 .result)) (l .inv) (d .loop-test .taken)
+    walking-step (s .pre .0) (walk (c .visit-all2 .last .1 .1 .1 .0) (c .visit-all2 .last .1 .1 .1 .1 .0) (c .visit-all2 .result)) (l .inv) (d .loop-test .taken)
     (c .visit-all2 .ensures
-    ∙ ap (λ (k : ℕ). visitFrom (s .args .targets .now) (s .args .n) k 0 operandLimit (walk (l .seen) (l .queue) (l .tail))) (w .wide16 .ensures .0))
+    ∙ ap (λ (k : ℕ). visitFrom (s .args .targets .now) (s .args .n) k 0 operandLimit (walk (l .seen) (l .queue) (l .tail))) (e .before .wide16 .ensures .0))
 
 returns-2 : tie.Need-returns-2 Inv-loop μ-loop
-returns-2 c =
-    let s = start-of-loop c in
-    let l = c .before .loop in
-    walking-done (s .args .targets .now) (s .args .n) (s .pre .0) (s .args .i) (l .head) (walk (l .seen) (l .queue) (l .tail)) (l .inv) (c .loop-test .left)
+returns-2 c = let q = c .before .before .before in walking-done (q .before .before .pre .0) (c .before .loop .inv) (c .loop-test .left)
 
 pub on-loop-spec : {M : Type 1} → statement M
 on-loop-spec =

@@ -10,35 +10,24 @@ Inv-loop targets n order₀ taken₀ low₀ count₀ order taken low count = Sch
 abbrev μ-loop : tie.MeasureT-loop
 μ-loop targets n order₀ taken₀ low₀ count₀ order taken low count = n - count
 
--- ---- places
-
-abbrev start-of-at-loop : tie.At-loop Inv-loop μ-loop → tie.Start Inv-loop μ-loop
-start-of-at-loop c = c .before
-
-abbrev start-of-next-from : tie.After-next-from Inv-loop μ-loop → tie.Start Inv-loop μ-loop
-start-of-next-from c = start-of-at-loop (c .before .before .before)
-
 loop-holds : tie.Need-loop-holds Inv-loop μ-loop
 loop-holds c = scheduling-none (c .args .targets .now) (c .args .n) (c .args .order .now)
 
 loop-again : tie.Need-loop-again Inv-loop μ-loop
 loop-again c =
     let d = c .before .before .before in
-    let a = start-of-next-from d .args in
-    scheduling-step (a .targets .now) (a .n) (d .before .before .before .loop .inv) (d .before .before .loop-test .taken) (d .next-from .result)
-    (d .next-from .ensures) (c .before .before .if1 .taken) (start-of-next-from d .pre) (c .untaken-from .result) (c .untaken-from .ensures)
+    let l = d .before .before .before in
+    scheduling-step (l .loop .inv) (d .before .before .loop-test .taken) (d .next-from .result) (d .next-from .ensures) (c .before .before .if1 .taken) (l .before .pre)
+    (c .untaken-from .result) (c .untaken-from .ensures)
 
 returns : tie.Need-returns Inv-loop μ-loop
 returns c =
     let d = c .before in
-    let a = start-of-next-from d .args in
-    scheduling-stuck (a .targets .now) (a .n) (d .before .before .before .loop .inv) (d .before .before .loop-test .taken) (d .next-from .result)
-    (d .next-from .ensures) (c .if1 .left)
+    let l = d .before .before .before in
+    scheduling-stuck (l .loop .inv) (d .before .before .loop-test .taken) (d .next-from .result) (d .next-from .ensures) (c .if1 .left)
 
 returns-2 : tie.Need-returns-2 Inv-loop μ-loop
-returns-2 c =
-    let a = c .before .before .args in
-    scheduling-full (a .targets .now) (a .n) (c .before .loop .inv) (c .loop-test .left)
+returns-2 c = scheduling-full (c .before .loop .inv) (c .loop-test .left)
 
 pub schedule-spec : {M : Type 1} → statement M
 schedule-spec =

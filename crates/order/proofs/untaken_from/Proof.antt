@@ -18,37 +18,23 @@ Inv-loop n taken low i₀ i = (i ≤ n) × (firstOf (untaken taken) low (n - low
 abbrev μ-loop : tie.MeasureT-loop
 μ-loop n taken low i₀ i = n - i
 
--- ---- places
-
-abbrev start-of-at-loop : tie.At-loop Inv-loop μ-loop → tie.Start Inv-loop μ-loop
-start-of-at-loop c = c .before
-
-abbrev start-of-then-1 : tie.Then1 Inv-loop μ-loop → tie.Start Inv-loop μ-loop
-start-of-then-1 c = start-of-at-loop (c .before .before .before)
-
-abbrev start-of-else-1 : tie.Else1 Inv-loop μ-loop → tie.Start Inv-loop μ-loop
-start-of-else-1 c = start-of-at-loop (c .before .before .before)
-
 loop-holds : tie.Need-loop-holds Inv-loop μ-loop
 loop-holds c = (omega arith, refl)
 
 loop-again : tie.Need-loop-again Inv-loop μ-loop
 loop-again c =
-    let a = start-of-then-1 c .args in
-    let l = c .before .before .before .loop in
-    (search needs, l .inv .1 ∙ first-miss _ (a .n) (l .i) (c .before .before .loop-test .taken) (ap not (c .if1 .taken)))
+    let l = c .before .before .before in
+    (search needs, l .loop .inv .1 ∙ first-miss _ (l .before .args .n) (l .loop .i) (c .before .before .loop-test .taken) (ap not (c .if1 .taken)))
 
 returns : tie.Need-returns Inv-loop μ-loop
 returns c =
-    let a = start-of-else-1 c .args in
-    let l = c .before .before .before .loop in
-    sym (l .inv .1 ∙ first-hit _ (a .n) (l .i) (c .before .before .loop-test .taken) (ap not (c .if1 .left)))
+    let l = c .before .before .before in
+    sym (l .loop .inv .1 ∙ first-hit _ (l .before .args .n) (l .loop .i) (c .before .before .loop-test .taken) (ap not (c .if1 .left)))
 
 returns-2 : tie.Need-returns-2 Inv-loop μ-loop
 returns-2 c =
-    let a = c .before .before .args in
-    let l = c .before .loop in
-    sym (l .inv .1 ∙ first-end _ (a .n) (l .i) (c .loop-test .left))
+    let l = c .before in
+    sym (l .loop .inv .1 ∙ first-end _ (l .before .args .n) (l .loop .i) (c .loop-test .left))
 
 pub untaken-from-spec : {M : Type 1} → statement M
 untaken-from-spec =

@@ -15,14 +15,6 @@ Inv-loop targets n i seen₀ queue₀ tail s₀ end₀ seen queue s end =
 abbrev μ-loop : tie.MeasureT-loop
 μ-loop targets n i seen₀ queue₀ tail s₀ end₀ seen queue s end = operandLimit - s
 
--- ---- places
-
-abbrev in-loop-of-visit-arg : tie.After-visit-arg Inv-loop μ-loop → tie.In-loop Inv-loop μ-loop
-in-loop-of-visit-arg c = c .before
-
-abbrev in-loop-of-visit : tie.After-visit Inv-loop μ-loop → tie.In-loop Inv-loop μ-loop
-in-loop-of-visit c = in-loop-of-visit-arg (c .before .before .before)
-
 loop-holds : tie.Need-loop-holds Inv-loop μ-loop
 loop-holds c = (omega arith, c .pre .2, refl)
 
@@ -31,7 +23,8 @@ visit-requires c κs = let d = c .before .before .before in (d .before .before .
 
 loop-again : tie.Need-loop-again Inv-loop μ-loop
 loop-again c =
-    let d = in-loop-of-visit c in
+    let v = c .before .before .before in
+    let d = v .before in
     let a = d .before .before .args in
     let l = d .before .loop in
     let h : l .s < operandLimit = omega arith in

@@ -21,47 +21,30 @@ Inv-loop targets n taken i j₀ j = (j ≤ operandLimit) × (firstOf (unsettled 
 abbrev μ-loop : tie.MeasureT-loop
 μ-loop targets n taken i j₀ j = operandLimit - j
 
--- ---- places
-
-abbrev at-loop-of-in-loop : tie.In-loop Inv-loop μ-loop → tie.At-loop Inv-loop μ-loop
-at-loop-of-in-loop c = c .before
-
-abbrev at-loop-of-settled : tie.After-settled Inv-loop μ-loop → tie.At-loop Inv-loop μ-loop
-at-loop-of-settled c = at-loop-of-in-loop (c .before .before .before)
-
-abbrev start-of-at-loop : tie.At-loop Inv-loop μ-loop → tie.Start Inv-loop μ-loop
-start-of-at-loop c = c .before
-
-abbrev start-of-wide16 : tie.After-wide16 Inv-loop μ-loop → tie.Start Inv-loop μ-loop
-start-of-wide16 c = start-of-at-loop (c .before .before .before)
-
-abbrev start-of-settled : tie.After-settled Inv-loop μ-loop → tie.Start Inv-loop μ-loop
-start-of-settled c = start-of-wide16 (c .before)
-
-abbrev at-loop-of-then-1 : tie.Then1 Inv-loop μ-loop → tie.At-loop Inv-loop μ-loop
-at-loop-of-then-1 c = at-loop-of-settled (c .before)
+abbrev at-loop : tie.After-wide16 Inv-loop μ-loop → tie.At-loop Inv-loop μ-loop
+at-loop c = c .before .before .before
 
 loop-holds : tie.Need-loop-holds Inv-loop μ-loop
 loop-holds c = (omega arith, refl)
 
 -- what `settled` answered is so of the slot
-answered : (c : tie.After-settled Inv-loop μ-loop) → let a = start-of-settled c .args in
-    unsettled (a .targets .now) (a .n) (a .taken .now) (a .i) (at-loop-of-settled c .loop .j) ≡ not (c .settled .result)
+answered : (c : tie.After-settled Inv-loop μ-loop) → let a = at-loop (c .before) .before .args in
+    unsettled (a .targets .now) (a .n) (a .taken .now) (a .i) (at-loop (c .before) .loop .j) ≡ not (c .settled .result)
 answered c =
-    let a = start-of-settled c .args in
+    let a = at-loop (c .before) .before .args in
     ap (λ (v : ℕ). not (settled (a .n) (marked (a .taken .now)) v)) (sym (c .before .wide16 .ensures .0)) ∙ ap not (sym (c .settled .ensures))
 
 loop-again : tie.Need-loop-again Inv-loop μ-loop
 loop-again c =
-    let l = at-loop-of-then-1 c .loop in
+    let l = at-loop (c .before .before) .loop in
     let h : l .j < operandLimit = omega arith in
     (search needs, l .inv .1 ∙ first-miss _ operandLimit (l .j) h (answered (c .before) ∙ ap not (c .if1 .taken)))
 
 returns : tie.Need-returns Inv-loop μ-loop
 returns c =
     let d = c .before .before in
-    let a = start-of-wide16 d .args in
-    let l = d .before .before .before .loop in
+    let a = at-loop d .before .args in
+    let l = at-loop d .loop in
     let h : l .j < operandLimit = omega arith in
     d .wide16 .ensures .0
     ∙ waits-at (a .targets .now) (a .n) (marked (a .taken .now)) (a .i) (l .j) h
