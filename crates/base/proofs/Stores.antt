@@ -1,11 +1,11 @@
 -- Runs of stores.
-use Prim.Native.Nat.{ℕ, zero, suc, _+_, _≤_, _<_}
+use Prim.Native.Nat.{ℕ, zero, suc, _+_, _-_, _≤_, _<_}
 use mathlib.Core.Path.{_≡_, refl, sym, ap, _∙_}
 use mathlib.Core.List.{List, [], _∷_, _++_}
 use native.Mathlib.Omega.{arith}
 use native.Mathlib.Nat.{add-zero, add-suc, suc-add}
 use lib.ListN.{length, getD, set, take, drop, length-set}
-use lib.Seq.{sets, sets-eq, set-comm, take-at, getD-set-same, getD-set-other}
+use lib.Seq.{sets, length-sets, sets-eq, set-comm, take-at, getD-set-same, getD-set-other}
 use Rattle.base.specs.Lists.{wordsAt}
 use Rattle.base.proofs.Stands.{cons}
 
@@ -77,3 +77,32 @@ set-before (y ∷ ys) l i j x h =
 -- what was stored at the front is the front
 pub front : (xs ys : List ℕ) → length ys ≤ length xs → take (length ys) (sets xs 0 ys) ≡ ys
 front xs ys h = ap (take (length ys)) (sets-eq ys xs 0 (omega arith)) ∙ take-at ys (drop (0 + length ys) xs) (length ys) refl
+
+-- ---- a run that a loop stores in parts
+
+-- `whole` goes to the place `to`; it is stored up to the place `here`, and `tail` is left
+pub record Run (whole out₀ : List ℕ) (to : ℕ) (out : List ℕ) (here : ℕ) (tail : List ℕ) : Type 0 where
+  pub same : length out ≡ length out₀
+  pub rest : sets out₀ to whole ≡ sets out here tail
+
+module _ {whole out₀ : List ℕ} {to : ℕ} where
+  pub run-start : {here : ℕ} {tail : List ℕ} → here ≡ to → tail ≡ whole → Run whole out₀ to out₀ here tail
+  run-start {here} {tail} eh et = record { same = refl; rest = sym (ap (λ (q : ℕ). sets out₀ q tail) eh ∙ ap (sets out₀ to) et) }
+
+  module _ {out : List ℕ} {here : ℕ} {tail : List ℕ} (h : Run whole out₀ to out here tail) where
+    pub run-more : (xs : List ℕ) {out' tail' : List ℕ} {here' : ℕ} → tail ≡ xs ++ tail' → out' ≡ sets out here xs → here' ≡ here + length xs → Run whole out₀ to out' here' tail'
+    run-more xs {out'} {tail'} e eo eh =
+        record {
+          same = ap length eo ∙ length-sets out here xs ∙ h .same;
+          rest = h .rest ∙ ap (sets out here) e ∙ sets-append xs tail' out here ∙ (rw (eo, eh));
+        }
+
+    pub run-step : {a here' : ℕ} {tail' : List ℕ} → tail ≡ a ∷ tail' → here' ≡ here + 1 → Run whole out₀ to (set out here a) here' tail'
+    run-step {a} {here'} e eh = let x : here' ≡ suc here = omega arith in record { same = length-set out here a ∙ h .same; rest = h .rest ∙ (rw (x, e)) }
+
+    pub run-done : tail ≡ [] → out ≡ sets out₀ to whole
+    run-done e = sym (h .rest ∙ ap (sets out here) e)
+
+-- a list of as many elements as are left, when none is
+pub none-left : (f : ℕ → List ℕ) {n j : ℕ} → n ≤ j → f 0 ≡ [] → f (n - j) ≡ []
+none-left f {n} {j} h e = let z : n - j ≡ 0 = omega arith in ap f z ∙ e

@@ -18,7 +18,7 @@ use Rattle.graph.specs.Look.{findNode, findFunction, readsOf, reads, outputRefs
 use Rattle.graph.specs.Schedule.{ready, schedule}
 use Rattle.graph.specs.Types.{outputTypes, wantsOf, givesOf, givesAt, refType}
 use Rattle.graph.specs.Sound.{Wired, Shaped, Sound, AllSound}
-use Rattle.base.proofs.Bools.{and-inv, and-both, or-left, or-right}
+use Rattle.base.proofs.Bools.{and-inv, and-both, cond-or, or-left, or-right}
 use Rattle.graph.proofs.Order.{in-is, Ordered, scheduled, schedule-within, reads-in}
 use Rattle.bytecode.specs.Run.{places}
 use Rattle.compiler.specs.Static.{Location, nowhere, input, offset, rebase, Located, locationsOf, locationOf, Callee, nodeSummary, Allocation, allocate, functionSummary, summary}
@@ -199,15 +199,11 @@ module _ (early : List Function) (f : Function) where
         let h = nodes-end ns (locating n c ws) (d + c .words) (λ x i. within x (inr i)) ordered (known-step ws d known n (within n (inl refl)) fit) in
         record {
           up = let u : d + c .words ≤ allocate call ns (locating n c ws) (d + c .words) .words = h .up in omega arith;
-          old = λ i e. h .old i (either (eqb (n .id) i) _ e);
+          old = λ i e. h .old i (cond-or (eqb (n .id) i) _ e);
           has = λ x i. ⊎-elim (λ e. h .old (x .id) (here x e)) (λ j. h .has x j) i;
           known = h .known;
         }
       where
-        either : (p q : Bool) → q ≡ true → cond p true q ≡ true
-        either true q e = refl
-        either false q e = e
-
         here : (x : Node) → x ≡ n → member (x .id) (n .id ∷ locatedIds ws) ≡ true
         here x e = rw (eq-eqb (n .id) (x .id) (ap (λ (y : Node). y .id) (sym e))) refl
 

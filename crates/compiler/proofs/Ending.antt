@@ -12,8 +12,8 @@ use Rattle.bytecode.specs.Run.{spans}
 use Rattle.bytecode.specs.Code.{headerCode}
 use Rattle.compiler.specs.Emit.{addressOf, addressesIn}
 use Rattle.sums.specs.Answers.{typesBy}
-use Rattle.base.proofs.Stores.{sets-append}
-use Rattle.compiler.proofs.Filling.{Run, run-start, run-more, run-done, none-left, types-next, addresses-next}
+use Rattle.base.proofs.Stores.{sets-append, Run, run-start, run-more, run-done, none-left}
+use Rattle.compiler.proofs.Filling.{types-next, addresses-next}
 
 -- ---- the header
 

@@ -2,15 +2,14 @@
 use Prim.Native.Nat.{ℕ, suc, _+_, _-_, _≤_, _<_}
 use mathlib.Core.Path.{_≡_, refl, sym, ap, _∙_, subst}
 use mathlib.Core.Bool.{Bool, true, false, cond}
-use mathlib.Core.List.{List, [], _∷_, _++_}
+use mathlib.Core.List.{List, [], _∷_}
 use mathlib.Core.Option.{some}
 use native.Mathlib.Omega.{arith}
 use lib.Dec.{eqb}
-use lib.ListN.{length, getD, set, length-set, replicate, length-replicate}
-use lib.Seq.{sets, length-sets}
+use lib.ListN.{length, getD, replicate, length-replicate}
+use lib.Seq.{sets}
 use Rattle.base.specs.Limits.{nodeLimit, slotLimit}
 use Rattle.base.proofs.Numbers.{one-less}
-use Rattle.base.proofs.Stores.{sets-append}
 use Rattle.base.specs.Bytes.{byte}
 use Rattle.base.specs.Lists.{span}
 use Rattle.graph.specs.Graph.{Node}
@@ -28,33 +27,6 @@ use Rattle.resolver.specs.Slots.{rowsOf, placesOf}
 use Rattle.resolver.proofs.Rows.{length-nodes, place-at, row-slot, rows-size}
 
 -- ---- a run of stores
-
--- `whole` goes to the place `to`; it is stored up to the place `here`, and `tail` is left
-pub record Run (whole out₀ : List ℕ) (to : ℕ) (out : List ℕ) (here : ℕ) (tail : List ℕ) : Type 0 where
-  pub same : length out ≡ length out₀
-  pub rest : sets out₀ to whole ≡ sets out here tail
-
-module _ {whole out₀ : List ℕ} {to : ℕ} where
-  pub run-start : {here : ℕ} {tail : List ℕ} → here ≡ to → tail ≡ whole → Run whole out₀ to out₀ here tail
-  run-start {here} {tail} eh et = record { same = refl; rest = sym (ap (λ (q : ℕ). sets out₀ q tail) eh ∙ ap (sets out₀ to) et) }
-
-  module _ {out : List ℕ} {here : ℕ} {tail : List ℕ} (h : Run whole out₀ to out here tail) where
-    pub run-more : (xs : List ℕ) {out' tail' : List ℕ} {here' : ℕ} → tail ≡ xs ++ tail' → out' ≡ sets out here xs → here' ≡ here + length xs → Run whole out₀ to out' here' tail'
-    run-more xs {out'} {tail'} e eo eh =
-        record {
-          same = ap length eo ∙ length-sets out here xs ∙ h .same;
-          rest = h .rest ∙ ap (sets out here) e ∙ sets-append xs tail' out here ∙ (rw (eo, eh));
-        }
-
-    pub run-step : {a here' : ℕ} {tail' : List ℕ} → tail ≡ a ∷ tail' → here' ≡ here + 1 → Run whole out₀ to (set out here a) here' tail'
-    run-step {a} {here'} e eh = let x : here' ≡ suc here = omega arith in record { same = length-set out here a ∙ h .same; rest = h .rest ∙ (rw (x, e)) }
-
-    pub run-done : tail ≡ [] → out ≡ sets out₀ to whole
-    run-done e = sym (h .rest ∙ ap (sets out here) e)
-
--- a list of as many elements as are left, when none is
-pub none-left : (f : ℕ → List ℕ) {n j : ℕ} → n ≤ j → f 0 ≡ [] → f (n - j) ≡ []
-none-left f {n} {j} h e = let z : n - j ≡ 0 = omega arith in ap f z ∙ e
 
 -- ---- what is stored next, where j of n elements are stored
 

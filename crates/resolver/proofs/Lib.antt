@@ -1,5 +1,4 @@
 -- The laws of the resolver.
-pub mod Storing
 pub mod Rows
 pub mod Gathering
 pub mod Matching

@@ -20,7 +20,7 @@ use Rattle.reader.specs.Find.{ReadsOf}
 use Rattle.resolver.specs.Slots.{padded, rowOf, rowsOf}
 use Rattle.resolver.specs.Groups.{idsOf, named, sought, entries, Gathered, FoundAll, Found, GroupDone}
 use Rattle.base.proofs.Stores.{sets-in}
-use Rattle.resolver.proofs.Storing.{Run, run-start, run-part, run-done}
+use Rattle.base.proofs.Stores.{Run, run-start, run-more, run-done}
 use Rattle.resolver.proofs.Rows.{length-row, length-rows, length-nodes, rows-next, rows-none}
 use Rattle.reader.proofs.Walking.{Passed, pass-step, left-next, left-none, left-all}
 use Rattle.base.specs.Limits.{nodeLimit, operandLimit}
@@ -128,7 +128,7 @@ module _ {ns : List Node} {s : List ℕ} {left at nodes : ℕ} {found targets₀
         pass = p;
         here = refl;
         finds = subst (λ (n : ℕ). Found ns s at n found 0) z f;
-        run = run-start (omega arith) (ap (rowsOf ns) (left-all s nodes at));
+        run = run-start (omega arith) (sym (ap (rowsOf ns) (left-all s nodes at)));
       }
 
   module _ {targets : List ℕ} {p n m : ℕ} (h : Scattering ns s left at nodes found targets₀ i targets p n m) where
@@ -142,7 +142,7 @@ module _ {ns : List Node} {s : List ℕ} {left at nodes : ℕ} {found targets₀
           pass = pass-step (h .pass) (omega arith) e;
           here = e ∙ ap (nodeEnd s) (h .here) ∙ sym (place-next s n at);
           finds = on;
-          run = run-part (h .run) (rowOf ns (nodeAt s p)) (rows-next ns (left-next s nodes p p' n l e)) (omega (arith, z)) (et ∙ ap (sets targets (operandLimit * (i + n))) row);
+          run = run-more (h .run) (rowOf ns (nodeAt s p)) (rows-next ns (left-next s nodes p p' n l e)) (et ∙ ap (sets targets (operandLimit * (i + n))) row) (omega (arith, z));
         }
 
     pub scatter-done : nodes ≤ n → (p ≡ nodePlace s at nodes) × (targets ≡ sets targets₀ (operandLimit * i) (rowsOf ns (nodesAt nodes s at)))
@@ -175,7 +175,7 @@ pub record Resolving (s : List ℕ) (first count : ℕ) (targets₀ targets : Li
 
 module _ {s : List ℕ} {first count : ℕ} {targets₀ : List ℕ} where
   pub resolve-start : Passed s count first 0 → Resolving s first count targets₀ targets₀ first 0
-  resolve-start p = record { pass = p; run = run-start refl (ap (rowsOf (nodesAt count s first)) (left-all s count first)) }
+  resolve-start p = record { pass = p; run = run-start refl (sym (ap (rowsOf (nodesAt count s first)) (left-all s count first))) }
 
   module _ {targets : List ℕ} {at i : ℕ} (h : Resolving s first count targets₀ targets at i) where
     pub resolve-step : {targets' : List ℕ} {r : Reached} → GroupDone s first count at i targets targets' r → Resolving s first count targets₀ targets' (r .at) (r .index)
@@ -192,7 +192,7 @@ module _ {s : List ℕ} {first count : ℕ} {targets₀ : List ℕ} where
         ∙ ap (λ (p : ℕ). rowsOf ns (nodesAt k s at) ++ rowsOf ns (nodesAt (count - r .index) s p)) (sym (d .place)) in
         record {
           pass = subst (λ (p : ℕ). Passed s count p (r .index)) (sym (d .place)) (subst (Passed s count (nodePlace s at k)) whole (pass-many s count at i k (h .pass) (omega (arith, whole, most))));
-          run = run-part (h .run) (rowsOf ns (nodesAt k s at)) rows (omega (arith, whole, size)) (d .rows);
+          run = run-more (h .run) (rowsOf ns (nodesAt k s at)) rows (d .rows) (omega (arith, whole, size));
         }
 
     pub resolve-done : count ≤ i → targets ≡ sets targets₀ 0 (rowsOf (nodesAt count s first) (nodesAt count s first))

@@ -4,7 +4,7 @@ use mathlib.Core.Path.{refl}
 use mathlib.Core.List.{[]}
 use native.Mathlib.Omega.{arith}
 use Rattle.resolver.specs.Slots.{padded}
-use Rattle.resolver.proofs.Storing.{Run, run-start, run-step, run-done}
+use Rattle.base.proofs.Stores.{Run, run-start, run-step, run-done}
 use Rattle.resolver.proofs.Rows.{pad-next, pad-end}
 use Rattle.resolver.proofs.clear_row.Statement.{statement}
 use Rattle.resolver.proofs.clear_row.Tie as tie

@@ -4,7 +4,7 @@ use mathlib.Core.List.{_∷_}
 use native.Mathlib.Omega.{arith}
 use Rattle.graph.specs.Read.{references}
 use Rattle.resolver.specs.Groups.{idsOf}
-use Rattle.resolver.proofs.Storing.{Run, run-start, run-step, run-done}
+use Rattle.base.proofs.Stores.{Run, run-start, run-step, run-done}
 use Rattle.resolver.proofs.Gathering.{ids-all, ids-next, ids-none}
 use Rattle.resolver.proofs.gather_node.Statement.{statement}
 use Rattle.resolver.proofs.gather_node.Tie as tie
@@ -40,7 +40,7 @@ gather-node-spec =
     (tie.spec
     Inv-loop
     μ-loop
-    (λ c. let a = c .before .args in (omega arith, omega arith, run-start (omega arith) (ids-all (a .s .now) (a .n) (a .first))))
+    (λ c. let a = c .before .args in (omega arith, omega arith, run-start (omega arith) (sym (ids-all (a .s .now) (a .n) (a .first)))))
     (λ c κs. omega (arith, c .loop-test .taken, c .before .loop .inv .1, c .before .before .before .pre .0))
     (λ c. omega (arith, c .u16-at .ensures .1))
     (λ c. omega (arith, c .before .loop-test .taken, start-of-u16-at c .pre .1))

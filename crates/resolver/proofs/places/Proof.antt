@@ -1,10 +1,10 @@
 use borrow.Author.Needs.{needs}
 use Prim.Native.Nat.{_-_}
-use mathlib.Core.Path.{refl, ap}
+use mathlib.Core.Path.{refl, ap, sym}
 use native.Mathlib.Omega.{arith}
 use Rattle.reader.specs.Layout.{nodesAt}
 use Rattle.resolver.specs.Slots.{placesOf}
-use Rattle.resolver.proofs.Storing.{Run, run-start, run-step, run-done}
+use Rattle.base.proofs.Stores.{Run, run-start, run-step, run-done}
 use Rattle.reader.proofs.Walking.{Here, size-here, Passed, pass-start, pass-here, pass-step, left-next, left-none, left-all}
 use Rattle.resolver.proofs.Rows.{places-next}
 use Rattle.resolver.proofs.places.Statement.{statement}
@@ -29,7 +29,7 @@ loop-holds : tie.Need-loop-holds Inv-loop μ-loop
 loop-holds c =
     let b = c .before .before in
     let a = b .args in
-    (pass-start (b .pre .0), run-start refl (ap placesOf (left-all (a .s .now) (a .count) (a .first))))
+    (pass-start (b .pre .0), run-start refl (sym (ap placesOf (left-all (a .s .now) (a .count) (a .first)))))
 
 loop-again : tie.Need-loop-again Inv-loop μ-loop
 loop-again c =

@@ -1,7 +1,8 @@
 use Prim.Native.Nat.{_+_, _-_, _*_, _≤_, _<_}
+use mathlib.Core.Path.{sym}
 use native.Mathlib.Omega.{arith}
 use Rattle.resolver.specs.Groups.{entries}
-use Rattle.resolver.proofs.Storing.{Run, run-start, run-step, run-done}
+use Rattle.base.proofs.Stores.{Run, run-start, run-step, run-done}
 use Rattle.resolver.proofs.Rows.{entries-all, entries-next, entries-none, row-stored}
 use Rattle.resolver.proofs.put_row.Statement.{statement}
 use Rattle.resolver.proofs.put_row.Tie as tie
@@ -44,7 +45,7 @@ put-row-spec =
     Inv-loop
     μ-loop
     (λ c κs. c .before .pre .2)
-    (λ c. let a = c .before .before .args in (omega arith, run-start (omega arith) (entries-all (a .found .now) (a .n) (a .m))))
+    (λ c. let a = c .before .before .args in (omega arith, run-start (omega arith) (sym (entries-all (a .found .now) (a .n) (a .m)))))
     (λ c. omega (arith, c .loop-test .taken, start-of-in-loop c .pre .0))
     (λ c. omega (arith, c .loop-test .taken, start-of-in-loop c .pre .0))
     (λ c. omega (arith, c .loop-test .taken, start-of-in-loop c .pre .0))

@@ -2,8 +2,9 @@ use borrow.Author.Needs.{needs}
 use Prim.Native.Nat.{_+_, _-_, _*_, _≤_}
 use mathlib.Core.Path.{_≡_, refl, ap, _∙_}
 use native.Mathlib.Omega.{arith}
+use Rattle.base.proofs.Stores.{Run, run-start, run-step, run-done, none-left}
 use Rattle.compiler.specs.Locating.{rebasedCode, rebasedCodes}
-use Rattle.compiler.proofs.Filling.{Run, run-start, run-step, run-done, none-left, rebase-next}
+use Rattle.compiler.proofs.Filling.{rebase-next}
 use Rattle.compiler.proofs.allocate.allocate_call.Statement.{statement}
 use Rattle.compiler.proofs.allocate.allocate_call.Tie as tie
 

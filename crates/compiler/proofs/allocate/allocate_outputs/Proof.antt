@@ -5,13 +5,14 @@ use mathlib.Core.Option.{some}
 use native.Mathlib.Omega.{arith}
 use lib.ListN.{length}
 use lib.Seq.{sets}
+use Rattle.base.proofs.Stores.{Run, run-start, run-step, run-done, none-left}
 use Rattle.graph.specs.Read.{reference}
 use Rattle.reader.specs.Layout.{nodesAt, outputCount, outputsPlace}
 use Rattle.reader.proofs.Passed.{Holds, function-holds}
 use Rattle.sums.proofs.Accepted.{few-ports}
 use Rattle.order.specs.Resolve as Resolve
 use Rattle.compiler.specs.Locating.{portCode, outputCodes}
-use Rattle.compiler.proofs.Filling.{Run, run-start, run-step, run-done, none-left, outputs-next}
+use Rattle.compiler.proofs.Filling.{outputs-next}
 use Rattle.compiler.proofs.allocate.allocate_outputs.Statement.{statement}
 use Rattle.compiler.proofs.allocate.allocate_outputs.Tie as tie
 

@@ -3,8 +3,9 @@ use Prim.Native.Nat.{ℕ, _+_, _-_, _*_, _≤_}
 use mathlib.Core.Path.{_≡_, refl, ap, _∙_}
 use native.Mathlib.Omega.{arith}
 use lib.ListN.{getD}
+use Rattle.base.proofs.Stores.{Run, run-start, run-step, run-done, none-left}
 use Rattle.compiler.specs.Locating.{portCode, readCodes}
-use Rattle.compiler.proofs.Filling.{Run, run-start, run-step, run-done, none-left, reads-next}
+use Rattle.compiler.proofs.Filling.{reads-next}
 use Rattle.compiler.proofs.allocate.allocate_reads.Statement.{statement}
 use Rattle.compiler.proofs.allocate.allocate_reads.Tie as tie
 

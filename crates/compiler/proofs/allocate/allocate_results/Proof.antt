@@ -2,8 +2,9 @@ use borrow.Author.Needs.{needs}
 use Prim.Native.Nat.{_+_, _-_, _*_, _≤_}
 use mathlib.Core.Path.{_≡_, refl}
 use native.Mathlib.Omega.{arith}
+use Rattle.base.proofs.Stores.{Run, run-start, run-step, run-done, none-left}
 use Rattle.compiler.specs.Locating.{resultCodes}
-use Rattle.compiler.proofs.Filling.{Run, run-start, run-step, run-done, none-left, results-next}
+use Rattle.compiler.proofs.Filling.{results-next}
 use Rattle.compiler.proofs.allocate.allocate_results.Statement.{statement}
 use Rattle.compiler.proofs.allocate.allocate_results.Tie as tie
 

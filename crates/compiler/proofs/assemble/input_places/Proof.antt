@@ -3,9 +3,10 @@ use Prim.Native.Nat.{ℕ, _+_, _-_, _*_, _≤_}
 use mathlib.Core.Path.{_≡_, refl, sym, ap, _∙_}
 use mathlib.Core.List.{_∷_}
 use native.Mathlib.Omega.{arith}
+use Rattle.base.proofs.Stores.{Run, run-start, run-step, run-done, none-left}
 use Rattle.bytecode.specs.Run.{places}
 use Rattle.sums.specs.Answers.{typesBy}
-use Rattle.compiler.proofs.Filling.{Run, run-start, run-step, run-done, none-left, types-next}
+use Rattle.compiler.proofs.Filling.{types-next}
 use Rattle.compiler.proofs.assemble.input_places.Statement.{statement}
 use Rattle.compiler.proofs.assemble.input_places.Tie as tie
 

@@ -2,9 +2,10 @@ use borrow.Author.Needs.{needs}
 use Prim.Native.Nat.{_+_, _-_, _*_, _≤_}
 use mathlib.Core.Path.{_≡_, refl, ap}
 use native.Mathlib.Omega.{arith}
+use Rattle.base.proofs.Stores.{Run, run-start, run-more, run-done, none-left}
 use Rattle.base.specs.Bytes.{allBytes, bytesOf}
 use Rattle.base.specs.Lists.{span}
-use Rattle.compiler.proofs.Filling.{Run, run-start, run-more, run-done, none-left, span-next}
+use Rattle.compiler.proofs.Filling.{span-next}
 use Rattle.compiler.proofs.assemble.put_span.Statement.{statement}
 use Rattle.compiler.proofs.assemble.put_span.Tie as tie
 

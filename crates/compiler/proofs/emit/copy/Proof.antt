@@ -2,8 +2,9 @@ use borrow.Author.Needs.{needs}
 use Prim.Native.Nat.{_+_, _-_, _≤_}
 use mathlib.Core.Path.{_≡_, refl}
 use native.Mathlib.Omega.{arith}
+use Rattle.base.proofs.Stores.{Run, run-start, run-step, run-done, none-left}
 use Rattle.compiler.specs.Emit.{copied}
-use Rattle.compiler.proofs.Filling.{Run, run-start, run-step, run-done, none-left, copied-next}
+use Rattle.compiler.proofs.Filling.{copied-next}
 use Rattle.compiler.proofs.emit.copy.Statement.{statement}
 use Rattle.compiler.proofs.emit.copy.Tie as tie
 

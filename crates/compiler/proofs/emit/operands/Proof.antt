@@ -2,9 +2,10 @@ use borrow.Author.Needs.{needs}
 use Prim.Native.Nat.{_+_, _-_, _*_, _≤_}
 use mathlib.Core.Path.{_≡_, refl, _∙_, ap}
 use native.Mathlib.Omega.{arith}
+use Rattle.base.proofs.Stores.{Run, run-start, run-more, run-done, none-left}
 use Rattle.base.specs.Bytes.{allBytes, bytesOf}
 use Rattle.compiler.specs.Emit.{addressOf, addressesIn}
-use Rattle.compiler.proofs.Filling.{Run, run-start, run-more, run-done, none-left, addresses-next}
+use Rattle.compiler.proofs.Filling.{addresses-next}
 use Rattle.compiler.proofs.emit.operands.Statement.{statement}
 use Rattle.compiler.proofs.emit.operands.Tie as tie
 
