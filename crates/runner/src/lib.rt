@@ -196,7 +196,8 @@ fn header_counts(s: &[u8]) -> Counts
     }
 }
 
-// Whether a code may have these counts.
+// Whether a code may have these counts. Its last two tests are `base::within_limits`, written out: by a call the run of
+// scalars takes a tenth longer.
 fn counts_fit(c: Counts) -> bool
     ensures { λ r. ⌜ r ≡ countsFit (c .arguments) (c .outputs) (c .instructions) (c .words) ⌝ }
 {
@@ -209,7 +210,10 @@ fn counts_fit(c: Counts) -> bool
     if base::PORT_WORD_LIMIT < c.outputs {
         return false;
     }
-    base::within_limits(c.instructions, c.words)
+    if base::OPERATION_LIMIT < c.instructions {
+        return false;
+    }
+    c.words <= base::WORD_LIMIT
 }
 
 // Whether a code is well formed, and its counts.
