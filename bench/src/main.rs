@@ -9,8 +9,16 @@ mod runs;
 mod stack;
 mod tables;
 mod time;
+#[cfg(feature = "run")]
+mod write;
 
 fn main() {
+    #[cfg(feature = "run")]
+    if let [_, flag, dir] = &std::env::args().collect::<Vec<_>>()[..]
+        && flag == "--write"
+    {
+        return write::write(dir.as_ref());
+    }
     println!(
         "Ratios are the library's time over the independent program's: below 1 the library is"
     );
