@@ -35,8 +35,6 @@ const NODE_PORT_LIMIT: usize = NODE_LIMIT * PORT_LIMIT;
 // Outputs of all functions.
 const OUTPUT_LIMIT: usize = FUNCTION_LIMIT * PORT_LIMIT;
 
-// ---- numbers of a code; `specs/Sizes.antt` has the same
-
 // ---- what functions answer
 
 // The byte behind what was written, the next free word, and the location behind those that were read.
