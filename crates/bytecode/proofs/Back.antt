@@ -19,7 +19,7 @@ use Rattle.base.specs.Bytes.{byte, u16, constants, bytesOf, allBytes}
 use Rattle.base.specs.Outcome.{Part}
 use Rattle.base.proofs.Bools.{and-both}
 use Rattle.bytecode.specs.Run.{Instruction, BoardList}
-use Rattle.bytecode.specs.Code.{instructionCode, instructionsCode, headerCode, encode, guard, then, addresses, allBelow, allLess, readOperands, readKind, readInstruction, nextWord, readInstructions, readOutputs, countsFit, readCounts, marked, decode}
+use Rattle.bytecode.specs.Code.{instructionCode, instructionsCode, headerCode, encode, guard, then, addresses, allBelow, allLess, readOperands, readKind, readInstruction, nextWord, readInstructions, readOutputs, countsFit, readCounts, codeMarked, decode}
 use Rattle.bytecode.specs.WellFormed.{Below, Fit, AllFit, FitList}
 use Rattle.base.proofs.Stands.{cons, cons-head, cons-tail, split, all-length, Here, u16-read, constants-read}
 
@@ -190,12 +190,12 @@ module _ (b : BoardList) (f : FitList b) where
       let b8 : u16 s 8 ≡ count = u16-read s count 8 (omega arith) hc in
       let b10 : u16 s 10 ≡ b .words = u16-read s (b .words) 10 (omega arith) hw in
       let version : u16 s 3 ≡ 1 = omega arith in
-      let mark : marked s ≡ true = rw (b0, b1, b2, version, b7) refl in
+      let mark : codeMarked s ≡ true = rw (b0, b1, b2, version, b7) refl in
       let lo = f .some-output in
       let limits : countsFit (b .arguments) outs count (b .words) ≡ true =
       rw (le-leb (b .arguments) 128 (f .arguments), le-leb 1 outs lo, le-leb outs 128 (f .outputs), le-leb count 4096 lc, le-leb (b .words) 8192 lw) refl in
       guarded (leb 12 (length s)) _ (le-leb 12 (length s) (omega arith))
-      ∙ guarded (marked s) _ mark
+      ∙ guarded (codeMarked s) _ mark
       ∙ ap₂ (λ (x y : ℕ). readCounts s x y (u16 s 8) (u16 s 10)) b5 b6
       ∙ ap₂ (λ (x y : ℕ). readCounts s (b .arguments) outs x y) b8 b10
       ∙ guarded (countsFit (b .arguments) outs count (b .words)) _ limits

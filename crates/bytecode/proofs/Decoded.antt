@@ -21,7 +21,7 @@ use Rattle.base.proofs.Bools.{and-inv}
 use Rattle.base.proofs.Stands.{constants-length, constants-words, all-length, Here, join, moved, onto, whole-is, u16-here, constants-here}
 use Rattle.base.proofs.Outcomes.{passed-fault, no-fault}
 use Rattle.bytecode.specs.Run.{Instruction, BoardList, run}
-use Rattle.bytecode.specs.Code.{instructionCode, instructionsCode, headerCode, encode, guard, then, addresses, allBelow, allLess, readInstruction, nextWord, Listed, readInstructions, countsFit, marked, decode}
+use Rattle.bytecode.specs.Code.{instructionCode, instructionsCode, headerCode, encode, guard, then, addresses, allBelow, allLess, readInstruction, nextWord, Listed, readInstructions, countsFit, codeMarked, decode}
 use Rattle.bytecode.specs.WellFormed.{Below, Fit, AllFit, Codes}
 use Rattle.bytecode.specs.Answers.{Buffers, ran}
 use Rattle.bytecode.proofs.Back.{decode-encode}
@@ -119,7 +119,7 @@ module _ (s : List ℕ) (small : Bytes s) where
       ((f, g), join s (instructionCode (i .it)) (instructionsCode (r .instructions)) at h (moved s q k), omega arith, ap suc c)
 
   -- mark, version and counts
-  header-here : marked s ≡ true → Here s 0 (headerCode (byte s 5) (byte s 6) (u16 s 8) (u16 s 10))
+  header-here : codeMarked s ≡ true → Here s 0 (headerCode (byte s 5) (byte s 6) (u16 s 8) (u16 s 10))
   header-here m =
       let (m1, z) = and-inv (eqb (byte s 0) 0x49 && eqb (byte s 1) 0x46 && eqb (byte s 2) 0x52 && eqb (u16 s 3) 1) (eqb (byte s 7) 0) m in
       let (m2, v) = and-inv (eqb (byte s 0) 0x49 && eqb (byte s 1) 0x46 && eqb (byte s 2) 0x52) (eqb (u16 s 3) 1) m1 in
@@ -144,7 +144,7 @@ module _ (s : List ℕ) (small : Bytes s) where
       let count = u16 s 8 in
       let words = u16 s 10 in
       let (t1, e1) = guard-inv (leb 12 (length s)) _ b e in
-      let (t2, e2) = guard-inv (marked s) _ b e1 in
+      let (t2, e2) = guard-inv (codeMarked s) _ b e1 in
       let (t3, e3) = guard-inv (countsFit arguments outputs count words) _ b e2 in
       let (l, el, e4) = then-inv (readInstructions count s 12 arguments) _ b e3 in
       let xs = addresses outputs s (l .at) in

@@ -113,8 +113,8 @@ readCounts s arguments outputs count words =
     guard (countsFit arguments outputs count words) (then (readInstructions count s headerLength arguments) (readOutputs s arguments outputs words))
 
 -- mark, version and zero byte
-abbrev pub marked : List ℕ → Bool
-marked s = eqb (byte s 0) 0x49 && eqb (byte s 1) 0x46 && eqb (byte s 2) 0x52 && eqb (u16 s 3) 1 && eqb (byte s 7) 0
+abbrev pub codeMarked : List ℕ → Bool
+codeMarked s = eqb (byte s 0) 0x49 && eqb (byte s 1) 0x46 && eqb (byte s 2) 0x52 && eqb (u16 s 3) 1 && eqb (byte s 7) 0
 
 unfoldable pub decode : List ℕ → Option BoardList
-decode s = guard (leb headerLength (length s)) (guard (marked s) (readCounts s (byte s 5) (byte s 6) (u16 s 8) (u16 s 10)))
+decode s = guard (leb headerLength (length s)) (guard (codeMarked s) (readCounts s (byte s 5) (byte s 6) (u16 s 8) (u16 s 10)))

@@ -37,7 +37,7 @@ use Rattle.reader.proofs.Standing.{function-read, parse-read, earlier-all}
 use Rattle.reader.proofs.Passed.{place-next, function-holds, length-earlier}
 use Rattle.resolver.proofs.Rows.{length-nodes}
 use Rattle.checker.specs.declared.Head.{Head}
-use Rattle.checker.specs.Slots.{ReadsFunctions, RowsAre, Ready}
+use Rattle.checker.specs.Slots.{ReadsFunctions, RowsAre, SlotsReady}
 use Rattle.base.specs.Limits.{operandLimit, functionLimit}
 use Rattle.base.proofs.Lists.{some-is}
 
@@ -145,7 +145,7 @@ module _ (s : List ℕ) (small : Bytes s) (k : ℕ) (f : Head) (ts : List ℕ) w
 
   pub ready :
       ReadsFunction s (f .place) → f .first ≡ nodesPlace s (f .place) → f .count ≡ nodeCount s (f .place)
-      → Checked (earlier (version1 .header) s k) (functionAt s (f .place)) → RowsAre s (f .place) (f .count) ts → Ready s f ts
+      → Checked (earlier (version1 .header) s k) (functionAt s (f .place)) → RowsAre s (f .place) (f .count) ts → SlotsReady s f ts
   ready r first count c rows =
       let fm = formed s small (f .place) r in
       let rs = resolved-by early fn fm (c .new) tt tt tt tt (c .distinct) (c .calls) (c .outputs) (c .nodes) in

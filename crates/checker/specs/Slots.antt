@@ -34,8 +34,8 @@ pub record Scene (s starts : List ℕ) (k : ℕ) (f : Head) : Type 0 where
 abbrev pub PlacesAre : List ℕ → ℕ → ℕ → List ℕ → Type 0
 PlacesAre s first n ps = (i : ℕ) → i < n → getD ps i 0 ≡ nodePlace s first i
 
-abbrev pub Placed : List ℕ → Head → List ℕ → Type 0
-Placed s f ps = PlacesAre s (f .first) (f .count) ps
+abbrev pub PlacesHeld : List ℕ → Head → List ℕ → Type 0
+PlacesHeld s f ps = PlacesAre s (f .first) (f .count) ps
 
 -- the slots of node i have the n references at `begin`
 abbrev pub RowIs : List ℕ → ℕ → ℕ → ℕ → ℕ → List ℕ → Type 0
@@ -48,7 +48,7 @@ pub record RowsAre (s : List ℕ) (f n : ℕ) (ts : List ℕ) : Type 0 where
       → slot ts i j ≡ target (functionAt s f .nodes) (getElem? (reads (nodeAt s (nodePlace s (nodesPlace s f) i))) j)
 
 -- all is known of a function but its loops
-pub record Ready (s : List ℕ) (f : Head) (ts : List ℕ) : Type 0 where
+pub record SlotsReady (s : List ℕ) (f : Head) (ts : List ℕ) : Type 0 where
   pub reads : ReadsFunction s (f .place)
   pub first : f .first ≡ nodesPlace s (f .place)
   pub count : f .count ≡ nodeCount s (f .place)

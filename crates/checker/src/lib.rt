@@ -11,7 +11,7 @@ ghost use Rattle.reader.specs.Find.{ReadsFunction, Started};
 ghost use Rattle.reader.specs.Records.{seen};
 ghost use Rattle.reader.specs.declared.Seen.{Seen};
 ghost use Rattle.checker.specs.Answers.{verdictOf, Judged};
-ghost use Rattle.checker.specs.Slots.{ReadsFunctions, PlacesAre, Ready, Filled};
+ghost use Rattle.checker.specs.Slots.{ReadsFunctions, PlacesAre, SlotsReady, Filled};
 use base::FUNCTION_LIMIT;
 use base::NODE_LIMIT;
 use base::SLOT_LIMIT;
@@ -55,7 +55,7 @@ pub enum Want {
 
 // No node lies on a loop.
 fn loop_free(s: &[u8], f: Head, targets: &[u16; SLOT_LIMIT]) -> Seen
-    requires { ⌜ Ready (now s) f (now targets) ⌝ }
+    requires { ⌜ SlotsReady (now s) f (now targets) ⌝ }
     ensures { λ r. ⌜ r ≡ seen (loopFree (functionAt (now (s .entry)) (f .place))) ⌝ }
 {
     let count = f.count;
@@ -91,9 +91,9 @@ fn judge_function(
         }
         Found::Nothing => {}
     }
-    let nout = wide(s[place + 3]);
+    let output_count = wide(s[place + 3]);
     let outputs = place + 6 + wide(s[place + 2]);
-    let first = outputs + 4 * nout;
+    let first = outputs + 4 * output_count;
     let count = u16_at(s, place + 4);
     let f = Head {
         place,
@@ -109,7 +109,7 @@ fn judge_function(
     let Seen::Passed = calls else {
         return calls;
     };
-    let outs = outputs_good(s, starts, k, f, outputs, nout);
+    let outs = outputs_good(s, starts, k, f, outputs, output_count);
     let Seen::Passed = outs else {
         return outs;
     };

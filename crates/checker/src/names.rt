@@ -11,7 +11,7 @@ ghost use Rattle.reader.specs.Find.{ReadsNode, ReadsNodes, Started};
 ghost use Rattle.reader.specs.Records.{seen};
 ghost use Rattle.reader.specs.declared.Seen.{Seen};
 ghost use Rattle.checker.specs.Answers.{hit};
-ghost use Rattle.checker.specs.Slots.{Placed};
+ghost use Rattle.checker.specs.Slots.{PlacesHeld};
 use super::Head;
 use base::FUNCTION_LIMIT;
 use base::NODE_LIMIT;
@@ -42,7 +42,7 @@ fn id_before(ids: &[u16; NODE_LIMIT], j: usize, id: u16) -> bool
 
 // No node has the id of an earlier one.
 pub fn fresh_nodes(s: &[u8], f: Head, places: &[u32; NODE_LIMIT]) -> Seen
-    requires { ⌜ ReadsNodes (f .count) (now s) (f .first) × (f .count ≤ nodeLimit) × Placed (now s) f (now places) ⌝ }
+    requires { ⌜ ReadsNodes (f .count) (now s) (f .first) × (f .count ≤ nodeLimit) × PlacesHeld (now s) f (now places) ⌝ }
     ensures { λ r. ⌜ r ≡ seen (fresh [] (nodesAt (f .count) (now (s .entry)) (f .first))) ⌝ }
 {
     let mut ids = [0u16; NODE_LIMIT];
@@ -91,7 +91,7 @@ pub fn calls_good(
     f: Head,
     places: &[u32; NODE_LIMIT],
 ) -> Seen
-    requires { ⌜ ReadsNodes (f .count) (now s) (f .first) × (f .count ≤ nodeLimit) × Placed (now s) f (now places) × Started (now s) (now starts) k × (k ≤ functionLimit) ⌝ }
+    requires { ⌜ ReadsNodes (f .count) (now s) (f .first) × (f .count ≤ nodeLimit) × PlacesHeld (now s) f (now places) × Started (now s) (now starts) k × (k ≤ functionLimit) ⌝ }
     ensures { λ r. ⌜ r ≡ seen (each (λ n. callOk (earlier (version1 .header) (now (s .entry)) k) (n .place) (n .payload)) (nodesAt (f .count) (now (s .entry)) (f .first))) ⌝ }
 {
     let mut j = 0;

@@ -17,7 +17,7 @@ ghost use Rattle.reader.specs.Find.{ReadsNode, ReadsFunction, Started};
 ghost use Rattle.reader.specs.Records.{seen};
 ghost use Rattle.reader.specs.declared.Seen.{Seen};
 ghost use Rattle.checker.specs.Answers.{portOf, typeAt, wantsList, WantFits, outputsChecked, referencesChecked, nodeChecked, callsChecked};
-ghost use Rattle.checker.specs.Slots.{Scene, Placed, RowIs, RowsAre};
+ghost use Rattle.checker.specs.Slots.{Scene, PlacesHeld, RowIs, RowsAre};
 use super::Head;
 use super::PortType;
 use super::Want;
@@ -136,7 +136,7 @@ fn slot_port(
     i: usize,
     at: usize,
 ) -> PortType
-    requires { ⌜ Scene (now s) (now starts) k f × Placed (now s) f (now places) × (at + 3 ≤ length (now s)) × (i ≡ target (functionAt (now s) (f .place) .nodes) (some (reference (now s) at))) ⌝ }
+    requires { ⌜ Scene (now s) (now starts) k f × PlacesHeld (now s) f (now places) × (at + 3 ≤ length (now s)) × (i ≡ target (functionAt (now s) (f .place) .nodes) (some (reference (now s) at))) ⌝ }
     ensures { λ r. ⌜ r ≡ typeAt (now (s .entry)) k (f .place) at ⌝ }
 {
     let id = u16_at(s, at);
@@ -203,7 +203,7 @@ fn references_good(
     n: usize,
     i: usize,
 ) -> Seen
-    requires { ⌜ Scene (now s) (now starts) k f × Placed (now s) f (now places) × WantFits (now s) n want × (begin + 3 * n ≤ length (now s)) × (n ≤ operandLimit) × (i < nodeLimit) × RowIs (now s) (f .place) begin n i (now targets) ⌝ }
+    requires { ⌜ Scene (now s) (now starts) k f × PlacesHeld (now s) f (now places) × WantFits (now s) n want × (begin + 3 * n ≤ length (now s)) × (n ≤ operandLimit) × (i < nodeLimit) × RowIs (now s) (f .place) begin n i (now targets) ⌝ }
     ensures { λ r. ⌜ r ≡ seen (referencesChecked (now (s .entry)) k (f .place) (wantsList (now (s .entry)) n want) (references n (now (s .entry)) begin)) ⌝ }
 {
     let mut at = begin;
@@ -240,7 +240,7 @@ fn node_good(
     targets: &[u16; SLOT_LIMIT],
     i: usize,
 ) -> Seen
-    requires { ⌜ Scene (now s) (now starts) k f × Placed (now s) f (now places) × RowsAre (now s) (f .place) (f .count) (now targets) × (i < f .count) × (callOk (earlier (version1 .header) (now s) k) (nodePlace (now s) (f .first) i) (nodeAt (now s) (nodePlace (now s) (f .first) i) .payload) ≡ ok tt) ⌝ }
+    requires { ⌜ Scene (now s) (now starts) k f × PlacesHeld (now s) f (now places) × RowsAre (now s) (f .place) (f .count) (now targets) × (i < f .count) × (callOk (earlier (version1 .header) (now s) k) (nodePlace (now s) (f .first) i) (nodeAt (now s) (nodePlace (now s) (f .first) i) .payload) ≡ ok tt) ⌝ }
     ensures { λ r. ⌜ r ≡ seen (nodeChecked (now (s .entry)) k (f .place) (nodeAt (now (s .entry)) (nodePlace (now (s .entry)) (f .first) i))) ⌝ }
 {
     let at = wide32(places[i]);
@@ -297,7 +297,7 @@ pub fn nodes_good(
     places: &[u32; NODE_LIMIT],
     targets: &[u16; SLOT_LIMIT],
 ) -> Seen
-    requires { ⌜ Scene (now s) (now starts) k f × Placed (now s) f (now places) × RowsAre (now s) (f .place) (f .count) (now targets) × (callsChecked (now s) k (functionAt (now s) (f .place)) ≡ ok tt) ⌝ }
+    requires { ⌜ Scene (now s) (now starts) k f × PlacesHeld (now s) f (now places) × RowsAre (now s) (f .place) (f .count) (now targets) × (callsChecked (now s) k (functionAt (now s) (f .place)) ≡ ok tt) ⌝ }
     ensures { λ r. ⌜ r ≡ seen (each (nodeChecked (now (s .entry)) k (f .place)) (functionAt (now (s .entry)) (f .place) .nodes)) ⌝ }
 {
     let mut i = 0;

@@ -39,9 +39,9 @@ use Rattle.reader.specs.Find.{ReadsNode, ReadsOf}
 use Rattle.reader.proofs.Passed.{head-fits, place-reads, Holds, function-holds}
 use Rattle.compiler.specs.Static.{Location, nowhere, input, offset, Located, locationOf, Summary, Callee, nodeSummary, summary, allocate, Allocation, Agrees}
 use Rattle.sums.specs.Position.{placeOf, functionIn, before, positionOf, Accepted}
-use Rattle.compiler.specs.Locating.{Places, Slots, readCodes, nodeCodes, Codes, PortsCoded, AllOuts, Knows, readCount, NodesAllocated}
+use Rattle.compiler.specs.Locating.{Places, Slots, readCodes, nodeCodes, Codes, PortsCoded, AllOuts, PortsKnown, readCount, NodesAllocated}
 use Rattle.sums.specs.declared.Sums.{Sums}
-use Rattle.sums.specs.Capped.{wordsAt, addsWords}
+use Rattle.sums.specs.Capped.{resultWordsAt, addsWords}
 use Rattle.compiler.specs.Emit.{Stands, locationTable, Coded, Placed, summaryAt}
 use Rattle.base.proofs.Stores.{sets-in, sets-below}
 use Rattle.compiler.proofs.Bounds.{Within, outputs-within, reads-within}
@@ -112,7 +112,7 @@ coded-reads a table located locations here (r ∷ rs) (e ∷ es) l (c, h) (t, ts
 
 -- what the loop over the nodes of the function at position k is lent; its references have their locations from c on
 pub record Lent (s : List ℕ) (k c : ℕ) (outs ts places : List ℕ) : Type 0 where
-  pub limit : wordsAt s k ≤ wordLimit
+  pub limit : resultWordsAt s k ≤ wordLimit
   pub room : c + readCount s k ≤ referenceLimit
   pub slots : Slots s (nodesPlace s (placeOf s k)) (nodeCount s (placeOf s k)) ts
   pub held : Places s (nodesPlace s (placeOf s k)) places (nodeCount s (placeOf s k))
@@ -147,8 +147,8 @@ module _ (s : List ℕ) (k c : ℕ) (acc : Accepted s (suc k)) (outs ts places i
   k16 : k < 16
   k16 = let l = few s (suc k) acc in omega arith
 
-  words-of-summary : summaryAt s k .words ≡ wordsAt s k
-  unfolding wordsAt
+  words-of-summary : summaryAt s k .words ≡ resultWordsAt s k
+  unfolding resultWordsAt
   words-of-summary = function-words (before s k) (functionIn s k) sound
 
   pub record At (rest : List Node) (left : List ℕ) (located : List Located) (order locations allocated : List ℕ) (here d m : ℕ) : Type 0 where
@@ -158,8 +158,8 @@ module _ (s : List ℕ) (k c : ℕ) (acc : Accepted s (suc k)) (outs ts places i
     pub agrees : Agrees call table rest located d
     pub final : allocate call (schedule ns) [] 0 ≡ allocate call rest located d
     pub within : (x : Node) → Is x rest → Is x ns
-    pub known : Knows ns allocated located
-    pub words : d + sum (addsWords s k) rest ≡ wordsAt s k
+    pub known : PortsKnown ns allocated located
+    pub words : d + sum (addsWords s k) rest ≡ resultWordsAt s k
     pub unread : here + sum sizeOf rest ≡ c + readCount s k
     pub sizes : (length order ≡ orderLimit) × (length locations ≡ referenceLimit) × (length allocated ≡ nodePortLimit)
     pub old-order : (q : ℕ) → q < nodeLimit * k → getD order q 0 ≡ getD order₀ q 0
@@ -280,15 +280,15 @@ module _ (s : List ℕ) (k c : ℕ) (acc : Accepted s (suc k)) (outs ts places i
       inner : calling (formOf (kindAt s p)) ≡ true → positionOf s k (u16 s (p + 4)) < k
           → (inputs : ℕ) × Each (Within inputs 8192) (summaryAt s (positionOf s k (u16 s (p + 4))) .outputs)
           × PortsCoded (summaryAt s (positionOf s k (u16 s (p + 4))) .outputs) outs (8 * positionOf s k (u16 s (p + 4)))
-      unfolding wordsAt earlier
+      unfolding resultWordsAt earlier
       inner f l =
           let g = positionOf s k (u16 s (p + 4)) in
-          let a : addsWords s k (nodeAt s p) ≡ wordsAt s g =
+          let a : addsWords s k (nodeAt s p) ≡ resultWordsAt s g =
           added-words s k p (byte s (p + 2)) (portsOf (kindAt s p)) refl refl f (u16 s (p + 4)) g refl refl
           ∙ words-at s k (u16 s (p + 4)) g refl (let z = k16 in omega arith) l in
           let b = here-is .short in
           let sg = sound-below s (suc k) acc g (omega arith) in
-          let w : summaryAt s g .words ≡ wordsAt s g = function-words (before s g) (functionIn s g) sg in (
+          let w : summaryAt s g .words ≡ resultWordsAt s g = function-words (before s g) (functionIn s g) sg in (
             length (functionIn s g .inputs),
             each-wider (length (functionIn s g .inputs)) wordLimit (summaryAt s g .words) (summaryAt s g .outputs) (omega arith) (outputs-within (before s g) (functionIn s g) sg),
             lent .all g l (omega arith),
@@ -374,7 +374,7 @@ module _ (s : List ℕ) (k c : ℕ) (acc : Accepted s (suc k)) (outs ts places i
             unfolding earlier functionAt
             coded locations'' hs =
                 let a = sound .0 .resolved .formed .inputs in
-                let w : summaryAt s k .words ≡ wordsAt s k = words-of-summary in
+                let w : summaryAt s k .words ≡ resultWordsAt s k = words-of-summary in
                 coded-reads (length (functionIn s k .inputs)) table located locations'' here (reads x) codes a
                 (subst (λ (qs : List Ref). AllCodes codes (map (locationOf located) qs)) (sym reads-are) codes-are)
                 (st .agrees .0)
@@ -392,7 +392,7 @@ module _ (s : List ℕ) (k c : ℕ) (acc : Accepted s (suc k)) (outs ts places i
                   agrees = subst (λ (w : ℕ). Agrees call table xs next w) words-x (st .agrees .1);
                   final = st .final ∙ ap (λ (w : ℕ). allocate call xs next w) words-x;
                   within = λ y h. st .within y (inr h);
-                  known = subst (λ (ys : List ℕ). Knows ns ys next) (sym el)
+                  known = subst (λ (ys : List ℕ). PortsKnown ns ys next) (sym el)
                       (knows-step ns allocated located i x ports (one .outputs) (st .known) stands
                       (λ v y gv e. single-index ns (single-at s (suc k) acc k (omega arith)) v i y x gv stands e) ports-are ports-few
                       (let a = st .sizes .2 in let b = low in let f = holds .few in omega arith));
@@ -469,7 +469,7 @@ module _ {s : List ℕ} {k c : ℕ} {acc : Accepted s (suc k)} {outs ts places i
     finished ([], left, located, st) ge =
         record {
           placed = st .placed order locations (λ q l. refl) (λ q l. refl) tt;
-          known = subst (λ (b : Allocation). Knows (functionIn s k .nodes) allocated (b .located)) (sym (st .final)) (st .known);
+          known = subst (λ (b : Allocation). PortsKnown (functionIn s k .nodes) allocated (b .located)) (sym (st .final)) (st .known);
           end = let a = st .unread in omega arith;
           sizes = (st .sizes .0, st .sizes .1);
           old-order = st .old-order;

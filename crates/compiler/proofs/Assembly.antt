@@ -24,8 +24,8 @@ use Rattle.lowering.proofs.Limits.{words-of, output-words}
 use Rattle.compiler.specs.declared.Reached.{Reached}
 use Rattle.compiler.specs.Static.{Location, nowhere, input, offset, addressAt, summary}
 use Rattle.sums.specs.Position.{placeOf, functionIn, before, Accepted}
-use Rattle.sums.specs.Capped.{wordsAt}
-use Rattle.compiler.specs.Emit.{Stands, addressOf, addressesIn, functionInlined, Room, Emits, summaryAt}
+use Rattle.sums.specs.Capped.{resultWordsAt}
+use Rattle.compiler.specs.Emit.{Stands, addressOf, addressesIn, functionInlined, CodeRoom, Emits, summaryAt}
 use Rattle.compiler.specs.Locating.{PortsCoded}
 use Rattle.sums.specs.Answers.{typesBy}
 use Rattle.sums.proofs.Widths.{outputs-are}
@@ -104,8 +104,8 @@ module _ {s : List ℕ} {k : ℕ} (acc : Accepted s (suc k)) {count inputs outpu
       ap (λ (w : ℕ). inlineFunction (inlined (before s k)) f ins w) (ms .arguments)
       ∙ sym (function-same (places 0 (f .inputs)) ins same (inlined (before s k)) f (widths (f .inputs)))
 
-  words-are : boardListOf (before s k) f .words ≡ inputs + wordsAt s k
-  unfolding wordsAt
+  words-are : boardListOf (before s k) f .words ≡ inputs + resultWordsAt s k
+  unfolding resultWordsAt
   words-are = words-of (before s k) f sound ∙ ap (λ (w : ℕ). w + resultWords (resultWordsOf (before s k)) f) (sym (ms .arguments))
 
   size : length (codeAt s k) ≡ 12 + length (instructionsCode (list .code)) + 2 * outputs
@@ -121,17 +121,17 @@ module _ {s : List ℕ} {k : ℕ} (acc : Accepted s (suc k)) {count inputs outpu
       let r = ms .results in
       omega arith
 
-  pub emit-room : {code : List ℕ} → length (codeAt s k) ≤ length code → Room code 12 (functionInlined s k ins inputs)
+  pub emit-room : {code : List ℕ} → length (codeAt s k) ≤ length code → CodeRoom code 12 (functionInlined s k ins inputs)
   emit-room {code} l =
-      subst (λ (o : Inlined). Room code 12 o) (sym inlined-is)
+      subst (λ (o : Inlined). CodeRoom code 12 o) (sym inlined-is)
       (record { room = let a = size in omega arith; words = let a = words-are in let b = ms .words in omega arith })
 
   -- ---- the output words
 
   stands : (q : ℕ) → q < length (summaryAt s k .outputs) → Stands (getD outs (8 * k + q) 0) (getD (summaryAt s k .outputs) q nowhere)
-  unfolding wordsAt
+  unfolding resultWordsAt
   stands q l =
-      let w : summaryAt s k .words ≡ wordsAt s k = function-words (before s k) f sound in
+      let w : summaryAt s k .words ≡ resultWordsAt s k = function-words (before s k) f sound in
       let b = ms .words in
       let a = sound .0 .resolved .formed .inputs in
       let few = ports .few in
@@ -170,7 +170,7 @@ module _ {s : List ℕ} {k : ℕ} (acc : Accepted s (suc k)) {count inputs outpu
   out-words = ap widths (outputs-are (outputCount s (placeOf s k)) s (outputsPlace s (placeOf s k))) ∙ sym (ms .results)
 
   -- the n outputs have their entries at q; the header and the instructions are written
-  module _ (code : List ℕ) {n q all : ℕ} {code₁ code₂ : List ℕ} {r : Reached} (en : n ≡ outputCount s (placeOf s k)) (eq : q ≡ outputsPlace s (placeOf s k)) (ea : all ≡ inputs + wordsAt s k)
+  module _ (code : List ℕ) {n q all : ℕ} {code₁ code₂ : List ℕ} {r : Reached} (en : n ≡ outputCount s (placeOf s k)) (eq : q ≡ outputsPlace s (placeOf s k)) (ea : all ≡ inputs + resultWordsAt s k)
       (e₁ : code₁ ≡ sets code 0 (headerCode inputs outputs count all)) (e₂ : Emits code₁ code₂ 12 (functionInlined s k ins inputs) r) where
     pub out-room : length (codeAt s k) ≤ length code → r .at + 2 * widths (typesBy 4 n s q) ≤ length code₂
     out-room l =

@@ -27,17 +27,17 @@ use Rattle.compiler.proofs.Locations.{locating}
 -- ---- where a value of a type may stand
 
 -- at an input of its type, or with all its words among so many
-abbrev pub Lies : List ℕ → ℕ → ℕ → Location → Type 0
-Lies ins words t nowhere = ⊥
-Lies ins words t (input i) = getElem? ins i ≡ some t
-Lies ins words t (offset d) = d + width t ≤ words
+abbrev pub WellTyped : List ℕ → ℕ → ℕ → Location → Type 0
+WellTyped ins words t nowhere = ⊥
+WellTyped ins words t (input i) = getElem? ins i ≡ some t
+WellTyped ins words t (offset d) = d + width t ≤ words
 
 -- values of these types, in turn
 abbrev pub AllLie : List ℕ → ℕ → List ℕ → List Location → Type 0
 AllLie ins words [] [] = Unit {0}
 AllLie ins words [] (s ∷ ss) = ⊥
 AllLie ins words (t ∷ ts) [] = ⊥
-AllLie ins words (t ∷ ts) (s ∷ ss) = Lies ins words t s × AllLie ins words ts ss
+AllLie ins words (t ∷ ts) (s ∷ ss) = WellTyped ins words t s × AllLie ins words ts ss
 
 -- a location with no type: an input that there is, or an offset of at most so many words
 abbrev pub Within : ℕ → ℕ → Location → Type 0
@@ -51,7 +51,7 @@ elem-below (x ∷ xs) zero t e = omega arith
 elem-below (x ∷ xs) (suc i) t e = let h = elem-below xs i t e in omega arith
 
 -- a location for a type is a location
-pub lies-within : (ins : List ℕ) (words t : ℕ) (s : Location) → Lies ins words t s → Within (length ins) words s
+pub lies-within : (ins : List ℕ) (words t : ℕ) (s : Location) → WellTyped ins words t s → Within (length ins) words s
 lies-within ins words t nowhere h = h
 lies-within ins words t (input i) h = elem-below ins i t h
 lies-within ins words t (offset d) h = omega arith
@@ -64,7 +64,7 @@ all-within ins words (t ∷ ts) [] h = absurd h
 all-within ins words (t ∷ ts) (s ∷ ss) (a, h) = (lies-within ins words t s a, all-within ins words ts ss h)
 
 -- more words
-pub lies-more : (ins : List ℕ) (a b t : ℕ) (s : Location) → a ≤ b → Lies ins a t s → Lies ins b t s
+pub lies-more : (ins : List ℕ) (a b t : ℕ) (s : Location) → a ≤ b → WellTyped ins a t s → WellTyped ins b t s
 lies-more ins a b t nowhere l h = h
 lies-more ins a b t (input i) l h = h
 lies-more ins a b t (offset d) l h = omega arith
@@ -78,10 +78,10 @@ all-more ins a b (t ∷ ts) (s ∷ ss) l (x, h) = (lies-more ins a b t s l x, al
 
 -- the location at a port
 pub port-lies : (ins : List ℕ) (words : ℕ) (ts : List ℕ) (ss : List Location) (p w : ℕ) → AllLie ins words ts ss → getElem? ts p ≡ some w
-    → Lies ins words w (getD ss p nowhere)
+    → WellTyped ins words w (getD ss p nowhere)
 port-lies ins words [] ss p w h e = let z : _≡_ {A = ℕ} 0 1 = cc in absurd (omega arith)
 port-lies ins words (t ∷ ts) [] p w h e = absurd h
-port-lies ins words (t ∷ ts) (s ∷ ss) zero w (x, h) e = let q : t ≡ w = cc in subst (λ (i : ℕ). Lies ins words i s) q x
+port-lies ins words (t ∷ ts) (s ∷ ss) zero w (x, h) e = let q : t ≡ w = cc in subst (λ (i : ℕ). WellTyped ins words i s) q x
 port-lies ins words (t ∷ ts) (s ∷ ss) (suc p) w (x, h) e = port-lies ins words ts ss p w h e
 
 -- results one after another
@@ -90,8 +90,8 @@ places-lie ins d words [] l = tt
 places-lie ins d words (t ∷ ts) l = (omega arith, places-lie ins (d + width t) words ts (omega arith))
 
 -- a callee's location rebase a call
-pub rebase-lies : (ins : List ℕ) (d : ℕ) (wants : List ℕ) (args : List Location) → AllLie ins d wants args → (words t : ℕ) (s : Location) → Lies wants words t s
-    → Lies ins (d + words) t (rebase d args s)
+pub rebase-lies : (ins : List ℕ) (d : ℕ) (wants : List ℕ) (args : List Location) → AllLie ins d wants args → (words t : ℕ) (s : Location) → WellTyped wants words t s
+    → WellTyped ins (d + words) t (rebase d args s)
 rebase-lies ins d wants args h words t nowhere x = x
 rebase-lies ins d wants args h words t (input i) x =
     lies-more ins d (d + words) t (getD args i nowhere) (omega arith) (port-lies ins d wants args i t h x)
@@ -108,8 +108,8 @@ all-rebase ins d wants args h words (t ∷ ts) (s ∷ ss) (y, x) = (rebase-lies 
 -- ---- inside one function
 
 -- every function has its outputs' locations among its words and its inputs
-abbrev pub Seated : Callee → List Function → Type 0
-Seated call early = (c : ℕ) (g : Function) → findFunction c early ≡ some g → AllLie (g .inputs) (call c .words) (outputTypes (g .outputs)) (call c .outputs)
+abbrev pub OutputsTyped : Callee → List Function → Type 0
+OutputsTyped call early = (c : ℕ) (g : Function) → findFunction c early ≡ some g → AllLie (g .inputs) (call c .words) (outputTypes (g .outputs)) (call c .outputs)
 
 abbrev pub locatedIds : List Located → List ℕ
 locatedIds = map (λ w. w .id)
@@ -139,12 +139,12 @@ module _ (early : List Function) (f : Function) where
 
   -- the location of a reference
   pub ref-lies : (words : ℕ) (ws : List Located) → Known words ws → (r : Ref) (w : ℕ) → eqb (r .node) 0 || member (r .node) (locatedIds ws) ≡ true
-      → refType early f r ≡ some w → Lies (f .inputs) words w (locationOf ws r)
+      → refType early f r ≡ some w → WellTyped (f .inputs) words w (locationOf ws r)
   ref-lies words ws known r w e t = pickOne (eqb (r .node) 0) e t
     where
       pickOne : (b : Bool) → b || member (r .node) (locatedIds ws) ≡ true
           → getElem? (cond b (f .inputs) (givesAt early (findNode (r .node) (f .nodes)))) (r .port) ≡ some w
-          → Lies (f .inputs) words w (cond b (input (r .port)) (getD (locationsOf (r .node) ws) (r .port) nowhere))
+          → WellTyped (f .inputs) words w (cond b (input (r .port)) (getD (locationsOf (r .node) ws) (r .port) nowhere))
       pickOne true e t = t
       pickOne false e t =
           port-lies (f .inputs) words (givesAt early (findNode (r .node) (f .nodes))) (locationsOf (r .node) ws) (r .port) w (known-at words ws (r .node) known e) t
@@ -159,7 +159,7 @@ module _ (early : List Function) (f : Function) where
       let (a, b) = and-inv (eqb (r .node) 0 || member (r .node) (locatedIds ws)) (ready (locatedIds ws) rs) e in
       (ref-lies words ws known r t a x, refs-lie words ws known ts rs b w)
 
-  module _ (sound : Sound early f) (call : Callee) (seated : Seated call early) where
+  module _ (sound : Sound early f) (call : Callee) (seated : OutputsTyped call early) where
     payload-lies : (ws : List Located) (d : ℕ) → Known d ws → (n : Node) (p : Payload) → Shaped early n p → Wired (refType early f) (wantsOf early n p) (readsOf p)
         → ready (locatedIds ws) (readsOf p) ≡ true
         → AllLie (f .inputs) (d + nodeSummary call ws d n p .words) (givesOf early n p) (nodeSummary call ws d n p .outputs)
@@ -236,12 +236,12 @@ module _ (early : List Function) (f : Function) where
 -- ---- the functions
 
 -- every function's outputs have locations among its words and its inputs
-pub seated : (early : List Function) → AllSound early → Seated (summary early) early
+pub seated : (early : List Function) → AllSound early → OutputsTyped (summary early) early
 unfolding summary
 seated [] sound c g e = let z : _≡_ {A = ℕ} 0 1 = cc in absurd (omega arith)
 seated (f ∷ early) (s, sound) c g e = pickOne (eqb (f .id) c) e (seated early sound)
   where
-    pickOne : (b : Bool) → cond b (some f) (findFunction c early) ≡ some g → Seated (summary early) early
+    pickOne : (b : Bool) → cond b (some f) (findFunction c early) ≡ some g → OutputsTyped (summary early) early
         → AllLie (g .inputs) (cond b (functionSummary (summary early) f) (summary early c) .words) (outputTypes (g .outputs))
         (cond b (functionSummary (summary early) f) (summary early c) .outputs)
     pickOne true e ih =

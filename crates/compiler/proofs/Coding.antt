@@ -33,7 +33,7 @@ use Rattle.reader.specs.Find.{ReadsNode}
 use Rattle.reader.proofs.Passed.{callee-fits}
 use Rattle.sums.specs.Position.{placeOf, functionIn, before, positionOf}
 use Rattle.compiler.specs.Emit.{summaryAt}
-use Rattle.compiler.specs.Locating.{portCode, readCodes, rebasedCode, rebasedCodes, resultCodes, calleeCodes, nodeCodes, Codes, PortsCoded, Knows}
+use Rattle.compiler.specs.Locating.{portCode, readCodes, rebasedCode, rebasedCodes, resultCodes, calleeCodes, nodeCodes, Codes, PortsCoded, PortsKnown}
 use Rattle.base.proofs.Stores.{sets-in, sets-below, sets-above}
 use Rattle.compiler.proofs.Bounds.{Within}
 use Rattle.sums.proofs.Rows.{narrow}
@@ -76,7 +76,7 @@ codes-stored out b es xs h l q =
 
 -- ---- ports of nodes that have their locations
 
-module _ (ns : List Node) (few : length ns ≤ nodeLimit) (allocated : List ℕ) (located : List Located) (known : Knows ns allocated located) where
+module _ (ns : List Node) (few : length ns ≤ nodeLimit) (allocated : List ℕ) (located : List Located) (known : PortsKnown ns allocated located) where
   pub port-coded : (r : Ref) → (r .node ≡ 0) ⊎ Is (r .node) (ids ns) → Codes (portCode allocated (target ns (some r)) (r .port)) (locationOf located r)
   port-coded r h = pickOne (eqb (r .node) 0) refl (leb 8 (r .port)) refl
     where
@@ -303,8 +303,8 @@ module _ (s outs locations : List ℕ) (k p cell d : ℕ) (located : List Locate
 -- ---- one node more has its locations
 
 module _ (ns : List Node) (allocated : List ℕ) (located : List Located) (i : ℕ) (x : Node) (codes : List ℕ) (outs : List Location) where
-  pub knows-step : Knows ns allocated located → getElem? ns i ≡ some x → ((v : ℕ) (y : Node) → getElem? ns v ≡ some y → y .id ≡ x .id → v ≡ i) → AllCodes codes outs → length outs ≤ 8
-      → 8 * i + 8 ≤ length allocated → Knows ns (sets allocated (8 * i) codes) (record { id = x .id; locations = outs } ∷ located)
+  pub knows-step : PortsKnown ns allocated located → getElem? ns i ≡ some x → ((v : ℕ) (y : Node) → getElem? ns v ≡ some y → y .id ≡ x .id → v ≡ i) → AllCodes codes outs → length outs ≤ 8
+      → 8 * i + 8 ≤ length allocated → PortsKnown ns (sets allocated (8 * i) codes) (record { id = x .id; locations = outs } ∷ located)
   knows-step known g own h few room v y gv = pickOne (eqb (x .id) (y .id)) refl
     where
       size : length codes ≡ length outs

@@ -21,7 +21,7 @@ use Rattle.compiler.specs.declared.Reached.{Reached}
 use Rattle.compiler.specs.Static.{Location, nowhere, input, offset, addressAt, Callee, Located, nodeSummary, summary, allocate, emitNodes}
 use Rattle.reader.specs.Find.{ReadsNode}
 use Rattle.sums.specs.Position.{placeOf, functionIn, before}
-use Rattle.compiler.specs.Emit.{Stands, addressOf, addressesIn, inlineWith, nodeInlined, functionInlined, Room, Emits, locationTable, Coded, Placed, summaryAt, Allocated}
+use Rattle.compiler.specs.Emit.{Stands, addressOf, addressesIn, inlineWith, nodeInlined, functionInlined, CodeRoom, Emits, locationTable, Coded, Placed, summaryAt, Allocated}
 use Rattle.base.proofs.Stores.{sets-append}
 use Rattle.compiler.proofs.Locations.{node-next, inlined-follows, function-next, function-table}
 use Rattle.sums.proofs.CodeSizes.{code-append}
@@ -103,10 +103,10 @@ module _ (s order locations : List ℕ) (k : ℕ) (ins code₀ : List ℕ) (at n
   whole-words = function-next go call (inlined-follows (before s k)) (functionIn s k) ins next₀
 
   -- the words before the function, and its own, are within the limit
-  pub words-fit : Room code₀ at whole → (next₀ ≤ wordLimit) × (summaryAt s k .words ≤ wordLimit)
+  pub words-fit : CodeRoom code₀ at whole → (next₀ ≤ wordLimit) × (summaryAt s k .words ≤ wordLimit)
   words-fit h = let w = whole-words in let l = h .words in (omega arith, omega arith)
 
-  pub start : {begins : List ℕ} {cell n : ℕ} → Room code₀ at whole → Allocated s begins order locations k → cell ≡ getD begins k 0 → n ≡ nodeCount s (placeOf s k) → State code₀ cell at next₀ 0 n
+  pub start : {begins : List ℕ} {cell n : ℕ} → CodeRoom code₀ at whole → Allocated s begins order locations k → cell ≡ getD begins k 0 → n ≡ nodeCount s (placeOf s k) → State code₀ cell at next₀ 0 n
   unfolding functionInlined
   start room l es en =
       let rest = schedule (functionIn s k .nodes) in
@@ -157,8 +157,8 @@ module _ (s order locations : List ℕ) (k : ℕ) (ins code₀ : List ℕ) (at n
         let a : one .next ≡ word + (0 + wideOf call x) = node-next go call (inlined-follows (before s k)) ins word (λ r. addressAt ins next₀ (table r)) [] word 0 e x (x .payload) in
         a ∙ omega arith
 
-    node-room : Room code₀ at whole → Room code here (nodeInlined s locations k p cell ins next₀ word)
-    node-room h = subst (λ (o : Inlined). Room code here o) (sym node-is) (record { room = room; words = words })
+    node-room : CodeRoom code₀ at whole → CodeRoom code here (nodeInlined s locations k p cell ins next₀ word)
+    node-room h = subst (λ (o : Inlined). CodeRoom code here o) (sym node-is) (record { room = room; words = words })
       where
         room : here + length bytes ≤ length code
         room = let a = h .room in let b = st .end in let d = lengths in let e = st .same in omega arith
@@ -166,7 +166,7 @@ module _ (s order locations : List ℕ) (k : ℕ) (ins code₀ : List ℕ) (at n
         words : one .next ≤ wordLimit
         words = let a = next-is in let b = h .words in let d = st .words in omega arith
 
-    pub ready-one : Room code₀ at whole → Room code here (nodeInlined s locations k p cell ins next₀ word) × ReadsNode s p × (cell + length (reads (nodeAt s p)) ≤ referenceLimit)
+    pub ready-one : CodeRoom code₀ at whole → CodeRoom code here (nodeInlined s locations k p cell ins next₀ word) × ReadsNode s p × (cell + length (reads (nodeAt s p)) ≤ referenceLimit)
     ready-one h = (
       node-room h,
       subst (ReadsNode s) (sym ep) (st .placed .0 .1),
@@ -199,8 +199,8 @@ module _ (s order locations : List ℕ) (k : ℕ) (ins code₀ : List ℕ) (at n
 -- ---- the invariant, at the loop's head
 
 module _ {s order locations : List ℕ} {k : ℕ} {ins code₀ : List ℕ} {at next₀ : ℕ} {code : List ℕ} {cell here word i n : ℕ} where
-  pub node-ready : {p : ℕ} → State s order locations k ins code₀ at next₀ code cell here word i n → i < n → p ≡ getD order (nodeLimit * k + i) 0 → Room code₀ at (functionInlined s k ins next₀)
-      → Room code here (nodeInlined s locations k p cell ins next₀ word) × ReadsNode s p × (cell + length (reads (nodeAt s p)) ≤ referenceLimit)
+  pub node-ready : {p : ℕ} → State s order locations k ins code₀ at next₀ code cell here word i n → i < n → p ≡ getD order (nodeLimit * k + i) 0 → CodeRoom code₀ at (functionInlined s k ins next₀)
+      → CodeRoom code here (nodeInlined s locations k p cell ins next₀ word) × ReadsNode s p × (cell + length (reads (nodeAt s p)) ≤ referenceLimit)
   node-ready ([], st, le) lt ep h = let c = st .count in absurd (omega arith)
   node-ready {p} (x ∷ xs, st, le) lt ep h = ready-one s order locations k ins code₀ at next₀ x xs code cell here word i n p st ep h
 

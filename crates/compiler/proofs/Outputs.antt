@@ -21,7 +21,7 @@ use Rattle.reader.proofs.Passed.{function-holds}
 use Rattle.compiler.specs.Static.{nowhere, Located, locationOf, summary, allocate}
 use Rattle.sums.specs.Position.{placeOf, functionIn, before, Accepted}
 use Rattle.compiler.specs.Emit.{summaryAt}
-use Rattle.compiler.specs.Locating.{outputCodes, Codes, Knows, NodesAllocated, FunctionAllocated}
+use Rattle.compiler.specs.Locating.{outputCodes, Codes, PortsKnown, NodesAllocated, FunctionAllocated}
 use Rattle.base.proofs.Stores.{sets-below}
 use Rattle.resolver.proofs.Rows.{length-nodes}
 use Rattle.compiler.proofs.Coding.{AllCodes, codes-length, codes-stored, port-coded, summary-size}
@@ -36,7 +36,7 @@ wired-inside early f [] (r ∷ rs) h = absurd h
 wired-inside early f (w ∷ ws) [] h = absurd h
 wired-inside early f (w ∷ ws) (r ∷ rs) (h, hs) = (reads-in early f r w h, wired-inside early f ws rs hs)
 
-outputs-coded : (s allocated : List ℕ) (ns : List Node) (located : List Located) → length ns ≤ nodeLimit → Knows ns allocated located → (m q : ℕ) → Each (Inside ns) (outputRefs (outputsAt m s q))
+outputs-coded : (s allocated : List ℕ) (ns : List Node) (located : List Located) → length ns ≤ nodeLimit → PortsKnown ns allocated located → (m q : ℕ) → Each (Inside ns) (outputRefs (outputsAt m s q))
     → AllCodes (outputCodes s allocated ns m q) (map (locationOf located) (outputRefs (outputsAt m s q)))
 unfolding outputCodes
 outputs-coded s allocated ns located few known zero q h = tt

@@ -27,7 +27,7 @@ use Rattle.reader.specs.Find.{ReadsNode, ReadsNodes}
 use Rattle.reader.proofs.Passed.{end-fits, first-reads, rest-reads, function-holds}
 use Rattle.compiler.specs.Static.{Location, nowhere, summary}
 use Rattle.sums.specs.Position.{placeOf, functionIn, before, Accepted}
-use Rattle.sums.specs.Capped.{wordsAt}
+use Rattle.sums.specs.Capped.{resultWordsAt}
 use Rattle.compiler.specs.Emit.{Stands, locationTable, Coded, Placed, summaryAt, Allocated}
 use Rattle.compiler.specs.Locating.{Codes, PortsCoded, readCount, FunctionAllocated, AllocatedTo}
 use Rattle.compiler.proofs.Locations.{function-agrees}
@@ -97,8 +97,8 @@ module _ (s : List ℕ) (j : ℕ) (acc : Accepted s (suc j)) where
       let m = short s (suc j) acc in
       (omega arith, omega arith)
 
-  summary-is : summaryAt s j .words ≡ wordsAt s j
-  unfolding wordsAt earlier
+  summary-is : summaryAt s j .words ≡ resultWordsAt s j
+  unfolding resultWordsAt earlier
   summary-is = function-words (before s j) (functionIn s j) (sound-below s (suc j) acc j (omega arith))
 
   -- the schedule has all nodes
@@ -118,14 +118,14 @@ module _ {s : List ℕ} {j : ℕ} (acc : Accepted s (suc j)) {outs order locatio
       (omega arith, omega arith, omega arith)
 
   -- a function over the limit is passed over
-  pub passed-over : wordLimit < wordsAt s j → AllocatedTo s (suc j) outs order locations begins cell
+  pub passed-over : wordLimit < resultWordsAt s j → AllocatedTo s (suc j) outs order locations begins cell
   passed-over over =
       let (a, b) = function-space s j acc in
       let e = st .room in
       let c = summary-is s j acc in
       record {
         allocated = λ g l w. ⊎-elim (λ h. st .allocated g h w) (λ q. absurd (let z = ap (λ (x : ℕ). summaryAt s x .words) q in omega arith)) (lt-or-eq g j l);
-        ports = λ g l w. ⊎-elim (λ h. st .ports g h w) (λ q. absurd (let z = ap (wordsAt s) q in omega arith)) (lt-or-eq g j l);
+        ports = λ g l w. ⊎-elim (λ h. st .ports g h w) (λ q. absurd (let z = ap (resultWordsAt s) q in omega arith)) (lt-or-eq g j l);
         room = omega arith;
         ends = λ g l w. ⊎-elim (λ h. st .ends g h w) (λ q. absurd (let z = ap (λ (x : ℕ). summaryAt s x .words) q in omega arith)) (lt-or-eq g j l);
         sizes = st .sizes;
@@ -163,7 +163,7 @@ module _ {s : List ℕ} {j : ℕ} (acc : Accepted s (suc j)) {outs order locatio
           agrees = x .agrees;
         }
 
-    ports-below : (g : ℕ) → g < j → wordsAt s g ≤ wordLimit → PortsCoded (summaryAt s g .outputs) outs' (8 * g)
+    ports-below : (g : ℕ) → g < j → resultWordsAt s g ≤ wordLimit → PortsCoded (summaryAt s g .outputs) outs' (8 * g)
     ports-below g l w =
         let x = st .ports g l w in
         record { few = x .few; coded = λ q ql. subst (λ (e : ℕ). Codes e (getD (summaryAt s g .outputs) q nowhere)) (sym (f .old-outs (8 * g + q) (omega arith))) (x .coded q ql) }

@@ -59,7 +59,7 @@ unfoldable pub functionInlined : List ℕ → ℕ → List ℕ → ℕ → Inlin
 functionInlined s k ins next = inlineFunction (inlined (before s k)) (functionIn s k) ins next
 
 -- there is room for the code, and for its words
-pub record Room (code : List ℕ) (at : ℕ) (o : Inlined) : Type 0 where
+pub record CodeRoom (code : List ℕ) (at : ℕ) (o : Inlined) : Type 0 where
   pub room : at + length (instructionsCode (o .code)) ≤ length code
   pub words : o .next ≤ wordLimit
 

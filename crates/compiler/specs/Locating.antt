@@ -20,7 +20,7 @@ use Rattle.order.specs.Indices.{slot}
 use Rattle.order.specs.Resolve.{target}
 use Rattle.compiler.specs.Static.{Location, nowhere, input, offset, Located, locationsOf, summary, allocate}
 use Rattle.sums.specs.Position.{placeOf, functionIn, before, positionOf}
-use Rattle.sums.specs.Capped.{wordsAt}
+use Rattle.sums.specs.Capped.{resultWordsAt}
 use Rattle.compiler.specs.Emit.{locationTable, Placed, summaryAt, AllAllocated}
 
 -- ---- arrays that are read
@@ -87,11 +87,11 @@ pub record PortsCoded (xs : List Location) (codes : List ℕ) (b : ℕ) : Type 0
 
 -- the outputs of the functions before k that are within the word limit
 abbrev pub AllOuts : List ℕ → List ℕ → ℕ → Type 0
-AllOuts s outs k = (g : ℕ) → g < k → wordsAt s g ≤ wordLimit → PortsCoded (summaryAt s g .outputs) outs (portLimit * g)
+AllOuts s outs k = (g : ℕ) → g < k → resultWordsAt s g ≤ wordLimit → PortsCoded (summaryAt s g .outputs) outs (portLimit * g)
 
 -- the nodes that have their locations, by their indices
-abbrev pub Knows : List Node → List ℕ → List Located → Type 0
-Knows ns allocated located = (v : ℕ) (x : Node) → getElem? ns v ≡ some x → PortsCoded (locationsOf (x .id) located) allocated (portLimit * v)
+abbrev pub PortsKnown : List Node → List ℕ → List Located → Type 0
+PortsKnown ns allocated located = (v : ℕ) (x : Node) → getElem? ns v ≡ some x → PortsCoded (locationsOf (x .id) located) allocated (portLimit * v)
 
 -- how many references the function at position k has in its nodes
 abbrev pub readCount : List ℕ → ℕ → ℕ
@@ -100,7 +100,7 @@ readCount s k = sum (λ n. length (reads n)) (functionIn s k .nodes)
 -- all nodes in their order are allocated
 pub record NodesAllocated (s : List ℕ) (k c : ℕ) (order₀ order locations₀ locations allocated : List ℕ) (r : ℕ) : Type 0 where
   pub placed : Placed s order locations (locationTable s k) (nodeLimit * k) c (schedule (functionIn s k .nodes))
-  pub known : Knows (functionIn s k .nodes) allocated (allocate (summary (before s k)) (schedule (functionIn s k .nodes)) [] 0 .located)
+  pub known : PortsKnown (functionIn s k .nodes) allocated (allocate (summary (before s k)) (schedule (functionIn s k .nodes)) [] 0 .located)
   pub end : r ≡ c + readCount s k
   pub sizes : (length order ≡ orderLimit) × (length locations ≡ referenceLimit)
   pub old-order : (q : ℕ) → q < nodeLimit * k → getD order q 0 ≡ getD order₀ q 0

@@ -9,7 +9,7 @@ use Rattle.graph.specs.Types.{outputTypes}
 use Rattle.lowering.specs.Compile.{boardListOf}
 use Rattle.bytecode.specs.Code.{encode}
 use Rattle.sums.specs.Position.{functionIn, before}
-use Rattle.sums.specs.Capped.{wordsAt}
+use Rattle.sums.specs.Capped.{resultWordsAt}
 
 -- the code of the function at position k
 abbrev pub codeAt : List ℕ → ℕ → List ℕ
@@ -22,4 +22,4 @@ pub record Measured (s : List ℕ) (k count inputs outputs : ℕ) : Type 0 where
   pub results : outputs ≡ widths (outputTypes (functionIn s k .outputs))
   pub few : count ≤ operationLimit
   pub narrow : (inputs ≤ portWordLimit) × (outputs ≤ portWordLimit)
-  pub words : inputs + wordsAt s k ≤ wordLimit
+  pub words : inputs + resultWordsAt s k ≤ wordLimit

@@ -14,7 +14,7 @@ ghost use Rattle.order.specs.Indices.{indexOrder};
 ghost use Rattle.compiler.specs.Locating.{NodesAllocated, FunctionAllocated, AllocatedTo, readCount, outputCodes, Places, Slots, portCode, readCodes, rebasedCode, rebasedCodes, resultCodes, nodeCodes, AllOuts};
 ghost use Rattle.reader.specs.Layout.{outputCount, outputsPlace, nodeAt, nodesAt, nodesPlace, nodeCount};
 ghost use Rattle.sums.specs.Position.{placeOf, Accepted};
-ghost use Rattle.sums.specs.Capped.{wordsAt, addsWords, WordsHeld};
+ghost use Rattle.sums.specs.Capped.{resultWordsAt, addsWords, WordsHeld};
 use super::NODE_PORT_LIMIT;
 use super::ORDER_LIMIT;
 use super::OUTPUT_LIMIT;
@@ -203,7 +203,7 @@ fn allocate_nodes(
     allocated: &mut [u16; NODE_PORT_LIMIT],
     cell: usize,
 ) -> usize
-    requires { ⌜ Accepted (now table) (suc k) × (n ≡ nodeCount (now table) (placeOf (now table) k)) × (wordsAt (now table) k ≤ wordLimit) × (cell + readCount (now table) k ≤ referenceLimit) ⌝ }
+    requires { ⌜ Accepted (now table) (suc k) × (n ≡ nodeCount (now table) (placeOf (now table) k)) × (resultWordsAt (now table) k ≤ wordLimit) × (cell + readCount (now table) k ≤ referenceLimit) ⌝ }
     requires { ⌜ Started (now table) (now starts) k × WordsHeld (now table) (now words) k × AllOuts (now table) (now outs) k ⌝ }
     requires { ⌜ Slots (now table) (nodesPlace (now table) (placeOf (now table) k)) n (now targets) × Places (now table) (nodesPlace (now table) (placeOf (now table) k)) (now places) n
         × (now index ≡ sets (replicate nodeLimit 0) 0 (indexOrder (now targets) n)) ⌝ }
@@ -286,7 +286,7 @@ fn allocate_function(
     locations: &mut [u16; REFERENCE_LIMIT],
     cell: usize,
 ) -> usize
-    requires { ⌜ Accepted (now table) (suc k) × (wordsAt (now table) k ≤ wordLimit) × (cell + readCount (now table) k ≤ referenceLimit) ⌝ }
+    requires { ⌜ Accepted (now table) (suc k) × (resultWordsAt (now table) k ≤ wordLimit) × (cell + readCount (now table) k ≤ referenceLimit) ⌝ }
     requires { ⌜ Started (now table) (now starts) (suc k) × WordsHeld (now table) (now words) k × AllOuts (now table) (now outs) k ⌝ }
     requires { ⌜ (length (now outs) ≡ outputLimit) × (length (now order) ≡ orderLimit) × (length (now locations) ≡ referenceLimit) ⌝ }
     ensures { λ r. ⌜ FunctionAllocated (now (table .entry)) k cell (now (order .entry)) (now (order .exit)) (now (locations .entry)) (now (locations .exit)) (now (outs .entry)) (now (outs .exit)) r ⌝ }

@@ -10,7 +10,7 @@ ghost use Rattle.base.specs.Bytes.{byte, allBytes};
 ghost use Rattle.graph.specs.Look.{reads};
 ghost use Rattle.reader.specs.Layout.{kindAt, nodeAt};
 ghost use Rattle.reader.specs.Find.{ReadsNode, Started};
-ghost use Rattle.compiler.specs.Emit.{copied, addressOf, addressesIn, nodeInlined, functionInlined, Room, Emits, AllAllocated};
+ghost use Rattle.compiler.specs.Emit.{copied, addressOf, addressesIn, nodeInlined, functionInlined, CodeRoom, Emits, AllAllocated};
 use super::ORDER_LIMIT;
 use super::Reached;
 use base::ADDRESS_LIMIT;
@@ -105,7 +105,7 @@ fn emit_single(
 ) -> Reached
     requires { ⌜ ReadsNode (now table) p × (kind ≡ byte (now table) (p + 2)) × (ty ≡ byte (now table) (p + 3)) × (calling (formOf (kindAt (now table) p)) ≡ false) ⌝ }
     requires { ⌜ (first ≤ wordLimit) × (cell + length (reads (nodeAt (now table) p)) ≤ referenceLimit) ⌝ }
-    requires { ⌜ Room (now code) at (nodeInlined (now table) (now locations) k p cell (now ins) first next) ⌝ }
+    requires { ⌜ CodeRoom (now code) at (nodeInlined (now table) (now locations) k p cell (now ins) first next) ⌝ }
     ensures { λ r. ⌜ Emits (now (code .entry)) (now (code .exit)) at
         (nodeInlined (now (table .entry)) (now (locations .entry)) k p cell (now (ins .entry)) first next) r ⌝ }
     ensures { λ r. ⌜ r .cell ≡ cell + length (reads (nodeAt (now (table .entry)) p)) ⌝ }
@@ -144,7 +144,7 @@ fn emit_node(
     requires { ⌜ (k < functionLimit) × Started (now table) (now starts) k × ReadsNode (now table) p ⌝ }
     requires { ⌜ (first ≤ wordLimit) × (cell + length (reads (nodeAt (now table) p)) ≤ referenceLimit) ⌝ }
     requires { ⌜ AllAllocated (now table) (now begins) (now order) (now locations) k ⌝ }
-    requires { ⌜ Room (now code) at (nodeInlined (now table) (now locations) k p cell (now ins) first next) ⌝ }
+    requires { ⌜ CodeRoom (now code) at (nodeInlined (now table) (now locations) k p cell (now ins) first next) ⌝ }
     ensures { λ r. ⌜ Emits (now (code .entry)) (now (code .exit)) at
         (nodeInlined (now (table .entry)) (now (locations .entry)) k p cell (now (ins .entry)) first next) r ⌝ }
     ensures { λ r. ⌜ r .cell ≡ cell + length (reads (nodeAt (now (table .entry)) p)) ⌝ }
@@ -229,7 +229,7 @@ pub fn emit(
 ) -> Reached
     requires { ⌜ (k < functionLimit) × Started (now table) (now starts) (suc k) ⌝ }
     requires { ⌜ AllAllocated (now table) (now begins) (now order) (now locations) (suc k) ⌝ }
-    requires { ⌜ Room (now code) at (functionInlined (now table) k (now ins) next) ⌝ }
+    requires { ⌜ CodeRoom (now code) at (functionInlined (now table) k (now ins) next) ⌝ }
     ensures { λ r. ⌜ Emits (now (code .entry)) (now (code .exit)) at (functionInlined (now (table .entry)) k (now (ins .entry)) next) r ⌝ }
 {
     let n = u16_at(table, starts[k] + 4);

@@ -16,7 +16,7 @@ use Rattle.value.specs.declared.Operator.{Operator}
 use Rattle.value.specs.declared.Operator.the-variants.{Add, Subtract, Multiply, Divide, Minimum, Maximum, Absolute, Remainder, Select, Clamp}
 use Rattle.value.specs.Values.{mat, word, vecWords, wordsOf, allWords, vecAt}
 use Rattle.value.specs.Steps.{fromColumns, fromRows}
-use Rattle.value.specs.Results.{each, results}
+use Rattle.value.specs.Results.{componentwise, results}
 use Rattle.value.proofs.Laws.{mat-cong}
 use Rattle.base.proofs.Stores.{then}
 use Rattle.base.specs.Bytes.{u16, constants}
@@ -41,7 +41,7 @@ module _ {A B : Type 0} (f : A → A → A → A → B) where
 pub record Carried (o : Operator) : Type 0 where
   pub takes : (t : ℕ) → takes (kindOf (kindFor o)) t ≡ replicate (arity (kindOf (kindFor o))) t
   pub gives : (t : ℕ) → wordsGiven (kindFor o) t ≡ width t + 0
-  pub results : (cs : List ℕ) (vs : List Value) → results (kindOf (kindFor o)) cs vs ≡ each o vs ∷ []
+  pub results : (cs : List ℕ) (vs : List Value) → results (kindOf (kindFor o)) cs vs ≡ componentwise o vs ∷ []
 
 pub carried : (o : Operator) → Carried o
 unfolding results
@@ -58,7 +58,7 @@ carried Clamp = record { takes = λ t. refl; gives = λ t. refl; results = λ cs
 
 -- the words of what the operator gives of its operands, stored at the result
 pub operated : {o : Operator} {n t : ℕ} {s : List ℕ} {at result : ℕ} {m : List ℕ} → Operands o n t s at result m
-    → {v : Value} → v ≡ each o (valuesAt m (replicate n t) (addresses n s at)) → {after : List ℕ} → after ≡ sets m result (wordsOf v)
+    → {v : Value} → v ≡ componentwise o (valuesAt m (replicate n t) (addresses n s at)) → {after : List ℕ} → after ≡ sets m result (wordsOf v)
     → after ≡ execute (instructionAt (kindFor o) t s at result) m
 unfolding execute
 operated {o} {n} {t} {s} {at} {result} {m} h {v} e p =
@@ -69,8 +69,8 @@ operated {o} {n} {t} {s} {at} {result} {m} h {v} e p =
     let q : valuesAt m (replicate n t) (addresses n s at) ≡ vs =
     ap (λ (i : ℕ). valuesAt m (replicate i t) (addresses i s at)) (sym (h .count))
     ∙ ap (λ (ts : List ℕ). valuesAt m ts (addresses (arity k) s at)) (sym (c .takes t)) in
-    p ∙ ap (λ (u : Value). sets m result (wordsOf u)) (e ∙ ap (each o) q)
-    ∙ ap (sets m result) (sym (append-nil (wordsOf (each o vs))))
+    p ∙ ap (λ (u : Value). sets m result (wordsOf u)) (e ∙ ap (componentwise o) q)
+    ∙ ap (sets m result) (sym (append-nil (wordsOf (componentwise o vs))))
     ∙ ap (λ (us : List Value). sets m result (allWords us)) (sym (c .results cs vs))
 
 -- ---- kinds without T

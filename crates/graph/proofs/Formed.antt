@@ -17,7 +17,7 @@ use Rattle.base.specs.Outcome.{ok, _>>_, Part}
 use Rattle.graph.specs.Graph.{Ref, Payload, Node, Output, Function}
 use Rattle.base.specs.Bytes.{byte, u16, Bytes, bytesOf, allBytes, constants}
 use Rattle.graph.specs.Format.{Format, version1}
-use Rattle.graph.specs.Read.{inputs, reference, references, outputs, payload, node, nodes, inRange, function, functions, marked, parse}
+use Rattle.graph.specs.Read.{inputs, reference, references, outputs, payload, node, nodes, inRange, function, functions, tableMarked, parse}
 use Rattle.graph.specs.Types.{outputTypes}
 use Rattle.graph.specs.Judge.{judgeAll, table}
 use Rattle.graph.specs.Formed.{AllWithin, FormedPayload, FormedNode, Formed, AllFormed}
@@ -51,15 +51,15 @@ header-length format count size h = let e = bytes-length (format .header - 6) si
 
 -- ---- what the tests of a head and of the mark tell
 
-pub in-range : (limit id nin nout count : ℕ) → inRange limit id nin nout count ≡ true → HeadRight limit id nin nout count
-in-range limit id nin nout count u =
-    let (u1, u2) = and-inv (leb 1 id && leb nin 8 && (leb 1 nout && leb nout 8)) (leb count limit) u in
-    let (u3, u4) = and-inv (leb 1 id && leb nin 8) (leb 1 nout && leb nout 8) u1 in
-    let (u5, u6) = and-inv (leb 1 id) (leb nin 8) u3 in
-    let (a, b) = between nout 8 u4 in
-    (leb-true 1 id u5, leb-true nin 8 u6, a, b, leb-true count limit u2)
+pub in-range : (limit id inputCount outputCount count : ℕ) → inRange limit id inputCount outputCount count ≡ true → HeadRight limit id inputCount outputCount count
+in-range limit id inputCount outputCount count u =
+    let (u1, u2) = and-inv (leb 1 id && leb inputCount 8 && (leb 1 outputCount && leb outputCount 8)) (leb count limit) u in
+    let (u3, u4) = and-inv (leb 1 id && leb inputCount 8) (leb 1 outputCount && leb outputCount 8) u1 in
+    let (u5, u6) = and-inv (leb 1 id) (leb inputCount 8) u3 in
+    let (a, b) = between outputCount 8 u4 in
+    (leb-true 1 id u5, leb-true inputCount 8 u6, a, b, leb-true count limit u2)
 
-pub marked-bytes : (s : List ℕ) → marked s ≡ true → (byte s 0 ≡ 0x49) × (byte s 1 ≡ 0x46) × (byte s 2 ≡ 0x47)
+pub marked-bytes : (s : List ℕ) → tableMarked s ≡ true → (byte s 0 ≡ 0x49) × (byte s 1 ≡ 0x46) × (byte s 2 ≡ 0x47)
 marked-bytes s e =
     let (m, c) = and-inv (eqb (byte s 0) 0x49 && eqb (byte s 1) 0x46) (eqb (byte s 2) 0x47) e in
     let (a, b) = and-inv (eqb (byte s 0) 0x49) (eqb (byte s 1) 0x46) m in
@@ -202,11 +202,11 @@ module _ (s : List ℕ) (small : Bytes s) where
       × ShortIds (p .it)
 
   function-here :
-      (limit at nin nout end : ℕ) (ins : List ℕ) (outs : List Output) (ns : List Node) → byte s (at + 2) ≡ nin → byte s (at + 3) ≡ nout
-      → HeadRight limit (u16 s at) nin nout (u16 s (at + 4)) → InputsRead nin (at + 6) ins → OutputsRead nout (at + 6 + nin) outs
-      → NodesRead (u16 s (at + 4)) (at + 6 + nin + 4 * nout) (record { it = ns; next = end })
+      (limit at inputCount outputCount end : ℕ) (ins : List ℕ) (outs : List Output) (ns : List Node) → byte s (at + 2) ≡ inputCount → byte s (at + 3) ≡ outputCount
+      → HeadRight limit (u16 s at) inputCount outputCount (u16 s (at + 4)) → InputsRead inputCount (at + 6) ins → OutputsRead outputCount (at + 6 + inputCount) outs
+      → NodesRead (u16 s (at + 4)) (at + 6 + inputCount + 4 * outputCount) (record { it = ns; next = end })
       → FunctionRead limit at (record { it = record { id = u16 s at; place = at; inputs = ins; outputs = outs; nodes = ns }; next = end })
-  function-here limit at nin nout end ins outs ns bi bo (c1, c2, c3, c4, c5) (il, it, hi) (ol, ot, ho, po, wo) (nl, nt, hn, qn, pn, wn) =
+  function-here limit at inputCount outputCount end ins outs ns bi bo (c1, c2, c3, c4, c5) (il, it, hi) (ol, ot, ho, po, wo) (nl, nt, hn, qn, pn, wn) =
       let os = flat outputBytes outs in
       let xs = flat nodeBytes ns in
       let ys = ins ++ os ++ xs in
@@ -240,13 +240,13 @@ module _ (s : List ℕ) (small : Bytes s) where
       let (ins, ei, e3) = took _ _ _ e2 in
       let (outs, eo, e4) = took _ _ _ e3 in
       let (ns, en, e5) = took _ _ _ e4 in
-      let nin = byte s (at + 2) in
-      let nout = byte s (at + 3) in
+      let inputCount = byte s (at + 2) in
+      let outputCount = byte s (at + 3) in
       let count = u16 s (at + 4) in
       subst (FunctionRead limit at) (ok-is e5)
-      (function-here limit at nin nout (ns .next) ins outs (ns .it) refl refl
-      (in-range limit (u16 s at) nin nout count u) (inputs-formed nin (at + 6) ins ei)
-      (outputs-formed nout (at + 6 + nin) outs eo) (nodes-formed count (at + 6 + nin + 4 * nout) ns en))
+      (function-here limit at inputCount outputCount (ns .next) ins outs (ns .it) refl refl
+      (in-range limit (u16 s at) inputCount outputCount count u) (inputs-formed inputCount (at + 6) ins ei)
+      (outputs-formed outputCount (at + 6 + inputCount) outs eo) (nodes-formed count (at + 6 + inputCount + 4 * outputCount) ns en))
 
   -- every function is formed, and has no more nodes than the limit
   abbrev FunctionsRead : ℕ → ℕ → ℕ → Part (List Function) → Type 0
@@ -287,7 +287,7 @@ pub plain1 : Plain version1
 plain1 = record { version = omega arith; header = omega arith; limit = omega arith; size = λ s. omega arith }
 
 module _ (format : Format) (plain : Plain format) (s : List ℕ) (small : Bytes s) where
-  table-stood : (gs : List Function) → marked s ≡ true → u16 s 3 ≡ format .version → format .size s ≡ length s → length gs ≡ byte s 5
+  table-stood : (gs : List Function) → tableMarked s ≡ true → u16 s 3 ≡ format .version → format .size s ≡ length s → length gs ≡ byte s 5
       → Here s (format .header) (flat functionBytes gs) → length s ≡ format .header + length (flat functionBytes gs) → s ≡ tableBytes format gs
   table-stood gs mark version size count h l =
       let (b0, b1, b2) = marked-bytes s mark in

@@ -54,12 +54,12 @@ module _ (limit : ℕ) (s : List ℕ) where
 
   -- ---- no record both passes and fails
 
-  head-apart : (id nin nout count : ℕ) → HeadRight limit id nin nout count → HeadWrong limit id nin nout count → ⊥
-  head-apart id nin nout count (a, b, c, d, e) (inl x) = omega arith
-  head-apart id nin nout count (a, b, c, d, e) (inr (inl x)) = omega arith
-  head-apart id nin nout count (a, b, c, d, e) (inr (inr (inl x))) = omega arith
-  head-apart id nin nout count (a, b, c, d, e) (inr (inr (inr (inl x)))) = omega arith
-  head-apart id nin nout count (a, b, c, d, e) (inr (inr (inr (inr x)))) = omega arith
+  head-apart : (id inputCount outputCount count : ℕ) → HeadRight limit id inputCount outputCount count → HeadWrong limit id inputCount outputCount count → ⊥
+  head-apart id inputCount outputCount count (a, b, c, d, e) (inl x) = omega arith
+  head-apart id inputCount outputCount count (a, b, c, d, e) (inr (inl x)) = omega arith
+  head-apart id inputCount outputCount count (a, b, c, d, e) (inr (inr (inl x))) = omega arith
+  head-apart id inputCount outputCount count (a, b, c, d, e) (inr (inr (inr (inl x)))) = omega arith
+  head-apart id inputCount outputCount count (a, b, c, d, e) (inr (inr (inr (inr x)))) = omega arith
 
   node-apart : (x : ℕ) (b : Bool) → (1 ≤ x) × (b ≡ true) → (x ≡ 0) ⊎ (b ≡ false) → ⊥
   node-apart x b (l, e) (inl z) = omega arith
@@ -177,38 +177,38 @@ module _ (limit : ℕ) (s : List ℕ) where
       (nodes-step n (x .next) hs _ (λ p. r (record { it = x .it ∷ p .it; next = p .next })))))
 
   -- the fields of a function's head
-  head-says : (at id nin nout count : ℕ)
-      → Says (check 6 at (HeadRight limit id nin nout count) (HeadWrong limit id nin nout count) ∷ []) (need (inRange limit id nin nout count) 6 at)
-  head-says at id nin nout count = says-test (inRange limit id nin nout count) 6 at (in-range limit id nin nout count) back
+  head-says : (at id inputCount outputCount count : ℕ)
+      → Says (check 6 at (HeadRight limit id inputCount outputCount count) (HeadWrong limit id inputCount outputCount count) ∷ []) (need (inRange limit id inputCount outputCount count) 6 at)
+  head-says at id inputCount outputCount count = says-test (inRange limit id inputCount outputCount count) 6 at (in-range limit id inputCount outputCount count) back
     where
-      back : inRange limit id nin nout count ≡ false → HeadWrong limit id nin nout count
+      back : inRange limit id inputCount outputCount count ≡ false → HeadWrong limit id inputCount outputCount count
       back u =
           ⊎-elim
           (λ x. ⊎-elim
-          (λ y. ⊎-elim (λ z. inl (none-at-all id z)) (λ z. inr (inl (leb-false nin 8 z))) (and-inv-false (leb 1 id) (leb nin 8) y))
-          (λ y. ⊎-elim (λ z. inr (inr (inl z))) (λ z. inr (inr (inr (inl z)))) (not-between nout 8 y))
-          (and-inv-false (leb 1 id && leb nin 8) (leb 1 nout && leb nout 8) x))
+          (λ y. ⊎-elim (λ z. inl (none-at-all id z)) (λ z. inr (inl (leb-false inputCount 8 z))) (and-inv-false (leb 1 id) (leb inputCount 8) y))
+          (λ y. ⊎-elim (λ z. inr (inr (inl z))) (λ z. inr (inr (inr (inl z)))) (not-between outputCount 8 y))
+          (and-inv-false (leb 1 id && leb inputCount 8) (leb 1 outputCount && leb outputCount 8) x))
           (λ x. inr (inr (inr (inr (leb-false count limit x)))))
-          (and-inv-false (leb 1 id && leb nin 8 && (leb 1 nout && leb nout 8)) (leb count limit) u)
+          (and-inv-false (leb 1 id && leb inputCount 8 && (leb 1 outputCount && leb outputCount 8)) (leb count limit) u)
 
   function-step : (at : ℕ) (hs : List Shape) (c : Part Function → Outcome (Unit {0})) → ((p : Part Function) → R hs (p .next) (c p))
       → R (head ∷ hs) at (Read.function limit s at >>= c)
   function-step at hs c r =
-      let nin = byte s (at + 2) in
-      let nout = byte s (at + 3) in
+      let inputCount = byte s (at + 2) in
+      let outputCount = byte s (at + 3) in
       let count = u16 s (at + 4) in
       let made : List ℕ → List Output → Part (List Node) → Part Function =
       λ ins outs ns. record { it = record { id = u16 s at; place = at; inputs = ins; outputs = outs; nodes = ns .it }; next = ns .next } in
       let third : List ℕ → List Output → Outcome (Part Function) =
-      λ ins outs. Read.nodes count s (at + 6 + nin + 4 * nout) >>= λ ns. ok (made ins outs ns) in
-      let second : List ℕ → Outcome (Part Function) = λ ins. Read.outputs nout s (at + 6 + nin) >>= third ins in
-      record-step head hs at (inRange limit (u16 s at) nin nout count) 6 (Read.inputs nin s (at + 6) >>= second) c (head-says at (u16 s at) nin nout count)
-      (λ e. same (bind-bind (Read.inputs nin s (at + 6)) second c)
-      (inputs-step nin (at + 6) (times nout output (times count node hs)) (λ ins. second ins >>= c)
-      (λ ins. same (bind-bind (Read.outputs nout s (at + 6 + nin)) (third ins) c)
-      (outputs-step nout (at + 6 + nin) (times count node hs) (λ outs. third ins outs >>= c)
-      (λ outs. same (bind-ok (Read.nodes count s (at + 6 + nin + 4 * nout)) (made ins outs) c)
-      (nodes-step count (at + 6 + nin + 4 * nout) hs (λ ns. c (made ins outs ns)) (λ ns. r (made ins outs ns))))))))
+      λ ins outs. Read.nodes count s (at + 6 + inputCount + 4 * outputCount) >>= λ ns. ok (made ins outs ns) in
+      let second : List ℕ → Outcome (Part Function) = λ ins. Read.outputs outputCount s (at + 6 + inputCount) >>= third ins in
+      record-step head hs at (inRange limit (u16 s at) inputCount outputCount count) 6 (Read.inputs inputCount s (at + 6) >>= second) c (head-says at (u16 s at) inputCount outputCount count)
+      (λ e. same (bind-bind (Read.inputs inputCount s (at + 6)) second c)
+      (inputs-step inputCount (at + 6) (times outputCount output (times count node hs)) (λ ins. second ins >>= c)
+      (λ ins. same (bind-bind (Read.outputs outputCount s (at + 6 + inputCount)) (third ins) c)
+      (outputs-step outputCount (at + 6 + inputCount) (times count node hs) (λ outs. third ins outs >>= c)
+      (λ outs. same (bind-ok (Read.nodes count s (at + 6 + inputCount + 4 * outputCount)) (made ins outs) c)
+      (nodes-step count (at + 6 + inputCount + 4 * outputCount) hs (λ ns. c (made ins outs ns)) (λ ns. r (made ins outs ns))))))))
 
   functions-step : (n at : ℕ) (hs : List Shape) (c : Part (List Function) → Outcome (Unit {0})) → ((p : Part (List Function)) → R hs (p .next) (c p))
       → R (times n head hs) at (Read.functions limit n s at >>= c)
@@ -241,7 +241,7 @@ module _ (format : Format) (s : List ℕ) where
   abbrev header : Outcome (Unit {0})
   header =
       need (leb 8 (length s)) 1 0
-      >> (need (Read.marked s) 2 0 >> (need (eqb (u16 s 3) (format .version)) 3 3 >> (need (eqb (format .size s) (length s)) 4 6 >> need count-right 6 5)))
+      >> (need (Read.tableMarked s) 2 0 >> (need (eqb (u16 s 3) (format .version)) 3 3 >> (need (eqb (format .size s) (length s)) 4 6 >> need count-right 6 5)))
 
   abbrev Marked : Type 0
   Marked = (byte s 0 ≡ 0x49) × (byte s 1 ≡ 0x46) × (byte s 2 ≡ 0x47)
@@ -252,14 +252,14 @@ module _ (format : Format) (s : List ℕ) where
   header-says : Says (headerChecks format s) header
   header-says =
       says-then (check 1 0 (8 ≤ length s) (length s < 8) ∷ []) _ _ _ (says-test (leb 8 (length s)) 1 0 (leb-true 8 (length s)) (leb-false 8 (length s)))
-      (says-then (check 2 0 Marked Unmarked ∷ []) _ _ _ (says-test (Read.marked s) 2 0 (marked-bytes s) others)
+      (says-then (check 2 0 Marked Unmarked ∷ []) _ _ _ (says-test (Read.tableMarked s) 2 0 (marked-bytes s) others)
       (says-then (check 3 3 (u16 s 3 ≡ format .version) (u16 s 3 ≢ format .version) ∷ []) _ _ _
       (says-test (eqb (u16 s 3) (format .version)) 3 3 (eqb-true _ _) (eqb-false _ _))
       (says-then (check 4 6 (format .size s ≡ length s) (format .size s ≢ length s) ∷ []) _ _ _
       (says-test (eqb (format .size s) (length s)) 4 6 (eqb-true _ _) (eqb-false _ _))
       (says-test count-right 6 5 (between (byte s 5) 16) (not-between (byte s 5) 16)))))
     where
-      others : Read.marked s ≡ false → Unmarked
+      others : Read.tableMarked s ≡ false → Unmarked
       others e =
           ⊎-elim (λ m. ⊎-elim (λ a. inl (eqb-false _ _ a)) (λ b. inr (inl (eqb-false _ _ b))) (and-inv-false (eqb (byte s 0) 0x49) (eqb (byte s 1) 0x46) m))
           (λ c. inr (inr (eqb-false _ _ c))) (and-inv-false (eqb (byte s 0) 0x49 && eqb (byte s 1) 0x46) (eqb (byte s 2) 0x47) e)

@@ -19,7 +19,7 @@ use Rattle.base.specs.Outcome.{Outcome, ok, Part}
 use Rattle.base.specs.Bytes.{byte, u16, Bytes, bytesOf, allBytes, constants}
 use Rattle.graph.specs.Graph.{Ref, Payload, consts, refs, calls, Node, Output, Function}
 use Rattle.graph.specs.Format.{Format}
-use Rattle.graph.specs.Read.{inputs, reference, references, outputs, payload, node, nodes, inRange, function, functions, marked, parse}
+use Rattle.graph.specs.Read.{inputs, reference, references, outputs, payload, node, nodes, inRange, function, functions, tableMarked, parse}
 use Rattle.graph.specs.Types.{outputTypes}
 use Rattle.graph.specs.Formed.{AllWithin, FormedPayload, FormedNode, Formed, AllFormed}
 use Rattle.graph.specs.Written.{flat, refBytes, outputBytes, payloadBytes, nodeBytes, functionBytes, headerBytes, RefsAt, PayloadAt, OutputsAt, NodesAt, FunctionAt, FunctionsAt, Short, ShortRefs, ShortPayload, ShortNode, ShortIds, Written}
@@ -136,8 +136,8 @@ module _ (s : List ℕ) where
   function-read : (limit : ℕ) (f : Function) (at end : ℕ) → Formed f → length (f .nodes) ≤ limit → limit < 65536 → Here s at (functionBytes f) → FunctionAt at f
       → ShortIds f → end ≡ at + length (functionBytes f) → end ≤ length s → function limit s at ≡ ok (record { it = f; next = end })
   function-read limit f at end c m small h p b q l =
-      let nin = byte s (at + 2) in
-      let nout = byte s (at + 3) in
+      let inputCount = byte s (at + 2) in
+      let outputCount = byte s (at + 3) in
       let count = u16 s (at + 4) in
       let os = flat outputBytes (f .outputs) in
       let xs = flat nodeBytes (f .nodes) in
@@ -151,22 +151,22 @@ module _ (s : List ℕ) where
       let l1 : length (f .inputs ++ os) ≡ length (f .inputs) + length os = length-append (f .inputs) os in
       let l2 : length ys ≡ length (f .inputs ++ os) + length xs = length-append (f .inputs ++ os) xs in
       let l3 : length os ≡ 4 * length (f .outputs) = outputs-size (f .outputs) in
-      let eo′ : nout ≡ length (f .outputs) = ap (byte s) (omega arith) ∙ eo in
+      let eo′ : outputCount ≡ length (f .outputs) = ap (byte s) (omega arith) ∙ eo in
       let ec : count ≡ length (f .nodes) = u16-read s (length (f .nodes)) (at + 4) (omega arith) (moved s (omega arith) hc) in
       let ed : u16 s at ≡ f .id = u16-read s (f .id) at (b .id) h0 in
-      let r1 : inputs nin s (at + 6) ≡ ok (f .inputs) =
+      let r1 : inputs inputCount s (at + 6) ≡ ok (f .inputs) =
       ap (λ (i : ℕ). inputs i s (at + 6)) ei ∙ inputs-read (f .inputs) (at + 6) (c .inputTypes) (moved s (omega arith) hi) (omega arith) in
-      let r2 : outputs nout s (at + 6 + nin) ≡ ok (f .outputs) =
+      let r2 : outputs outputCount s (at + 6 + inputCount) ≡ ok (f .outputs) =
       ap₂ (λ (i j : ℕ). outputs i s (at + 6 + j)) eo′ ei
       ∙ outputs-read (f .outputs) (at + 6 + length (f .inputs)) (c .outputTypes) (moved s (omega arith) ho) (p .outputs) (b .outputs) (omega arith) in
-      let r3 : nodes count s (at + 6 + nin + 4 * nout) ≡ ok (record { it = f .nodes; next = end }) =
+      let r3 : nodes count s (at + 6 + inputCount + 4 * outputCount) ≡ ok (record { it = f .nodes; next = end }) =
       ap₂ (λ (i j : ℕ). nodes i s j) ec (omega arith)
       ∙ nodes-read (f .nodes) (at + 6 + length (f .inputs) + 4 * length (f .outputs)) end (c .nodes) (moved s (omega arith) hn) (p .nodes) (b .nodes) (omega arith) l in
       passes (leb (at + 6) (length s)) 5 at _ (fit at 6 (omega arith))
-      ∙ passes (inRange limit (u16 s at) nin nout count) 6 at _ (rw (ed, ei, eo′, ec) ranges)
-      ∙ takes (inputs nin s (at + 6)) _ _ r1
-      ∙ takes (outputs nout s (at + 6 + nin)) _ _ r2
-      ∙ takes (nodes count s (at + 6 + nin + 4 * nout)) _ _ r3
+      ∙ passes (inRange limit (u16 s at) inputCount outputCount count) 6 at _ (rw (ed, ei, eo′, ec) ranges)
+      ∙ takes (inputs inputCount s (at + 6)) _ _ r1
+      ∙ takes (outputs outputCount s (at + 6 + inputCount)) _ _ r2
+      ∙ takes (nodes count s (at + 6 + inputCount + 4 * outputCount)) _ _ r3
       ∙ part-is (function-is ed (p .head)) refl
     where
       ranges : inRange limit (f .id) (length (f .inputs)) (length (f .outputs)) (length (f .nodes)) ≡ true
@@ -213,7 +213,7 @@ module _ (format : Format) (plain : Plain format) (s : List ℕ) where
       let lo = d .some-function in
       let hi = d .count in
       passes (leb 8 (length s)) 1 0 _ (le-leb 8 (length s) (omega arith))
-      ∙ passes (marked s) 2 0 _ (rw (b0, b1, b2) refl)
+      ∙ passes (tableMarked s) 2 0 _ (rw (b0, b1, b2) refl)
       ∙ passes (eqb (u16 s 3) (format .version)) 3 3 _ (eq-eqb _ _ ev)
       ∙ passes (eqb (format .size s) (length s)) 4 6 _ (eq-eqb _ _ el)
       ∙ passes (leb 1 (byte s 5) && leb (byte s 5) 16) 6 5 _ (rw bc (and-both (leb 1 (length fs)) (leb (length fs) 16) (le-leb 1 (length fs) lo) (le-leb (length fs) 16 hi)))

@@ -89,19 +89,19 @@ nodes (suc n) s at = do
 
 -- the fields of a function's head: id, input count, output count, node count
 abbrev pub inRange : ℕ → ℕ → ℕ → ℕ → ℕ → Bool
-inRange limit id nin nout count = leb 1 id && leb nin portLimit && (leb 1 nout && leb nout portLimit) && leb count limit
+inRange limit id inputCount outputCount count = leb 1 id && leb inputCount portLimit && (leb 1 outputCount && leb outputCount portLimit) && leb count limit
 
 abbrev pub function : ℕ → List ℕ → ℕ → Outcome (Part Function)
 function limit s at =
-    let nin = byte s (at + 2) in
-    let nout = byte s (at + 3) in
+    let inputCount = byte s (at + 2) in
+    let outputCount = byte s (at + 3) in
     let count = u16 s (at + 4) in
     do
       fits s at 6
-      need (inRange limit (u16 s at) nin nout count) 6 at
-      ins ← inputs nin s (at + 6)
-      outs ← outputs nout s (at + 6 + nin)
-      ns ← nodes count s (at + 6 + nin + 4 * nout)
+      need (inRange limit (u16 s at) inputCount outputCount count) 6 at
+      ins ← inputs inputCount s (at + 6)
+      outs ← outputs outputCount s (at + 6 + inputCount)
+      ns ← nodes count s (at + 6 + inputCount + 4 * outputCount)
       ok (record { it = record { id = u16 s at; place = at; inputs = ins; outputs = outs; nodes = ns .it }; next = ns .next })
 
 abbrev pub functions : ℕ → ℕ → List ℕ → ℕ → Outcome (Part (List Function))
@@ -113,13 +113,13 @@ functions limit (suc n) s at = do
 
 -- ---- the table
 
-abbrev pub marked : List ℕ → Bool
-marked s = eqb (byte s 0) 0x49 && eqb (byte s 1) 0x46 && eqb (byte s 2) 0x47
+abbrev pub tableMarked : List ℕ → Bool
+tableMarked s = eqb (byte s 0) 0x49 && eqb (byte s 1) 0x46 && eqb (byte s 2) 0x47
 
 abbrev pub parse : Format → List ℕ → Outcome (List Function)
 parse format s = do
   need (leb 8 (length s)) 1 0
-  need (marked s) 2 0
+  need (tableMarked s) 2 0
   need (eqb (u16 s 3) (format .version)) 3 3
   need (eqb (format .size s) (length s)) 4 6
   need (leb 1 (byte s 5) && leb (byte s 5) functionLimit) 6 5

@@ -60,11 +60,11 @@ times (suc n) h hs = h ∷ times n h hs
 
 -- id, input count, output count and node count are in their ranges
 abbrev pub HeadRight : ℕ → ℕ → ℕ → ℕ → ℕ → Type 0
-HeadRight limit id nin nout count = (1 ≤ id) × (nin ≤ portLimit) × (1 ≤ nout) × (nout ≤ portLimit) × (count ≤ limit)
+HeadRight limit id inputCount outputCount count = (1 ≤ id) × (inputCount ≤ portLimit) × (1 ≤ outputCount) × (outputCount ≤ portLimit) × (count ≤ limit)
 
 -- or one of them is not
 abbrev pub HeadWrong : ℕ → ℕ → ℕ → ℕ → ℕ → Type 0
-HeadWrong limit id nin nout count = (id ≡ 0) ⊎ ((portLimit < nin) ⊎ ((nout ≡ 0) ⊎ ((portLimit < nout) ⊎ (limit < count))))
+HeadWrong limit id inputCount outputCount count = (id ≡ 0) ⊎ ((portLimit < inputCount) ⊎ ((outputCount ≡ 0) ⊎ ((portLimit < outputCount) ⊎ (limit < count))))
 
 -- ---- the reading
 
@@ -73,10 +73,10 @@ module _ (limit : ℕ) (s : List ℕ) where
   abbrev pub fields : Shape → ℕ → List Check
   fields head at =
       let id = u16 s at in
-      let nin = byte s (at + 2) in
-      let nout = byte s (at + 3) in
+      let inputCount = byte s (at + 2) in
+      let outputCount = byte s (at + 3) in
       let count = u16 s (at + 4) in
-      check 6 at (HeadRight limit id nin nout count) (HeadWrong limit id nin nout count) ∷ []
+      check 6 at (HeadRight limit id inputCount outputCount count) (HeadWrong limit id inputCount outputCount count) ∷ []
   fields input at = check 6 at (TypeCode (byte s at)) (NoTypeCode (byte s at)) ∷ []
   fields output at = check 6 at (TypeCode (byte s at)) (NoTypeCode (byte s at)) ∷ []
   fields node at =

@@ -76,8 +76,8 @@ pub record Served (m : List ℕ) (next : ℕ) (o : Inlined) (ts : List ℕ) (mea
   pub kept : Keeps next (o .next) m (executeAll (o .code) m)
   pub stand : Stand (executeAll (o .code) m) (o .next) (o .ports) values
 
-abbrev pub Serves : Inline → Call → List Function → Type 0
-Serves go call early =
+abbrev pub Simulates : Inline → Call → List Function → Type 0
+Simulates go call early =
     (c : ℕ) (g : Function) → findFunction c early ≡ some g → (args : List Value) (ins : List ℕ) (next : ℕ) (m : List ℕ) → Typed (g .inputs) args
     → Stand m next ins args → go c ins next .next ≤ length m → Served m next (go c ins next) (outputTypes (g .outputs)) (call c args)
 
@@ -168,7 +168,7 @@ writtenIds ws = map (λ w. w .id) ws
 
 module _ (early : List Function) (f : Function) (args : List Value) (ins : List ℕ) where
   -- what a node means stands at its ports
-  record Knows (k : ℕ) (m : List ℕ) (hi i : ℕ) (ports : List ℕ) : Type 0 where
+  record MatchesEnv (k : ℕ) (m : List ℕ) (hi i : ℕ) (ports : List ℕ) : Type 0 where
     values : List Value
     meant : nodeMeans (meaningOf early) (f .nodes) args k i ≡ some values
     typed : Typed (givesAt early (findNode i (f .nodes))) values
@@ -176,16 +176,16 @@ module _ (early : List Function) (f : Function) (args : List Value) (ins : List 
 
   abbrev Known : ℕ → List ℕ → ℕ → List Written → Type 0
   Known k m hi [] = Unit {0}
-  Known k m hi (w ∷ ws) = Knows k m hi (w .id) (w .ports) × Known k m hi ws
+  Known k m hi (w ∷ ws) = MatchesEnv k m hi (w .id) (w .ports) × Known k m hi ws
 
-  known-at : (k : ℕ) (m : List ℕ) (hi : ℕ) (ws : List Written) (i : ℕ) → Known k m hi ws → member i (writtenIds ws) ≡ true → Knows k m hi i (portsAt i ws)
+  known-at : (k : ℕ) (m : List ℕ) (hi : ℕ) (ws : List Written) (i : ℕ) → Known k m hi ws → member i (writtenIds ws) ≡ true → MatchesEnv k m hi i (portsAt i ws)
   known-at k m hi [] i h e = let z : _≡_ {A = ℕ} 0 1 = cc in absurd (omega arith)
   known-at k m hi (w ∷ ws) i (x, h) e = pickOne (eqb (w .id) i) refl (λ g. known-at k m hi ws i h g) e
     where
       pickOne :
-          (b : Bool) → eqb (w .id) i ≡ b → (member i (writtenIds ws) ≡ true → Knows k m hi i (portsAt i ws))
-          → cond b true (member i (writtenIds ws)) ≡ true → Knows k m hi i (cond b (w .ports) (portsAt i ws))
-      pickOne true q ih g = subst (λ (j : ℕ). Knows k m hi j (w .ports)) (eqb-true (w .id) i q) x
+          (b : Bool) → eqb (w .id) i ≡ b → (member i (writtenIds ws) ≡ true → MatchesEnv k m hi i (portsAt i ws))
+          → cond b true (member i (writtenIds ws)) ≡ true → MatchesEnv k m hi i (cond b (w .ports) (portsAt i ws))
+      pickOne true q ih g = subst (λ (j : ℕ). MatchesEnv k m hi j (w .ports)) (eqb-true (w .id) i q) x
       pickOne false q ih g = ih g
 
   -- more depth, and more memory
@@ -239,7 +239,7 @@ module _ (early : List Function) (f : Function) (args : List Value) (ins : List 
 
   -- ---- a node
 
-  module _ (sound : Sound early f) (serves : Serves (inlined early) (meaningOf early) early) (inputs : Typed (f .inputs) args) where
+  module _ (sound : Sound early f) (serves : Simulates (inlined early) (meaningOf early) early) (inputs : Typed (f .inputs) args) where
     module _ (k : ℕ) (m : List ℕ) (next : ℕ) (ws : List Written) (stood : Stand m next ins args) (known : Known k m next ws) where
       abbrev NodeServed : Node → Payload → Type 0
       NodeServed n p =
@@ -301,7 +301,7 @@ module _ (early : List Function) (f : Function) (args : List Value) (ins : List 
         let r = node-served (length ws) m next ws stood known n (within n (inl refl)) fit (omega arith) in
         let m′ = executeAll (o .code) m in
         let size : length m′ ≡ length m = r .kept .size in
-        let knows : Knows (suc (length ws)) m′ (o .next) (n .id) (o .ports) =
+        let knows : MatchesEnv (suc (length ws)) m′ (o .next) (n .id) (o .ports) =
         record {
           values = r .values;
           meant = r .meant;
@@ -360,14 +360,14 @@ module _ (early : List Function) (f : Function) (args : List Value) (ins : List 
 
 -- ---- the functions
 
-pub serves : (early : List Function) → AllSound early → Serves (inlined early) (meaningOf early) early
+pub serves : (early : List Function) → AllSound early → Simulates (inlined early) (meaningOf early) early
 unfolding inlined meaningOf
 serves [] sound c g e args ins next m typed stood l = let z : _≡_ {A = ℕ} 0 1 = cc in absurd (omega arith)
 serves (f ∷ early) (s, sound) c g e args ins next m typed stood l =
     pickOne (eqb (f .id) c) e (serves early sound) l
   where
     pickOne :
-        (b : Bool) → cond b (some f) (findFunction c early) ≡ some g → Serves (inlined early) (meaningOf early) early
+        (b : Bool) → cond b (some f) (findFunction c early) ≡ some g → Simulates (inlined early) (meaningOf early) early
         → cond b (inlineFunction (inlined early) f ins next) (inlined early c ins next) .next ≤ length m
         → Served m next (cond b (inlineFunction (inlined early) f ins next) (inlined early c ins next)) (outputTypes (g .outputs))
         (cond b (functionMeans (meaningOf early) f args) (meaningOf early c args))

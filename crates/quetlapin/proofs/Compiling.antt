@@ -15,7 +15,7 @@ use Rattle.bytecode.specs.Run.{places}
 use Rattle.lowering.specs.Answers.{codeOf, compilable, compiled}
 use Rattle.sums.specs.declared.Sizes.{Sizes}
 use Rattle.sums.specs.Position.{functionIn, before}
-use Rattle.sums.specs.Capped.{wordsAt}
+use Rattle.sums.specs.Capped.{resultWordsAt}
 use Rattle.sums.proofs.Accepted.{sound-below}
 use Rattle.sums.proofs.CodeSizes.{function-instructions}
 use Rattle.sums.proofs.CodeLimits.{function-operations}
@@ -47,8 +47,8 @@ module _ (s : List ℕ) (c : ℕ) (starts words : List ℕ) (k : ℕ) (m : Sizes
   unfolding exactSizes
   code-is = ap (λ (x : Sizes). x .code) (r .sizes)
 
-  words-are : m .words ≡ widths (functionIn s k .inputs) + wordsAt s k
-  unfolding exactSizes wordsAt
+  words-are : m .words ≡ widths (functionIn s k .inputs) + resultWordsAt s k
+  unfolding exactSizes resultWordsAt
   words-are = ap (λ (x : Sizes). x .words) (r .sizes)
 
   pub measured : compiler.Measured s k (m .instructions) (m .arguments) (m .outputs)

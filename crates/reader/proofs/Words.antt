@@ -13,7 +13,7 @@ use Rattle.value.specs.declared.Value.the-variants.{Vector, Matrix}
 use Rattle.ports.specs.Ports.{width}
 use Rattle.value.specs.Values as Values
 use Rattle.value.specs.Values.{vec, row, mat, valueOf}
-use Rattle.reader.specs.Records.{floatAt, rowAt, matrixAt, vectorAt}
+use Rattle.reader.specs.Records.{floatConstant, rowAt, matrixAt, vectorAt}
 use Rattle.base.specs.Bytes.{u64, constants}
 
 -- ---- the value that the words stand for
@@ -39,7 +39,7 @@ module _ (w : ℕ → ℕ) (ws : List ℕ) (at n : ℕ) (h : (i : ℕ) → i < n
       rw (h i (omega arith), h (i + 1) (omega arith), h (i + 2) (omega arith), h (i + 3) l, e1, e2, e3)
 
 pub vector-constant : (s : List ℕ) (at : ℕ) → Vector (vectorAt s at) ≡ valueOf 2 (constants 3 s at)
-vector-constant s at = let e : at + 8 + 8 ≡ at + 16 = omega arith in ap (λ (a : ℕ). Vector (vec (floatAt s at) (floatAt s (at + 8)) (floatAt s a))) (sym e)
+vector-constant s at = let e : at + 8 + 8 ≡ at + 16 = omega arith in ap (λ (a : ℕ). Vector (vec (floatConstant s at) (floatConstant s (at + 8)) (floatConstant s a))) (sym e)
 
 pub matrix-constant : (s : List ℕ) (at : ℕ) → Matrix (matrixAt s at) ≡ Matrix (Values.matAt (constants 16 s at) 0)
 matrix-constant s at =

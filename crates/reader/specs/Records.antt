@@ -50,17 +50,17 @@ recordAt s at n = cond (leb (at + n) (length s)) (Record.Ends (at + n)) Record.S
 
 -- ---- constants
 
-abbrev pub floatAt : List ℕ → ℕ → Float
-floatAt s at = Ieee.ofBits binary64 (u64 s at)
+abbrev pub floatConstant : List ℕ → ℕ → Float
+floatConstant s at = Ieee.ofBits binary64 (u64 s at)
 
 abbrev pub rowAt : List ℕ → ℕ → Row
-rowAt s at = row (floatAt s at) (floatAt s (at + 8)) (floatAt s (at + 16)) (floatAt s (at + 24))
+rowAt s at = row (floatConstant s at) (floatConstant s (at + 8)) (floatConstant s (at + 16)) (floatConstant s (at + 24))
 
 abbrev pub matrixAt : List ℕ → ℕ → Mat4
 matrixAt s at = mat (rowAt s at) (rowAt s (at + 32)) (rowAt s (at + 64)) (rowAt s (at + 96))
 
 abbrev pub vectorAt : List ℕ → ℕ → Vec3
-vectorAt s at = vec (floatAt s at) (floatAt s (at + 8)) (floatAt s (at + 16))
+vectorAt s at = vec (floatConstant s at) (floatConstant s (at + 8)) (floatConstant s (at + 16))
 
 -- ---- payloads and nodes
 

@@ -15,7 +15,7 @@ use Rattle.reader.proofs.Passed.{place-next}
 use Rattle.order.specs.Resolve.{target}
 use Rattle.reader.specs.declared.Reads.{Reads}
 use Rattle.resolver.specs.declared.Group.{Group}
-use Rattle.resolver.specs.declared.Reached.{Reached}
+use Rattle.resolver.specs.declared.Frontier.{Frontier}
 use Rattle.reader.specs.Find.{ReadsOf}
 use Rattle.resolver.specs.Slots.{padded, rowOf, rowsOf}
 use Rattle.resolver.specs.Groups.{idsOf, named, sought, entries, Gathered, FoundAll, Found, GroupDone}
@@ -178,7 +178,7 @@ module _ {s : List ℕ} {first count : ℕ} {targets₀ : List ℕ} where
   resolve-start p = record { pass = p; run = run-start refl (sym (ap (rowsOf (nodesAt count s first)) (left-all s count first))) }
 
   module _ {targets : List ℕ} {at i : ℕ} (h : Resolving s first count targets₀ targets at i) where
-    pub resolve-step : {targets' : List ℕ} {r : Reached} → GroupDone s first count at i targets targets' r → Resolving s first count targets₀ targets' (r .at) (r .index)
+    pub resolve-step : {targets' : List ℕ} {r : Frontier} → GroupDone s first count at i targets targets' r → Resolving s first count targets₀ targets' (r .at) (r .index)
     resolve-step {r = r} d =
         let ns = nodesAt count s first in
         let k = r .index - i in

@@ -11,7 +11,7 @@ use Rattle.graph.specs.Look.{reads}
 use Rattle.reader.specs.Layout.{nodesAt, nodePlace}
 use Rattle.order.specs.Resolve.{indexOf}
 use Rattle.resolver.specs.declared.Group.{Group}
-use Rattle.resolver.specs.declared.Reached.{Reached}
+use Rattle.resolver.specs.declared.Frontier.{Frontier}
 use Rattle.resolver.specs.Slots.{rowsOf}
 use Rattle.base.specs.Limits.{nodeLimit, operandLimit, noNode}
 
@@ -56,7 +56,7 @@ pub record Found (ns : List Node) (s : List ℕ) (at n : ℕ) (found : List ℕ)
   pub holds : entries (length (named (nodesAt n s at))) found m ≡ map (sought ns) (named (nodesAt n s at))
 
 -- the rows from node i to the node reached are done
-pub record GroupDone (s : List ℕ) (first count at i : ℕ) (p q : List ℕ) (r : Reached) : Type 0 where
+pub record GroupDone (s : List ℕ) (first count at i : ℕ) (p q : List ℕ) (r : Frontier) : Type 0 where
   pub on : i < r .index
   pub most : r .index ≤ count
   pub place : r .at ≡ nodePlace s at (r .index - i)

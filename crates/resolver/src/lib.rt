@@ -197,7 +197,7 @@ fn scatter(
 // ---- all groups
 
 // The nodes before `index` are done; that one stands at `at`.
-struct Reached {
+struct Frontier {
     at: usize,
     index: usize,
 }
@@ -210,7 +210,7 @@ fn resolve_group(
     at: usize,
     i: usize,
     targets: &mut [u16; SLOT_LIMIT],
-) -> Reached
+) -> Frontier
     requires { ⌜ ReadsNodes count (now s) first × (count ≤ nodeLimit) × (fresh [] (nodesAt count (now s) first) ≡ ok tt) ⌝ }
     requires { ⌜ ReadsNodes (count - i) (now s) at × (i < count) ⌝ }
     ensures { λ r. ⌜ GroupDone (now (s .entry)) first count at i (now (targets .entry)) (now (targets .exit)) r ⌝ }
@@ -221,7 +221,7 @@ fn resolve_group(
     let nodes = g.nodes;
     find_all(s, first, count, &wanted, g.refs, &mut found);
     let end = scatter(s, first, count, at, nodes, &found, targets, i);
-    Reached {
+    Frontier {
         at: end,
         index: i + nodes,
     }

@@ -17,7 +17,7 @@ use Rattle.base.specs.Bytes.{byte, u16}
 use Rattle.base.specs.Limits.{portWordLimit, withinLimits}
 use Rattle.base.proofs.Bools.{and-inv, and-false}
 use Rattle.bytecode.specs.Run.{Instruction, BoardList, execute, executeAll, run}
-use Rattle.bytecode.specs.Code.{addresses, allLess, Listed, readInstructions, countsFit, readCounts, marked, decode}
+use Rattle.bytecode.specs.Code.{addresses, allLess, Listed, readInstructions, countsFit, readCounts, codeMarked, decode}
 use Rattle.bytecode.specs.Answers.{Buffers, ran}
 use Rattle.bytecode.proofs.Decoded.{guard-inv, then-inv, addresses-length, all-less}
 use Rattle.base.proofs.Lists.{some-is, each-less}
@@ -112,7 +112,7 @@ unfolding decode
 decoded s c e =
     let (b, d, q) = is-formed (decode s) c e in
     let (t, e1) = guard-inv (leb 12 (length s)) _ b d in
-    let (u, e2) = guard-inv (marked s) _ b e1 in
+    let (u, e2) = guard-inv (codeMarked s) _ b e1 in
     of-counts s (byte s 5) (byte s 6) (u16 s 8) (u16 s 10) b c e2 d q
 
 -- ---- refusals

@@ -16,10 +16,10 @@ use Rattle.ports.proofs.Laws.{no-kind, words-few}
 use Rattle.base.specs.Bytes.{byte, u16}
 use Rattle.base.specs.Outcome.{Part}
 use Rattle.bytecode.specs.Run.{Instruction, BoardList}
-use Rattle.bytecode.specs.Code.{guard, then, addresses, allLess, readInstruction, nextWord, Listed, readInstructions, readOutputs, countsFit, readCounts, marked, decode}
+use Rattle.bytecode.specs.Code.{guard, then, addresses, allLess, readInstruction, nextWord, Listed, readInstructions, readOutputs, countsFit, readCounts, codeMarked, decode}
 use Rattle.base.proofs.Lists.{some-is}
 use Rattle.bytecode.proofs.Decoded.{then-inv, addresses-length}
-use Rattle.runner.specs.declared.Next.{Next}
+use Rattle.runner.specs.declared.Cursor.{Cursor}
 use Rattle.executor.specs.Execution.{endOf, wordsGiven}
 use Rattle.executor.proofs.Loop.{read-inv}
 use Rattle.runner.specs.declared.Progress.the-variants.{Passed, Refused}
@@ -67,24 +67,24 @@ unfolding passedOf
 wrong-is result none e = refl
 wrong-is result (some i) e = let z : _≡_ {A = ℕ} 0 1 = cc in absurd (omega arith)
 
-here-is : (result : ℕ) (o : Option (Part Instruction)) (x : Next) → passedOf result o ≡ Passed x
+here-is : (result : ℕ) (o : Option (Part Instruction)) (x : Cursor) → passedOf result o ≡ Passed x
     → (i : Part Instruction) × (o ≡ some i) × (x .at ≡ i .next) × (x .result ≡ nextWord result (i .it))
 unfolding passedOf
 here-is result none x e = let z : _≡_ {A = ℕ} 0 1 = cc in absurd (omega arith)
 here-is result (some i) x e =
     let q : record { at = i .next; result = nextWord result (i .it) } ≡ x = cc in
-    (i, refl, sym (ap (λ (y : Next). y .at) q), sym (ap (λ (y : Next). y .result) q))
+    (i, refl, sym (ap (λ (y : Cursor). y .at) q), sym (ap (λ (y : Cursor). y .result) q))
 
 pub stop : (left : ℕ) (s : List ℕ) (at result : ℕ) → 0 < left → readInstruction s at result ≡ none → Refused ≡ endedOf (readInstructions left s at result)
 stop zero s at result h e = absurd (omega arith)
 stop (suc n) s at result h e = sym (after-none n s at result e)
 
-pub record Stepped (left : ℕ) (s : List ℕ) (at result : ℕ) (x : Next) : Type 0 where
+pub record Stepped (left : ℕ) (s : List ℕ) (at result : ℕ) (x : Cursor) : Type 0 where
   pub same : endedOf (readInstructions left s at result) ≡ endedOf (readInstructions (left - 1) s (x .at) (x .result))
   pub next-at : x .at ≤ length s
   pub next-result : x .result ≤ result + 16
 
-pub go-on : (left : ℕ) (s : List ℕ) (at result : ℕ) (x : Next) → 0 < left → passedOf result (readInstruction s at result) ≡ Passed x → Stepped left s at result x
+pub go-on : (left : ℕ) (s : List ℕ) (at result : ℕ) (x : Cursor) → 0 < left → passedOf result (readInstruction s at result) ≡ Passed x → Stepped left s at result x
 go-on zero s at result x h e = absurd (omega arith)
 go-on (suc n) s at result x h e =
     let (i, ei, ea, er) = here-is result (readInstruction s at result) x e in
@@ -130,14 +130,14 @@ unfolding endedOf
 wrong-end none e = refl
 wrong-end (some l) e = let z : _≡_ {A = ℕ} 0 1 = cc in absurd (omega arith)
 
-pub here-end : (o : Option Listed) (x : Next) → endedOf o ≡ Passed x → (l : Listed) × (o ≡ some l) × (x .at ≡ l .at) × (x .result ≡ l .words)
+pub here-end : (o : Option Listed) (x : Cursor) → endedOf o ≡ Passed x → (l : Listed) × (o ≡ some l) × (x .at ≡ l .at) × (x .result ≡ l .words)
 unfolding endedOf
 here-end none x e = let z : _≡_ {A = ℕ} 0 1 = cc in absurd (omega arith)
 here-end (some l) x e =
     let q : record { at = l .at; result = l .words } ≡ x = cc in
-    (l, refl, sym (ap (λ (y : Next). y .at) q), sym (ap (λ (y : Next). y .result) q))
+    (l, refl, sym (ap (λ (y : Cursor). y .at) q), sym (ap (λ (y : Cursor). y .result) q))
 
-pub end-within : (n : ℕ) (s : List ℕ) (first : ℕ) (x : Next) → 12 ≤ length s → endedOf (readInstructions n s 12 first) ≡ Passed x → x .at ≤ length s
+pub end-within : (n : ℕ) (s : List ℕ) (first : ℕ) (x : Cursor) → 12 ≤ length s → endedOf (readInstructions n s 12 first) ≡ Passed x → x .at ≤ length s
 end-within n s first x h e =
     let (l, el, ea, er) = here-end (readInstructions n s 12 first) x e in
     let w : l .at ≤ length s = at-within n s 12 first l h el in
@@ -157,11 +157,11 @@ module _ (s : List ℕ) where
   no-header h = sym (off-check _ (lt-leb 12 (length s) h))
 
   module _ (long : 12 ≤ length s) where
-    pub no-mark : marked s ≡ false → Malformed ≡ checkedOf (decode s)
+    pub no-mark : codeMarked s ≡ false → Malformed ≡ checkedOf (decode s)
     unfolding decode
     no-mark e = sym (on-check _ (le-leb 12 (length s) long) ∙ off-check _ e)
 
-    module _ (mark : marked s ≡ true) where
+    module _ (mark : codeMarked s ≡ true) where
       read : checkedOf (decode s) ≡ checkedOf (readCounts s (byte s 5) (byte s 6) (u16 s 8) (u16 s 10))
       unfolding decode
       read = on-check _ (le-leb 12 (length s) long) ∙ on-check _ mark
@@ -177,7 +177,7 @@ module _ (s : List ℕ) where
         unfolding then checkedOf
         no-instructions e = sym (opened ∙ rw (wrong-end (readInstructions (u16 s 8) s 12 (byte s 5)) e))
 
-        module _ (x : Next) (e : endedOf (readInstructions (u16 s 8) s 12 (byte s 5)) ≡ Passed x) where
+        module _ (x : Cursor) (e : endedOf (readInstructions (u16 s 8) s 12 (byte s 5)) ≡ Passed x) where
           abbrev the-list : Listed
           the-list = here-end (readInstructions (u16 s 8) s 12 (byte s 5)) x e .0
 

@@ -37,14 +37,14 @@ pub enum Ran {
 }
 
 // Where the next instruction stands, and where its result goes.
-pub struct Next {
+pub struct Cursor {
     pub at: usize,
     pub result: usize,
 }
 
 // What follows the instructions that passed.
 pub enum Progress {
-    Passed(Next),
+    Passed(Cursor),
     Refused,
 }
 
@@ -126,7 +126,7 @@ fn check_instruction(s: &[u8], at: usize, result: usize, row: Ports) -> Progress
     if !value::constants_allowed(s, p + 2 * n, c) {
         return Progress::Refused;
     }
-    Progress::Passed(Next {
+    Progress::Passed(Cursor {
         at: p + size,
         result: result + ports::result_words(row, t),
     })
@@ -157,13 +157,13 @@ fn check_instructions(s: &[u8], count: usize, first: usize) -> Progress
         result = next.result;
         left -= 1;
     }
-    Progress::Passed(Next { at, result })
+    Progress::Passed(Cursor { at, result })
 }
 
 // Mark, version and zero byte.
 fn marked(s: &[u8]) -> bool
     requires { ⌜ headerLength ≤ length (now s) ⌝ }
-    ensures { λ r. ⌜ r ≡ Code.marked (now (s .entry)) ⌝ }
+    ensures { λ r. ⌜ r ≡ Code.codeMarked (now (s .entry)) ⌝ }
 {
     if s[0] != 0x49 {
         return false;

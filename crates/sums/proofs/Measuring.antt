@@ -21,7 +21,7 @@ use Rattle.sums.specs.declared.Sums.{Sums}
 use Rattle.sums.specs.declared.PortWords.{PortWords}
 use Rattle.sums.specs.Position.{placeOf, functionIn, before}
 use Rattle.sums.specs.CodeSums.{functionInstructions, functionBytes, instructionsOf, bytesOfFunction}
-use Rattle.sums.specs.Capped.{operationCap, wordCap, byteCap, operationsAt, wordsAt, instructionsAt, bytesAt, ownSums, capSums, sumsAt, Summed}
+use Rattle.sums.specs.Capped.{operationCap, wordCap, byteCap, operationsAt, resultWordsAt, instructionsAt, bytesAt, ownSums, capSums, sumsAt, Summed}
 use Rattle.sums.specs.Answers.{codeLength, PortWordsAt, cappedSizes, Measures}
 use Rattle.sums.proofs.CodeSizes.{encode-length}
 use Rattle.sums.proofs.CodeLimits.{bytes-below}
@@ -70,7 +70,7 @@ module _ (s : List ℕ) (k : ℕ) where
         instructions = functionInstructions (instructionsOf (before s k)) (functionIn s k);
         bytes = functionBytes (bytesOfFunction (before s k)) (functionIn s k);
       }
-  unfolding operationsAt wordsAt instructionsAt bytesAt
+  unfolding operationsAt resultWordsAt instructionsAt bytesAt
   own-are = refl
 
   place-is : placeOf s k ≡ functionIn s k .place

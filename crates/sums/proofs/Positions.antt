@@ -19,7 +19,7 @@ use Rattle.reader.proofs.Passed.{length-earlier}
 use Rattle.sums.specs.declared.Sums.{Sums}
 use Rattle.sums.specs.CodeSums.{instructionsOf, bytesOfFunction}
 use Rattle.sums.specs.Position.{placeOf, before, foundAt, positionOf}
-use Rattle.sums.specs.Capped.{operationsAt, wordsAt, instructionsAt, bytesAt, ownSums, noSums}
+use Rattle.sums.specs.Capped.{operationsAt, resultWordsAt, instructionsAt, bytesAt, ownSums, noSums}
 
 -- ---- the search
 
@@ -77,7 +77,7 @@ unfolding operationsOf resultWordsOf instructionsOf bytesOfFunction
 no-sums c = refl
 
 one-sums : (s : List ℕ) (m c : ℕ) → sumsOf (before s (suc m)) c ≡ cond (eqb (u16 s (placeOf s m)) c) (ownSums s m) (sumsOf (before s m) c)
-unfolding operationsOf resultWordsOf instructionsOf bytesOfFunction operationsAt wordsAt instructionsAt bytesAt earlier functionAt
+unfolding operationsOf resultWordsOf instructionsOf bytesOfFunction operationsAt resultWordsAt instructionsAt bytesAt earlier functionAt
 one-sums s m c = pickOne (eqb (u16 s (placeOf s m)) c) (ownSums s m) (sumsOf (before s m) c)
   where
     pickOne : (b : Bool) (x y : Sums)
@@ -96,7 +96,7 @@ module _ (s : List ℕ) (k c g : ℕ) (eg : g ≡ positionOf s k c) where
     pub sums-at : sumsOf (before s k) c ≡ ownSums s g
     sums-at = at-position s sumsOf (ownSums s) noSums no-sums (one-sums s) k c b (subst (λ (q : ℕ). q < k) eg h) ∙ ap (ownSums s) (sym eg)
 
-    pub words-at : resultWordsOf (before s k) c ≡ wordsAt s g
+    pub words-at : resultWordsOf (before s k) c ≡ resultWordsAt s g
     words-at = ap (λ (x : Sums). x .words) sums-at
 
   module _ (h : k ≤ g) where

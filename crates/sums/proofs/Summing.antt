@@ -21,7 +21,7 @@ use Rattle.reader.proofs.Passed.{first-reads, rest-reads}
 use Rattle.sums.specs.declared.Sums.{Sums}
 use Rattle.sums.specs.CodeSums.{nodeInstructions, nodeBytes, instructionsOf, bytesOfFunction}
 use Rattle.sums.specs.Position.{placeOf, before, positionOf}
-use Rattle.sums.specs.Capped.{operationCap, wordCap, byteCap, operationsAt, wordsAt, instructionsAt, bytesAt, ownSums, addsWords, addsSums, noSums, both, capSums, Small, nodesSums, callSums, plainSums, Caps, sumsAt, AllSummed}
+use Rattle.sums.specs.Capped.{operationCap, wordCap, byteCap, operationsAt, resultWordsAt, instructionsAt, bytesAt, ownSums, addsWords, addsSums, noSums, both, capSums, Small, nodesSums, callSums, plainSums, Caps, sumsAt, AllSummed}
 use Rattle.sums.proofs.Nodes.{row-is, call-payload, plain-form}
 use Rattle.sums.proofs.Positions.{sumsOf, sums-at, sums-none}
 
@@ -148,5 +148,5 @@ module _ (s : List ℕ) (n first k : ℕ) where
 
 -- the sums of the function at position k are those over its nodes
 pub sums-are : (s : List ℕ) (k : ℕ) → ownSums s k ≡ nodesSums s k (nodesAt (nodeCount s (placeOf s k)) s (nodesPlace s (placeOf s k)))
-unfolding operationsAt wordsAt instructionsAt bytesAt functionAt
+unfolding operationsAt resultWordsAt instructionsAt bytesAt functionAt
 sums-are s k = refl

@@ -27,8 +27,8 @@ byteCap = codeLimit + 1
 unfoldable pub operationsAt : List ℕ → ℕ → ℕ
 operationsAt s k = functionOperations (operationsOf (before s k)) (functionIn s k)
 
-unfoldable pub wordsAt : List ℕ → ℕ → ℕ
-wordsAt s k = resultWords (resultWordsOf (before s k)) (functionIn s k)
+unfoldable pub resultWordsAt : List ℕ → ℕ → ℕ
+resultWordsAt s k = resultWords (resultWordsOf (before s k)) (functionIn s k)
 
 unfoldable pub instructionsAt : List ℕ → ℕ → ℕ
 instructionsAt s k = functionInstructions (instructionsOf (before s k)) (functionIn s k)
@@ -37,7 +37,7 @@ unfoldable pub bytesAt : List ℕ → ℕ → ℕ
 bytesAt s k = functionBytes (bytesOfFunction (before s k)) (functionIn s k)
 
 abbrev pub ownSums : List ℕ → ℕ → Sums
-ownSums s k = record { operations = operationsAt s k; words = wordsAt s k; instructions = instructionsAt s k; bytes = bytesAt s k }
+ownSums s k = record { operations = operationsAt s k; words = resultWordsAt s k; instructions = instructionsAt s k; bytes = bytesAt s k }
 
 -- what a node adds to the sums of the function at position k
 abbrev pub addsWords : List ℕ → ℕ → Node → ℕ
@@ -108,7 +108,7 @@ abbrev pub cappedOperations : List ℕ → ℕ → ℕ
 cappedOperations s k = min operationCap (operationsAt s k)
 
 abbrev pub cappedWords : List ℕ → ℕ → ℕ
-cappedWords s k = min wordCap (wordsAt s k)
+cappedWords s k = min wordCap (resultWordsAt s k)
 
 abbrev pub cappedInstructions : List ℕ → ℕ → ℕ
 cappedInstructions s k = min operationCap (instructionsAt s k)

@@ -14,7 +14,7 @@ use Rattle.value.specs.declared.Operator.{Operator}
 use Rattle.value.specs.declared.Operator.the-variants.{Add, Subtract, Multiply, Divide, Minimum, Maximum, Absolute, Remainder, Select, Clamp}
 use Rattle.value.specs.Values.{vec, row, typeOf}
 use Rattle.value.specs.Steps.{zero64, one64, scalar, vector, matrix, Step, stepOf, components, absolute}
-use Rattle.value.specs.Results.{operand, each}
+use Rattle.value.specs.Results.{operand, componentwise}
 use Rattle.value.specs.Typed.{Held, RowHeld, VecHeld, MatHeld, ValueHeld, Typed}
 
 pub zero-held : Held zero64
@@ -107,7 +107,7 @@ keeps Remainder a b c d ha hb hc hd = rem-fits binary64 a b ha
 keeps Select a b c d ha hb hc hd = cond-fits binary64 (Ieee.lt a b) c d hc hd
 keeps Clamp a lo hi d ha hl hh hd = cond-fits binary64 (Ieee.lt a lo) lo _ hl (cond-fits binary64 (Ieee.lt hi a) hi a hh ha)
 
-pub each-typed : (o : Operator) (t : ℕ) (ts : List ℕ) (vs : List Value) → Typed (t ∷ ts) vs → Typed (t ∷ []) (each o vs ∷ [])
+pub each-typed : (o : Operator) (t : ℕ) (ts : List ℕ) (vs : List Value) → Typed (t ∷ ts) vs → Typed (t ∷ []) (componentwise o vs ∷ [])
 each-typed o t ts vs h =
     let at = operand-held (t ∷ ts) vs h in
     (record { type = components-type (stepOf o) (operand vs 0) (operand vs 1) (operand vs 2) (operand vs 3) ∙ first-type t ts vs h; held = components-held (stepOf o) (keeps o) (operand vs 0) (operand vs 1) (operand vs 2) (operand vs 3) (at 0) (at 1) (at 2) (at 3) }, tt)

@@ -34,15 +34,15 @@ abbrev pub composed : List Value → Mat4
 composed vs = mat (scalarRow vs 0 1 2 3) (scalarRow vs 4 5 6 7) (scalarRow vs 8 9 10 11) (scalarRow vs 12 13 14 15)
 
 -- component by component
-abbrev pub each : Operator → List Value → Value
-each o vs = components (stepOf o) (operand vs 0) (operand vs 1) (operand vs 2) (operand vs 3)
+abbrev pub componentwise : Operator → List Value → Value
+componentwise o vs = components (stepOf o) (operand vs 0) (operand vs 1) (operand vs 2) (operand vs 3)
 
 unfoldable pub results : Kind → List ℕ → List Value → List Value
 results unknown ws vs = []
-results addition ws vs = each Add vs ∷ []
-results subtraction ws vs = each Subtract vs ∷ []
-results multiplication ws vs = each Multiply vs ∷ []
-results division ws vs = each Divide vs ∷ []
+results addition ws vs = componentwise Add vs ∷ []
+results subtraction ws vs = componentwise Subtract vs ∷ []
+results multiplication ws vs = componentwise Multiply vs ∷ []
+results division ws vs = componentwise Divide vs ∷ []
 results constant ws vs = valueOf 1 ws ∷ []
 results constvec ws vs = valueOf 2 ws ∷ []
 results constmat ws vs = valueOf 3 ws ∷ []
@@ -56,10 +56,10 @@ results dot ws vs = Scalar (dotProduct (vectorOf vs 0) (vectorOf vs 1)) ∷ []
 results cross ws vs = Vector (crossProduct (vectorOf vs 0) (vectorOf vs 1)) ∷ []
 results matvecmultiplication ws vs = Vector (matrixTimes (matrixOf vs 0) (vectorOf vs 1)) ∷ []
 results transpose ws vs = Matrix (transposed (matrixOf vs 0)) ∷ []
-results min ws vs = each Minimum vs ∷ []
-results max ws vs = each Maximum vs ∷ []
-results abs ws vs = each Absolute vs ∷ []
-results fmod ws vs = each Remainder vs ∷ []
-results select ws vs = each Select vs ∷ []
-results clamp ws vs = each Clamp vs ∷ []
+results min ws vs = componentwise Minimum vs ∷ []
+results max ws vs = componentwise Maximum vs ∷ []
+results abs ws vs = componentwise Absolute vs ∷ []
+results fmod ws vs = componentwise Remainder vs ∷ []
+results select ws vs = componentwise Select vs ∷ []
+results clamp ws vs = componentwise Clamp vs ∷ []
 results call ws vs = []

@@ -13,7 +13,7 @@ use Rattle.reader.specs.Find.{ReadsFunction}
 use Rattle.reader.proofs.Passed.{Holds, function-holds}
 use Rattle.bytecode.specs.Run.{places}
 use Rattle.sums.specs.Position.{placeOf, functionIn}
-use Rattle.sums.specs.Capped.{wordsAt}
+use Rattle.sums.specs.Capped.{resultWordsAt}
 use Rattle.compiler.specs.Emit.{summaryAt}
 use Rattle.compiler.specs.Locating.{PortsCoded}
 use Rattle.sums.specs.Answers.{typesBy}
@@ -129,7 +129,7 @@ entries : (c : tie.After-wide) → let a = entry-of-inputs c .args in getD (a .s
 entries c = let p = place (entry-of-inputs c) in let n = input-count c .0 in omega arith
 
 -- the words of its results
-words : (c : tie.After-wide32) → let a = entry-of-words c .args in c .wide32 .result ≡ wordsAt (a .table .now) (a .k)
+words : (c : tie.After-wide32) → let a = entry-of-words c .args in c .wide32 .result ≡ resultWordsAt (a .table .now) (a .k)
 words c =
     let b = entry-of-words c in
     let e = c .wide32 .ensures .0 ∙ b .pre .0 .2 (b .args .k) (omega arith) in

@@ -9,7 +9,7 @@ use denote.Ref.{now}
 use lib.ListN.{length}
 use borrow.Author.Tests.{not-true, not-false}
 use Rattle.base.specs.Bytes.{byte, u16, Bytes}
-use Rattle.bytecode.specs.Code.{addresses, allLess, readInstructions, countsFit, marked}
+use Rattle.bytecode.specs.Code.{addresses, allLess, readInstructions, countsFit, codeMarked}
 use Rattle.runner.specs.declared.Counts.{Counts}
 use Rattle.runner.specs.declared.Checked.the-variants.{Formed}
 use Rattle.runner.specs.declared.Progress.the-variants.{Passed}
@@ -50,7 +50,7 @@ s1 p = opened (p .before)
 abbrev s2 : tie.Else2 → List ℕ
 s2 p = s1 (long (p .before))
 
-mark-is : (p : tie.Else2) → marked (s2 p) ≡ true
+mark-is : (p : tie.Else2) → codeMarked (s2 p) ≡ true
 mark-is p = sym (p .before .marked .ensures) ∙ not-false _ (p .if2 .left)
 
 abbrev s3 : tie.Else3 → List ℕ
@@ -78,7 +78,7 @@ s4 p = s3 (limits (p .before .before))
 long-is : (p : tie.After-next) → 12 ≤ length (s4 p)
 long-is p = long (mark (limits (p .before .before) .before .before) .before) .if1 .left
 
-marked-is : (p : tie.After-next) → marked (s4 p) ≡ true
+marked-is : (p : tie.After-next) → codeMarked (s4 p) ≡ true
 marked-is p = mark-is (mark (limits (p .before .before) .before .before))
 
 within-is : (p : tie.After-next) → let s = s4 p in countsFit (byte s 5) (byte s 6) (u16 s 8) (u16 s 10) ≡ true

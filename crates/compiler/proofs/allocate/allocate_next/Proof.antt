@@ -2,7 +2,7 @@ use borrow.Author.Needs.{needs}
 use Prim.Native.Nat.{_<_, min}
 use mathlib.Core.Path.{_≡_, refl, _∙_}
 use native.Mathlib.Omega.{arith}
-use Rattle.sums.specs.Capped.{wordCap, wordsAt}
+use Rattle.sums.specs.Capped.{wordCap, resultWordsAt}
 use Rattle.compiler.proofs.Tables.{room-here, passed-over, one-more}
 use Rattle.compiler.proofs.allocate.allocate_next.Statement.{statement}
 use Rattle.compiler.proofs.allocate.allocate_next.Tie as tie
@@ -15,7 +15,7 @@ entry-of-words c = c .before .before .before
 abbrev within-of-call : tie.After-allocate-function-arg3 → tie.Else1
 within-of-call c = c .before .before .before
 
-words : (c : tie.After-wide32) → let a = entry-of-words c .args in c .wide32 .result ≡ min wordCap (wordsAt (a .table .now) (a .j))
+words : (c : tie.After-wide32) → let a = entry-of-words c .args in c .wide32 .result ≡ min wordCap (resultWordsAt (a .table .now) (a .j))
 words c = let b = entry-of-words c in c .wide32 .ensures .0 ∙ b .pre .0 .2 (b .args .j) (omega arith)
 
 returns : tie.Need-returns

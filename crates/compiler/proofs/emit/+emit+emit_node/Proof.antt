@@ -10,7 +10,7 @@ use Rattle.graph.specs.Look.{reads}
 use Rattle.reader.specs.Layout.{kindAt, nodeAt}
 use Rattle.reader.proofs.Passed.{callee-fits, function-fits}
 use Rattle.lowering.specs.Compile.{Inlined}
-use Rattle.compiler.specs.Emit.{Room, Emits, nodeInlined, functionInlined}
+use Rattle.compiler.specs.Emit.{CodeRoom, Emits, nodeInlined, functionInlined}
 use Rattle.sums.specs.Position.{placeOf}
 use Rattle.sums.proofs.Nodes.{call-form}
 use Rattle.sums.proofs.Tabulate.{fewer-starts}
@@ -277,7 +277,7 @@ module _ (t : ℕ) where
         omega arith,
         (
           (omega arith, fewer-starts _ _ _ _ starts (omega arith)),
-          ((λ j lt. e .pre .1 .1 .1 .0 j (omega arith)), subst (λ (o : Inlined). Room (e .args .code .now) (e .args .at) o) (callee d .0 g) (e .pre .1 .1 .1 .1)),
+          ((λ j lt. e .pre .1 .1 .1 .0 j (omega arith)), subst (λ (o : Inlined). CodeRoom (e .args .code .now) (e .args .at) o) (callee d .0 g) (e .pre .1 .1 .1 .1)),
         ),
       )
 

@@ -5,7 +5,7 @@ use borrow.Author.Tests.{le-leb, lt-leb, eq-eqb, ne-eqb}
 use Rattle.base.specs.Outcome.{_>>_, need}
 use Rattle.base.proofs.Outcomes.{passes, fails}
 use Rattle.graph.specs.Format.{version1}
-use Rattle.graph.specs.Read.{marked, parse}
+use Rattle.graph.specs.Read.{tableMarked, parse}
 use Rattle.reader.specs.Records.{seen}
 use Rattle.reader.proofs.Functions.{from-version, from-size, from-count, from-functions, functions-stop, functions-end, functions-over}
 use Rattle.reader.proofs.records.read_table.Statement.{statement}
@@ -30,7 +30,7 @@ start-of-else-8 c = start-of-else-6 (c .before .before .before)
 
 -- ---- what is left to read once the tests have passed
 
-from-mark : (c : tie.Else1) → let s = start-of-else-1 c .args .s .now in parse version1 s ≡ (need (marked s) 2 0 >> from-version s)
+from-mark : (c : tie.Else1) → let s = start-of-else-1 c .args .s .now in parse version1 s ≡ (need (tableMarked s) 2 0 >> from-version s)
 from-mark c = passes _ 1 0 _ (le-leb _ _ (c .if1 .left))
 
 marked-at : (c : tie.Else4) → let s = start-of-else-4 c .args .s .now in parse version1 s ≡ from-version s
