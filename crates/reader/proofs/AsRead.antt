@@ -1,26 +1,27 @@
 -- A node that was read, taken from its bytes: each form's payload, and what it reads.
 use Prim.Native.Nat.{ℕ, _+_, _*_, _≤_}
 use mathlib.Core.Path.{_≡_, refl, sym, ap, _∙_, subst}
-use mathlib.Core.Bool.{true, false}
+use mathlib.Core.Bool.{Bool, true, false, cond}
 use mathlib.Core.List.{List, []}
 use native.Mathlib.Omega.{arith}
 use lib.ListN.{length}
 use Rattle.ports.specs.declared.Form.{Form}
 use Rattle.ports.specs.declared.Form as Forms
 use Rattle.ports.specs.declared.Ports.{Ports}
-use Rattle.ports.specs.Ports.{width, portsOf, arity, formOf, calling, exists, typeFits}
+use Rattle.ports.specs.Ports.{width, portsOf, arity, constantIn, constantWords, formOf, calling, exists, typeFits}
 use Rattle.base.specs.Bytes.{byte, u16, constants}
 use Rattle.base.proofs.Bools.{and-inv}
 use Rattle.value.specs.Values.{valueOf}
 use Rattle.graph.specs.Look.{readsOf}
 use Rattle.graph.specs.Read.{references}
 use Rattle.graph.proofs.Formed.{refs-length}
+use Rattle.reader.specs.declared.Reads.{Reads}
 use Rattle.reader.specs.declared.Payload.{Payload}
 use Rattle.reader.specs.declared.Payload.the-variants.{Constant, Call, References}
-use Rattle.reader.specs.Layout.{kindAt, payloadAt, nodeAt}
-use Rattle.reader.specs.Records.{payloadOf, argumentsAt, operandsAt, nodeOf}
+use Rattle.reader.specs.Layout.{kindAt, payloadAt, nodeAt, nodeEnd}
+use Rattle.reader.specs.Records.{payloadOf, argumentsAt, operandsAt, readsBy, nodeOf}
 use Rattle.reader.specs.Find.{ReadsNode, ReadsOf}
-use Rattle.reader.proofs.Rows.{operands-few, constant-operands, constant-width}
+use Rattle.reader.proofs.Rows.{operands-few, constant-operands, constant-width, row-some}
 use Rattle.reader.proofs.Passed.{head-fits, end-fits, callee-fits, node-legal, form-is, end-by-form}
 
 -- ---- the payload, by the form
@@ -129,3 +130,58 @@ module _ (s : List ℕ) (at : ℕ) (r : ReadsNode s at) where
       pickOne Forms.Form.Constant w l = none (constant-operands (byte s (at + 2)) w) Forms.Form.Constant w refl
       pickOne Forms.Form.References w l = operand-reads w n q
       pickOne Forms.Form.Call w l = absurd (z w)
+
+-- ---- by its row: what it reads, and where it ends
+
+module _ (s : List ℕ) (at : ℕ) (r : ReadsNode s at) where
+  -- behind what a row has it read, and its constant
+  abbrev endOf : Ports → ℕ
+  endOf p = readsBy p s at .first + 3 * readsBy p s at .count + 8 * constantIn (p .form) (p .words)
+
+  abbrev endAs : Form → ℕ
+  endAs h =
+      let p = portsOf (kindAt s at) in
+      let x = cond (calling h) (argumentsAt s at) (operandsAt at (p .operands)) in
+      x .first + 3 * x .count + 8 * constantIn h (p .words)
+
+  by-form : {h : Form} → formOf (kindAt s at) ≡ h → endOf (portsOf (kindAt s at)) ≡ endAs h
+  by-form q = ap endAs q
+
+  there-is : exists (formOf (kindAt s at)) ≡ true
+  there-is = and-inv (exists (formOf (kindAt s at))) (typeFits (portsOf (kindAt s at)) (byte s (at + 3))) (node-legal s at r .1) .0
+
+  module _ (row : Ports) (e : row ≡ portsOf (kindAt s at)) where
+    pub row-reads : ReadsOf s at (readsBy row s at)
+    row-reads = pickOne (calling (row .form)) refl
+      where
+        pickOne : (b : Bool) → calling (row .form) ≡ b → ReadsOf s at (cond b (argumentsAt s at) (operandsAt at (row .operands)))
+        pickOne true q = call-reads s at r (calling-call s at row e q)
+        pickOne false q = other-reads s at r (call-calling s at row e q) (row .operands) (ap (λ (p : Ports). p .operands) e)
+
+    pub row-end : readsBy row s at .first + 3 * readsBy row s at .count + 8 * constantIn (row .form) (row .words) ≡ nodeEnd s at
+    row-end = ap endOf e ∙ pickOne (formOf (kindAt s at)) refl there-is
+      where
+        pickOne : (h : Form) → formOf (kindAt s at) ≡ h → exists h ≡ true → endOf (portsOf (kindAt s at)) ≡ nodeEnd s at
+        pickOne Forms.Form.Absent q x = let z : _≡_ {A = ℕ} 0 1 = cc in absurd (omega arith)
+        pickOne Forms.Form.Constant q x =
+            let o = constant-operands (byte s (at + 2)) q in
+            let c : constantWords (kindAt s at) ≡ portsOf (kindAt s at) .words = ap (λ (f : Form). constantIn f (portsOf (kindAt s at) .words)) q in
+            let a : at + 4 + 8 * constantWords (kindAt s at) ≡ nodeEnd s at = end-by-form s at Forms.Form.Constant q in
+            by-form q ∙ omega (arith, o, c, a)
+        pickOne Forms.Form.References q x = let a : at + 4 + 3 * arity (kindAt s at) ≡ nodeEnd s at = end-by-form s at Forms.Form.References q in by-form q ∙ omega (arith, a)
+        pickOne Forms.Form.Call q x = let a = end-by-form s at Forms.Form.Call q in by-form q ∙ omega (arith, a)
+
+  -- a byte where a call has its argument count
+  pub count-fits : at + 4 + 3 ≤ length s
+  count-fits = pickOne (calling (formOf (kindAt s at))) refl
+    where
+      pickOne : (b : Bool) → calling (formOf (kindAt s at)) ≡ b → at + 4 + 3 ≤ length s
+      pickOne true q = callee-fits s at r (calling-call s at (portsOf (kindAt s at)) refl q) .0
+      pickOne false q =
+          let p = portsOf (kindAt s at) in
+          let a = row-some (byte s (at + 2)) there-is q in
+          let f = end-fits s at r in
+          let x : operandsAt at (p .operands) ≡ readsBy p s at = ap (λ (c : Bool). cond c (argumentsAt s at) (operandsAt at (p .operands))) (sym q) in
+          let b : at + 4 + 3 * p .operands + 8 * constantIn (p .form) (p .words) ≡ nodeEnd s at =
+          ap (λ (y : Reads). y .first + 3 * y .count + 8 * constantIn (p .form) (p .words)) x ∙ row-end p refl in
+          omega (arith, a, b, f)

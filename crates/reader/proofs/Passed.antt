@@ -9,15 +9,15 @@ use native.Mathlib.Omega.{arith}
 use native.Mathlib.Nat.{not-suc-le-zero}
 use native.Mathlib.Numerals.{add-one}
 use lib.Dec.{leb, eqb}
-use lib.ListN.{length, getD, List·getD-map}
+use lib.ListN.{length}
 use borrow.Author.Tests.{leb-true, eq-eqb, ne-eqb}
 use Rattle.base.specs.Limits.{kindLimit}
 use Rattle.ports.specs.declared.Form.{Form}
 use Rattle.ports.specs.declared.Form.the-variants.{Absent, Constant, References, Call}
 use Rattle.ports.specs.declared.Ports.{Ports}
 use Rattle.ports.specs.Kinds.{Kind, kindOf}
-use Rattle.ports.specs.Ports.{absent, portsOf, rows, arity, constantIn, constantWords, formOf, exists, typeFits, legal}
-use Rattle.ports.proofs.Laws.{no-kind, row-of}
+use Rattle.ports.specs.Ports.{absent, portsOf, formOf, exists, typeFits, legal}
+use Rattle.ports.proofs.Laws.{no-kind}
 use Rattle.base.specs.Outcome.{ok, Part}
 use Rattle.base.specs.Bytes.{byte, u16}
 use Rattle.graph.specs.Graph.{Payload, Node, Output}
@@ -27,7 +27,6 @@ use Rattle.base.proofs.Bools.{and-inv}
 use Rattle.base.proofs.Numbers.{lt-or-le}
 use Rattle.base.proofs.Outcomes.{took, passed}
 use Rattle.reader.specs.Layout.{kindAt, payloadEnd, nodeAt, nodeEnd, nodesAt, nodePlace, inputCount, nodeCount, nodesPlace, functionAt, functionPlace, earlier}
-use Rattle.reader.specs.Sizes.{sizeBy, nodeSize, nodeSizes, operandCounts}
 use Rattle.reader.specs.Find.{ReadsNode, ReadsNodes, ReadsFunction, nodeFound, functionFound}
 use Rattle.reader.specs.declared.Found.the-variants.{At, Nothing}
 use Rattle.reader.proofs.Standing.{node-read}
@@ -96,51 +95,6 @@ end-by-form s at h q = ap (λ (f : Form). payloadEnd f (kindAt s at) s (at + 4))
 
 pub form-is : (s : List ℕ) (at : ℕ) (row : Ports) → row ≡ portsOf (kindAt s at) → (h : Form) → row .form ≡ h → formOf (kindAt s at) ≡ h
 form-is s at row e h q = ap (λ (r : Ports). r .form) (sym e) ∙ q
-
-module _ (s : List ℕ) (at n : ℕ) (e : n ≡ nodeSize (portsOf (kindAt s at))) where
-  -- a call
-  pub zero-call : n ≡ 0 → formOf (kindAt s at) ≡ Call
-  zero-call z = pickOne (formOf (kindAt s at)) refl (sym e ∙ z)
-    where
-      pickOne : (h : Form) → formOf (kindAt s at) ≡ h → sizeBy h (portsOf (kindAt s at)) ≡ 0 → formOf (kindAt s at) ≡ Call
-      pickOne Absent q w = absurd (omega (arith, w))
-      pickOne Constant q w = absurd (omega (arith, w))
-      pickOne References q w = absurd (omega (arith, w))
-      pickOne Call q w = q
-
-  pub call-zero : formOf (kindAt s at) ≡ Call → n ≡ 0
-  call-zero q = e ∙ ap (λ (h : Form). sizeBy h (portsOf (kindAt s at))) q
-
-  pub end-zero : n ≡ 0 → at + 4 + 3 + 3 * byte s (at + 4 + 2) ≡ nodeEnd s at
-  end-zero z = end-by-form s at Call (zero-call z)
-
-  -- the others
-  pub end-size : (n ≡ 0 → ⊥) → at + n ≡ nodeEnd s at
-  end-size d = pickOne (formOf (kindAt s at)) refl e
-    where
-      pickOne : (h : Form) → formOf (kindAt s at) ≡ h → n ≡ sizeBy h (portsOf (kindAt s at)) → at + n ≡ nodeEnd s at
-      pickOne Absent q w = let a = end-by-form s at Absent q in omega (arith, a, w)
-      pickOne Constant q w =
-          let c : constantWords (kindAt s at) ≡ portsOf (kindAt s at) .words = ap (λ (f : Form). constantIn f (portsOf (kindAt s at) .words)) q in
-          let a : at + 4 + 8 * constantWords (kindAt s at) ≡ nodeEnd s at = end-by-form s at Constant q in
-          omega (arith, a, w, c)
-      pickOne References q w =
-          let a : at + 4 + 3 * arity (kindAt s at) ≡ nodeEnd s at = end-by-form s at References q in
-          omega (arith, a, w)
-      pickOne Call q w = absurd (d w)
-
-any-default : (xs : List ℕ) (i a b : ℕ) → i < length xs → getD xs i a ≡ getD xs i b
-any-default [] i a b h = absurd (not-suc-le-zero h)
-any-default (x ∷ xs) zero a b h = refl
-any-default (x ∷ xs) (suc i) a b h = any-default xs i a b (omega arith)
-
--- the sizes by numbers and by kinds
-pub size-of : (k : ℕ) → k < kindLimit → getD nodeSizes k 0 ≡ nodeSize (portsOf (kindOf k))
-size-of k h = any-default nodeSizes k 0 4 h ∙ List·getD-map nodeSize rows k absent ∙ ap nodeSize (row-of k)
-
--- so too the references
-pub operands-of : (k : ℕ) → getD operandCounts k 0 ≡ arity (kindOf k)
-operands-of k = List·getD-map (λ (r : Ports). r .operands) rows k absent ∙ ap (λ (r : Ports). r .operands) (row-of k)
 
 -- ---- several nodes
 

@@ -5,12 +5,13 @@ use mathlib.Core.List.{List, [], _∷_}
 use native.Mathlib.Omega.{arith}
 use lib.ListN.{length, getD}
 use Rattle.base.specs.Limits.{kindLimit}
-use Rattle.ports.specs.Ports.{portsOf, arity}
+use Rattle.ports.specs.declared.Ports.{Ports}
+use Rattle.ports.specs.Ports.{absent, portsOf, rows, portsAt}
+use Rattle.ports.proofs.Laws.{row-of}
 use Rattle.base.specs.Bytes.{byte}
 use Rattle.reader.specs.Layout.{kindAt, nodeAt, nodeEnd, nodesAt}
-use Rattle.reader.specs.Sizes.{nodeSize, nodeSizes, operandCounts}
 use Rattle.reader.specs.Find.{ReadsNode, ReadsNodes}
-use Rattle.reader.proofs.Passed.{head-fits, first-reads, rest-reads, kind-below, size-of, operands-of}
+use Rattle.reader.proofs.Passed.{head-fits, first-reads, rest-reads, kind-below}
 
 -- the node at a place, which was read
 pub record Here (s : List ℕ) (at : ℕ) : Type 0 where
@@ -21,13 +22,9 @@ pub record Here (s : List ℕ) (at : ℕ) : Type 0 where
 pub node-here : (s : List ℕ) (at : ℕ) → ReadsNode s at → Here s at
 node-here s at r = record { reads = r; head = head-fits s at r; kind = kind-below s at r }
 
--- the size and the operands of its kind, from the tables
-module _ {s : List ℕ} {at k : ℕ} (h : Here s at) (e : k ≡ byte s (at + 2)) where
-  pub size-here : {sizes : List ℕ} → sizes ≡ nodeSizes → getD sizes k 0 ≡ nodeSize (portsOf (kindAt s at))
-  size-here q = ap (λ (l : List ℕ). getD l k 0) q ∙ ap (λ (n : ℕ). getD nodeSizes n 0) e ∙ size-of (byte s (at + 2)) (h .kind)
-
-  pub operands-here : {counts : List ℕ} → counts ≡ operandCounts → getD counts k 0 ≡ arity (kindAt s at)
-  operands-here q = ap (λ (l : List ℕ). getD l k 0) q ∙ ap (λ (n : ℕ). getD operandCounts n 0) e ∙ operands-of (byte s (at + 2))
+-- the row of its kind, from the table
+pub row-here : (s : List ℕ) (at : ℕ) {k : ℕ} {rs : List Ports} → k ≡ byte s (at + 2) → rs ≡ rows → getD rs k absent ≡ portsOf (kindAt s at)
+row-here s at {k} e q = ap (λ (l : List Ports). getD l k absent) q ∙ ap portsAt e ∙ row-of (byte s (at + 2))
 
 pub record Passed (s : List ℕ) (count at i : ℕ) : Type 0 where
   pub index : i ≤ count

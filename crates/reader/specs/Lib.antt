@@ -1,4 +1,3 @@
 pub mod Layout
 pub mod Records
-pub mod Sizes
 pub mod Find

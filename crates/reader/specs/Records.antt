@@ -7,7 +7,8 @@ use lib.ListN.{length}
 use lib.Ieee as Ieee
 use lib.Ieee.{Float, binary64}
 use Rattle.ports.specs.Kinds.{Kind, kindOf}
-use Rattle.ports.specs.Ports.{portsOf}
+use Rattle.ports.specs.declared.Ports.{Ports}
+use Rattle.ports.specs.Ports.{portsOf, calling}
 use Rattle.value.specs.declared.Vec3.{Vec3}
 use Rattle.value.specs.declared.Row.{Row}
 use Rattle.value.specs.declared.Mat4.{Mat4}
@@ -77,6 +78,10 @@ argumentsAt s at = record { first = at + 4 + 3; count = byte s (at + 4 + 2) }
 -- n references behind the head of the node at a place
 abbrev pub operandsAt : ℕ → ℕ → Reads
 operandsAt at n = record { first = at + 4; count = n }
+
+-- what the node at a place reads, whose kind has this row: a call its arguments, another its operands
+abbrev pub readsBy : Ports → List ℕ → ℕ → Reads
+readsBy row s at = cond (calling (row .form)) (argumentsAt s at) (operandsAt at (row .operands))
 
 abbrev pub payloadRead : Kind → ℕ → Outcome (Part Graph.Payload) → PayloadRead
 payloadRead k at (ok p) = PayloadRead.Is (payloadOf k at (p .it)) (p .next)

@@ -1,110 +1,25 @@
 // The way from a node to the next, and from an id to its node or function.
 ghost use mathlib.Core.Path.{_≡_};
 ghost use Prim.Native.Nat.{_+_, _*_, _<_, _≤_};
-ghost use lib.ListN.{getD};
 ghost use Rattle.ports.specs.Ports.{portsOf};
-ghost use Rattle.base.specs.Limits.{functionLimit, kindLimit};
+ghost use Rattle.base.specs.Limits.{functionLimit};
 ghost use Rattle.graph.specs.Format.{version1};
 ghost use Rattle.reader.specs.Layout.{kindAt, nodeEnd, nodesAt, nodePlace, nodesPlace, earlier};
-ghost use Rattle.reader.specs.Sizes.{nodeSize, nodeSizes, operandCounts};
 ghost use Rattle.reader.specs.Find.{ReadsNode, ReadsNodes, ReadsFunction, Started, nodeFound, functionFound};
 use super::Found;
+use super::nodes::reads_by;
 use base::FUNCTION_LIMIT;
-use base::KIND_LIMIT;
 use base::u16_at;
 use base::wide;
+use ports::Ports;
 
-// ---- columns of the port list: loops over nodes go by these, since a row is looked up by a jump
-
-// The bytes of a node of each kind, as the port list has them. 0 stands for a call: its argument count tells them.
-const SIZES: [u8; KIND_LIMIT] = [
-    4,
-    10,
-    10,
-    10,
-    10,
-    12,
-    28,
-    132,
-    13,
-    7,
-    7,
-    52,
-    16,
-    16,
-    10,
-    10,
-    10,
-    7,
-    10,
-    10,
-    7,
-    10,
-    16,
-    13,
-    0,
-];
-
-// How many references a node of each kind has. A call's argument count tells its own.
-const OPERANDS: [u8; KIND_LIMIT] = [
-    0,
-    2,
-    2,
-    2,
-    2,
-    0,
-    0,
-    0,
-    3,
-    1,
-    1,
-    16,
-    4,
-    4,
-    2,
-    2,
-    2,
-    1,
-    2,
-    2,
-    1,
-    2,
-    4,
-    3,
-    0,
-];
-
-// Held in a local, they are not built anew at each use.
-pub fn node_sizes() -> [u8; KIND_LIMIT]
-    ensures { λ r. ⌜ r ≡ nodeSizes ⌝ }
-{
-    SIZES
-}
-
-pub fn operand_counts() -> [u8; KIND_LIMIT]
-    ensures { λ r. ⌜ r ≡ operandCounts ⌝ }
-{
-    OPERANDS
-}
-
-fn node_size(kind: u8) -> u8
-    requires { ⌜ kind < kindLimit ⌝ }
-    ensures { λ r. ⌜ r ≡ getD nodeSizes kind 0 ⌝ }
-{
-    let k = wide(kind);
-    SIZES[k]
-}
-
-// Where the node at `at` ends, by the size of its kind.
-pub fn end_by(s: &[u8], at: usize, bytes: u8) -> usize
-    requires { ⌜ ReadsNode (now s) at × (bytes ≡ nodeSize (portsOf (kindAt (now s) at))) ⌝ }
+// Where the node at `at` ends, whose kind has this row: behind what it reads and its constant.
+pub fn end_by(s: &[u8], at: usize, row: Ports) -> usize
+    requires { ⌜ ReadsNode (now s) at × (row ≡ portsOf (kindAt (now s) at)) ⌝ }
     ensures { λ r. ⌜ r ≡ nodeEnd (now (s .entry)) at ⌝ }
 {
-    if bytes == 0 {
-        at + 4 + 3 + 3 * wide(s[at + 4 + 2])
-    } else {
-        at + wide(bytes)
-    }
+    let r = reads_by(s, at, row);
+    r.first + 3 * r.count + 8 * ports::constant_words(row)
 }
 
 // Where the node at `at` ends.
@@ -112,7 +27,7 @@ pub fn node_end(s: &[u8], at: usize) -> usize
     requires { ⌜ ReadsNode (now s) at ⌝ }
     ensures { λ r. ⌜ r ≡ nodeEnd (now (s .entry)) at ⌝ }
 {
-    end_by(s, at, node_size(s[at + 2]))
+    end_by(s, at, ports::ports_of(s[at + 2]))
 }
 
 // Where the nodes of the function at `at` begin.
@@ -128,16 +43,13 @@ pub fn find_node(s: &[u8], first: usize, count: usize, id: usize) -> Found
     requires { ⌜ ReadsNodes count (now s) first ⌝ }
     ensures { λ r. ⌜ r ≡ nodeFound 0 id (nodesAt count (now (s .entry)) first) ⌝ }
 {
-    let sizes = node_sizes();
     let mut at = first;
     let mut i = 0;
     while i < count {
         if u16_at(s, at) == id {
             return Found::At(i, at);
         }
-        let k = wide(s[at + 2]);
-        let bytes = sizes[k];
-        at = end_by(s, at, bytes);
+        at = node_end(s, at);
         i += 1;
     }
     Found::Nothing

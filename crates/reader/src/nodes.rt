@@ -1,14 +1,14 @@
 // Nodes whose reading passed: what they call, what they read, their constants.
 ghost use mathlib.Core.Path.{_≡_};
+ghost use mathlib.Core.Bool.{cond};
 ghost use Prim.Native.Nat.{_+_};
-ghost use Rattle.ports.specs.Ports.{portsOf, formOf, arity};
+ghost use Rattle.ports.specs.Ports.{portsOf, formOf};
 ghost use Rattle.ports.specs.declared.Form as Forms;
 ghost use Rattle.base.specs.Bytes.{u16};
 ghost use Rattle.graph.specs.Read.{payload};
 ghost use Rattle.reader.specs.Layout.{kindAt, nodeAt};
-ghost use Rattle.reader.specs.Sizes.{nodeSize};
 ghost use Rattle.reader.specs.Find.{ReadsNode, ReadsOf};
-ghost use Rattle.reader.specs.Records.{argumentsAt, operandsAt, payloadOf, nodeOf};
+ghost use Rattle.reader.specs.Records.{argumentsAt, operandsAt, readsBy, payloadOf, nodeOf};
 use super::Node;
 use super::Payload;
 use super::Reads;
@@ -86,34 +86,31 @@ pub fn node_at(s: &[u8], at: usize) -> Node
     }
 }
 
+fn either(first: bool, a: usize, b: usize) -> usize
+    ensures { λ r. ⌜ r ≡ cond first a b ⌝ }
+{
+    if first { a } else { b }
+}
+
+// What the node at `at` reads, whose kind has this row. The byte of a call's argument count is read from every node: a
+// jump by the kind would often be predicted wrongly.
+pub fn reads_by(s: &[u8], at: usize, row: Ports) -> Reads
+    requires { ⌜ ReadsNode (now s) at × (row ≡ portsOf (kindAt (now s) at)) ⌝ }
+    ensures { λ r. ⌜ (r ≡ readsBy row (now (s .entry)) at) × ReadsOf (now (s .entry)) at r ⌝ }
+{
+    let n = wide(s[at + 4 + 2]);
+    let form = row.form;
+    let call = ports::is_call(form);
+    Reads {
+        first: either(call, at + 4 + 3, at + 4),
+        count: either(call, n, wide(row.operands)),
+    }
+}
+
 // What the node at `at` reads.
 pub fn reads_at(s: &[u8], at: usize) -> Reads
     requires { ⌜ ReadsNode (now s) at ⌝ }
     ensures { λ r. ⌜ ReadsOf (now (s .entry)) at r ⌝ }
 {
-    let row = ports::ports_of(s[at + 2]);
-    let form = row.form;
-    if ports::is_call(form) {
-        arguments_at(s, at)
-    } else {
-        Reads {
-            first: at + 4,
-            count: wide(row.operands),
-        }
-    }
-}
-
-// What the node at `at` reads, by the size and the operands of its kind.
-pub fn reads_by(s: &[u8], at: usize, bytes: u8, operands: u8) -> Reads
-    requires { ⌜ ReadsNode (now s) at × (bytes ≡ nodeSize (portsOf (kindAt (now s) at))) × (operands ≡ arity (kindAt (now s) at)) ⌝ }
-    ensures { λ r. ⌜ ReadsOf (now (s .entry)) at r ⌝ }
-{
-    if bytes == 0 {
-        arguments_at(s, at)
-    } else {
-        Reads {
-            first: at + 4,
-            count: wide(operands),
-        }
-    }
+    reads_by(s, at, ports::ports_of(s[at + 2]))
 }
