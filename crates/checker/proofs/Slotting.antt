@@ -1,22 +1,19 @@
 -- References by their slots, and the slots of a node.
 use Prim.Native.Nat.{ℕ, zero, suc, _+_, _*_, _<_, _≤_}
-use mathlib.Core.Path.{_≡_, refl, ap, sym, _∙_, subst}
-use mathlib.Core.Bool.{Bool, true, false, cond}
-use mathlib.Core.List.{List, [], _∷_}
+use mathlib.Core.Path.{_≡_, ap, sym, _∙_, subst}
+use mathlib.Core.List.{List}
 use mathlib.Core.Option.{Option, none, some}
 use native.Mathlib.Omega.{arith}
 use native.Mathlib.Nat.{not-suc-le-zero}
-use lib.Dec.{eqb}
 use lib.ListN.{length, getD, getElem?}
 use lib.Seq.{sets}
-use borrow.Author.Tests.{ne-eqb}
 use Rattle.base.specs.Bytes.{u16}
 use Rattle.graph.specs.Graph.{Ref, Node}
 use Rattle.graph.specs.Look.{findNode, reads}
 use Rattle.graph.specs.Read.{reference, references}
 use Rattle.order.specs.Indices.{slot}
-use Rattle.order.specs.Resolve.{indexOf, target}
-use Rattle.order.proofs.Nodes.{index-of}
+use Rattle.order.specs.Resolve.{target}
+use Rattle.order.proofs.Nodes.{index-of, no-index}
 use Rattle.reader.specs.Layout.{nodeAt, nodesAt, nodePlace, nodeCount, nodesPlace, functionAt}
 use Rattle.reader.specs.Find.{ReadsNodes}
 use Rattle.reader.proofs.Passed.{function-holds}
@@ -26,7 +23,7 @@ use Rattle.resolver.proofs.Rows.{row-slot, rows-size, place-at, places-size}
 use Rattle.checker.specs.Slots.{Scene, PlacesAre, RowIs, RowsAre}
 use Rattle.checker.proofs.Wiring.{nodes-of}
 use Rattle.checker.proofs.Whole.{nodes-count, node-of, stands-at}
-use Rattle.base.specs.Limits.{nodeLimit, slotLimit, noNode, operandLimit}
+use Rattle.base.specs.Limits.{nodeLimit, slotLimit, operandLimit}
 
 -- ---- the function that is judged
 
@@ -66,35 +63,29 @@ module _ {s starts : List ℕ} {k : ℕ} {f : Head} (h : Scene s starts k f) whe
             (omega (arith, c, n, few)) size;
       }
 
+  -- ---- the node that a slot tells
+
+  module _ (at i : ℕ) (e : i ≡ target (functionAt s (f .place) .nodes) (some (reference s at))) where
+    pub slot-found : i < f .count → findNode (u16 s at) (functionAt s (f .place) .nodes) ≡ some (nodeAt s (nodePlace s (f .first) i))
+    slot-found l =
+        let ns = functionAt s (f .place) .nodes in
+        let c : length ns ≡ f .count = nodes-count s (f .place) ∙ sym (h .count) in
+        let few = few-nodes in
+        let (m, a, b, q) = index-of (u16 s at) ns (omega (arith, few, c)) (omega (arith, l, c, e)) in
+        b ∙ ap some (stands-at s (f .place) i m (ap (getElem? ns) e ∙ a)) ∙ ap (λ (p : ℕ). some (nodeAt s (nodePlace s p i))) (sym (h .first))
+
+    pub slot-lost : f .count ≤ i → findNode (u16 s at) (functionAt s (f .place) .nodes) ≡ none
+    slot-lost l =
+        let c = nodes-count s (f .place) in
+        let n = h .count in
+        no-index (u16 s at) (functionAt s (f .place) .nodes) (omega (arith, l, c, n, e))
+
 module _ (s : List ℕ) (first count : ℕ) (ps qs : List ℕ) (e : qs ≡ sets ps 0 (placesOf (nodesAt count s first))) (size : length ps ≡ nodeLimit) where
   pub places-length : length qs ≡ nodeLimit
   places-length = ap length e ∙ places-size (nodesAt count s first) ps ∙ size
 
   pub places-are : count ≤ nodeLimit → PlacesAre s first count qs
   places-are l = λ i h. ap (λ (v : List ℕ). getD v i 0) e ∙ place-at s first count ps i h (omega (arith, l, size))
-
--- ---- the node that a slot tells
-
-no-index : (ns : List Node) (id : ℕ) → length ns ≤ indexOf id ns → findNode id ns ≡ none
-no-index [] id h = refl
-no-index (n ∷ ns) id h = pickOne (eqb (n .id) id) (λ l. no-index ns id l) h
-  where
-    pickOne : (b : Bool) → (length ns ≤ indexOf id ns → findNode id ns ≡ none) → suc (length ns) ≤ cond b 0 (suc (indexOf id ns)) → cond b (some n) (findNode id ns) ≡ none
-    pickOne true ih l = absurd (not-suc-le-zero l)
-    pickOne false ih l = ih (omega arith)
-
-module _ (s : List ℕ) (f at i : ℕ) (d : u16 s at ≡ 0 → ⊥) (e : i ≡ target (functionAt s f .nodes) (some (reference s at))) where
-  index-is : i ≡ indexOf (u16 s at) (functionAt s f .nodes)
-  index-is = e ∙ ap (λ (b : Bool). cond b noNode (indexOf (u16 s at) (functionAt s f .nodes))) (ne-eqb (u16 s at) 0 d)
-
-  pub slot-found : i < nodeCount s f → findNode (u16 s at) (functionAt s f .nodes) ≡ some (nodeAt s (nodePlace s (nodesPlace s f) i))
-  slot-found h =
-      let c = nodes-count s f in
-      let (m, a, b, q) = index-of (u16 s at) (functionAt s f .nodes) (omega (arith, h, c, index-is)) in
-      b ∙ ap some (stands-at s f i m (ap (getElem? (functionAt s f .nodes)) index-is ∙ a))
-
-  pub slot-lost : nodeCount s f ≤ i → findNode (u16 s at) (functionAt s f .nodes) ≡ none
-  slot-lost h = let c = nodes-count s f in no-index (functionAt s f .nodes) (u16 s at) (omega (arith, h, c, index-is))
 
 -- ---- the slots of a node
 

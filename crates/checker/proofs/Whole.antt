@@ -158,6 +158,7 @@ module _ (s : List ℕ) (small : Bytes s) (k : ℕ) (f : Head) (ts : List ℕ) w
         resolves = record {
           few = omega (arith, h, e);
           size = rows .size;
+          named = λ n i. is-each FormedNode (fn .nodes) (fm .nodes) n i .id;
           narrow = λ n i. payload-narrow (n .kind) (n .payload) (is-each FormedNode (fn .nodes) (fm .nodes) n i .payload);
           closed = λ n j i m. wired-in early fn (wantsOf early n (n .payload)) (reads n) (rs .wired n i) j m;
           slots = λ i j n q l.
@@ -166,7 +167,6 @@ module _ (s : List ℕ) (small : Bytes s) (k : ℕ) (f : Head) (ts : List ℕ) w
               ∙ ap (λ (x : Node). target (fn .nodes) (getElem? (reads x) j)) (sym (stands-at s (f .place) i n q));
         };
         own = rs .own;
-        named = λ n i. is-each FormedNode (fn .nodes) (fm .nodes) n i .id;
       }
 
 -- ---- where a function ends

@@ -54,7 +54,6 @@ pub record SlotsReady (s : List ℕ) (f : Head) (ts : List ℕ) : Type 0 where
   pub count : f .count ≡ nodeCount s (f .place)
   pub resolves : Resolves ts (functionAt s (f .place) .nodes)
   pub own : (n : Node) → Is n (functionAt s (f .place) .nodes) → findNode (n .id) (functionAt s (f .place) .nodes) ≡ some n
-  pub named : (n : Node) → Is n (functionAt s (f .place) .nodes) → 1 ≤ n .id
 
 -- what a function at f that is good leaves
 pub record Filled (s : List ℕ) (f : ℕ) (ps ts : List ℕ) : Type 0 where

@@ -36,7 +36,7 @@ use Rattle.order.proofs.Nodes.{at-is, at-below, ref-member}
 use Rattle.order.proofs.Scheduled.{schedule-is}
 use Rattle.reader.specs.declared.Reads.{Reads}
 use Rattle.reader.specs.Find.{ReadsNode, ReadsOf}
-use Rattle.reader.proofs.Passed.{head-fits, place-reads, Holds, function-holds}
+use Rattle.reader.proofs.Passed.{head-fits, place-reads, nodes-named, Holds, function-holds}
 use Rattle.compiler.specs.Static.{Location, nowhere, input, offset, Located, locationOf, Summary, Callee, nodeSummary, summary, allocate, Allocation, Agrees}
 use Rattle.sums.specs.Position.{placeOf, functionIn, before, positionOf, Accepted}
 use Rattle.compiler.specs.Locating.{Places, Slots, readCodes, nodeCodes, Codes, PortsCoded, AllOuts, PortsKnown, readCount, NodesAllocated}
@@ -190,6 +190,7 @@ module _ (s : List ℕ) (k c : ℕ) (acc : Accepted s (suc k)) (outs ts places i
       record {
         few = omega arith;
         size = h .size;
+        named = nodes-named s n at (holds .nodes);
         narrow = λ x i. reads-few x i;
         closed = sound-closed (before s k) (functionIn s k) (sound .0) .closed;
         slots = λ i j x g l. h .slots i j x g l;
@@ -309,7 +310,7 @@ module _ (s : List ℕ) (k c : ℕ) (acc : Accepted s (suc k)) (outs ts places i
         codes-are =
             let l : length (nodesAt n s at) ≡ n = length-nodes n s at in
             let f = holds .few in
-            reads-coded ns (omega arith) allocated located (st .known) s ts i x (λ j jl. lent .slots .slots i j x stands jl)
+            reads-coded ns (omega arith) (nodes-named s n at (holds .nodes)) allocated located (st .known) s ts i x (λ j jl. lent .slots .slots i j x stands jl)
             (λ q w g. sound-closed (before s k) (functionIn s k) (sound .0) .closed x (q .node) (at-is ns i x stands) (ref-member (reads x) w q g))
             (r .count) (r .first) reads-are (let z = here-is .narrow-reads in let y = count-is in omega arith)
 

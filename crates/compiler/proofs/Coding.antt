@@ -27,7 +27,7 @@ use Rattle.reader.specs.Layout.{kindAt, payloadAt, nodeAt, outputsAt, outputCou
 use Rattle.bytecode.specs.Run.{places}
 use Rattle.order.specs.Indices.{slot}
 use Rattle.order.specs.Resolve.{indexOf, target}
-use Rattle.order.proofs.Nodes.{index-of, in-index}
+use Rattle.order.proofs.Nodes.{index-of, index-none, in-index}
 use Rattle.compiler.specs.Static.{Location, nowhere, input, offset, rebase, Located, locationsOf, locationOf, Summary, Callee, nodeSummary, summary}
 use Rattle.reader.specs.Find.{ReadsNode}
 use Rattle.reader.proofs.Passed.{callee-fits}
@@ -76,26 +76,33 @@ codes-stored out b es xs h l q =
 
 -- ---- ports of nodes that have their locations
 
-module _ (ns : List Node) (few : length ns ≤ nodeLimit) (allocated : List ℕ) (located : List Located) (known : PortsKnown ns allocated located) where
+module _ (ns : List Node) (few : length ns ≤ nodeLimit) (named : (n : Node) → Is n ns → 1 ≤ n .id) (allocated : List ℕ) (located : List Located)
+    (known : PortsKnown ns allocated located) where
   pub port-coded : (r : Ref) → (r .node ≡ 0) ⊎ Is (r .node) (ids ns) → Codes (portCode allocated (target ns (some r)) (r .port)) (locationOf located r)
   port-coded r h = pickOne (eqb (r .node) 0) refl (leb 8 (r .port)) refl
     where
+      v : ℕ
+      v = indexOf (r .node) ns
+
+      code : Bool → Bool → ℕ
+      code a b = cond a 0 (cond b (getD allocated (8 * v + r .port) 0) (r .port))
+
       pickOne : (b : Bool) → eqb (r .node) 0 ≡ b → (a : Bool) → leb 8 (r .port) ≡ a
-          → Codes
-          (cond a 0 (cond (ltb (cond b noNode (indexOf (r .node) ns)) 256) (getD allocated (8 * cond b noNode (indexOf (r .node) ns) + r .port) 0) (r .port)))
-          (cond b (input (r .port)) (getD (locationsOf (r .node) located) (r .port) nowhere))
+          → Codes (code a (ltb v 256)) (cond b (input (r .port)) (getD (locationsOf (r .node) located) (r .port) nowhere))
       pickOne true q true w = λ l. let z : 8 ≤ r .port = leb-true 8 (r .port) w in absurd (omega arith)
-      pickOne true q false w = λ l. refl
+      pickOne true q false w = λ l.
+          let z : r .node ≡ 0 = eqb-true (r .node) 0 q in
+          let e : v ≡ noNode = index-none (r .node) ns (λ n i s. let o = named n i in omega arith) in
+          ap (code false) (le-ltb v 256 (omega (arith, e)))
       pickOne false q a w =
           let i : Is (r .node) (ids ns) = ⊎-elim (λ z. absurd (eqb-false (r .node) 0 q z)) (λ x. x) h in
-          let l : indexOf (r .node) ns < length ns = in-index (r .node) ns i in
-          let (m, g, f, e) = index-of (r .node) ns l in
-          let c : PortsCoded (locationsOf (r .node) located) allocated (8 * indexOf (r .node) ns) =
-          subst (λ (j : ℕ). PortsCoded (locationsOf j located) allocated (8 * indexOf (r .node) ns)) e (known (indexOf (r .node) ns) m g) in
-          byPort a w c (lt-ltb (indexOf (r .node) ns) 256 (omega arith))
+          let l : v < length ns = in-index (r .node) ns i in
+          let (m, g, f, e) = index-of (r .node) ns few l in
+          let c : PortsCoded (locationsOf (r .node) located) allocated (8 * v) = subst (λ (j : ℕ). PortsCoded (locationsOf j located) allocated (8 * v)) e (known v m g) in
+          byPort a w c (lt-ltb v 256 (omega arith))
         where
-          byPort : (a : Bool) → leb 8 (r .port) ≡ a → PortsCoded (locationsOf (r .node) located) allocated (8 * indexOf (r .node) ns) → ltb (indexOf (r .node) ns) 256 ≡ true
-              → Codes (cond a 0 (cond (ltb (indexOf (r .node) ns) 256) (getD allocated (8 * indexOf (r .node) ns + r .port) 0) (r .port))) (getD (locationsOf (r .node) located) (r .port) nowhere)
+          byPort : (a : Bool) → leb 8 (r .port) ≡ a → PortsCoded (locationsOf (r .node) located) allocated (8 * v) → ltb v 256 ≡ true
+              → Codes (code a (ltb v 256)) (getD (locationsOf (r .node) located) (r .port) nowhere)
           byPort true w c t = no-location 0 (locationsOf (r .node) located) (r .port) (let z = leb-true 8 (r .port) w in let y = c .few in omega arith)
           byPort false w c t = rw t (c .coded (r .port) (leb-false 8 (r .port) w))
 

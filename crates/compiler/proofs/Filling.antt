@@ -8,7 +8,7 @@ use native.Mathlib.Omega.{arith}
 use lib.Dec.{eqb}
 use lib.ListN.{length, getD, replicate, length-replicate}
 use lib.Seq.{sets}
-use Rattle.base.specs.Limits.{nodeLimit, slotLimit}
+use Rattle.base.specs.Limits.{nodeLimit, slotLimit, noNode}
 use Rattle.base.proofs.Numbers.{one-less}
 use Rattle.base.specs.Bytes.{byte}
 use Rattle.base.specs.Lists.{span}
@@ -19,7 +19,7 @@ use Rattle.reader.specs.Find.{nodeFound}
 use Rattle.reader.specs.declared.Found.{Found}
 use Rattle.reader.specs.declared.Found.the-variants.{At, Nothing}
 use Rattle.order.specs.Indices.{slot}
-use Rattle.order.specs.Resolve.{indexOf, target}
+use Rattle.order.specs.Resolve.{indexFrom, indexOf, target}
 use Rattle.sums.specs.Answers.{typesBy}
 use Rattle.compiler.specs.Emit.{copied, addressOf, addressesIn}
 use Rattle.compiler.specs.Locating.{Places, Slots, portCode, readCodes, rebasedCode, rebasedCodes, resultCodes, outputCodes}
@@ -72,28 +72,28 @@ outputs-next s allocated xs q {m} {j} h e = rw e (ap (λ (x : ℕ). outputCodes 
 
 -- ---- the index of an id
 
--- what the search gives is the index v, or none of the m nodes
-abbrev Indexed : ℕ → ℕ → ℕ → Found → Type 0
-Indexed i v m (At j p) = (j ≡ i + v) × (v < m)
-Indexed i v m Nothing = v ≡ m
+-- what the search gives is the index v, which is below m, or none
+abbrev Indexed : ℕ → ℕ → Found → Type 0
+Indexed v m (At j p) = (j ≡ v) × (v < m)
+Indexed v m Nothing = v ≡ noNode
 
-indexed : (i id : ℕ) (ns : List Node) → Indexed i (indexOf id ns) (length ns) (nodeFound i id ns)
+indexed : (i id : ℕ) (ns : List Node) → Indexed (indexFrom i id ns) (i + length ns) (nodeFound i id ns)
 indexed i id [] = refl
 indexed i id (n ∷ ns) = pickOne (eqb (n .id) id) (nodeFound (i + 1) id ns) (indexed (i + 1) id ns)
   where
-    pickOne : (b : Bool) (r : Found) → Indexed (i + 1) (indexOf id ns) (length ns) r
-        → Indexed i (cond b 0 (suc (indexOf id ns))) (suc (length ns)) (cond b (At i (n .place)) r)
-    pickOne true r h = (omega arith, omega arith)
-    pickOne false (At j p) (e, l) = (omega arith, omega arith)
-    pickOne false Nothing h = ap suc h
+    pickOne : (b : Bool) (r : Found) → Indexed (indexFrom (i + 1) id ns) (i + 1 + length ns) r
+        → Indexed (cond b i (indexFrom (i + 1) id ns)) (i + suc (length ns)) (cond b (At i (n .place)) r)
+    pickOne true r h = (refl, omega arith)
+    pickOne false (At j p) (e, l) = (e, omega arith)
+    pickOne false Nothing h = h
 
 pub found-index : (id : ℕ) (ns : List Node) (j p : ℕ) → At j p ≡ nodeFound 0 id ns → (j ≡ indexOf id ns) × (indexOf id ns < length ns)
 found-index id ns j p e =
-    let (a, b) = subst (Indexed 0 (indexOf id ns) (length ns)) (sym e) (indexed 0 id ns) in
-    (a ∙ omega arith, b)
+    let (a, b) = subst (Indexed (indexOf id ns) (0 + length ns)) (sym e) (indexed 0 id ns) in
+    (a, omega arith)
 
-pub none-index : (id : ℕ) (ns : List Node) → Nothing ≡ nodeFound 0 id ns → indexOf id ns ≡ length ns
-none-index id ns e = subst (Indexed 0 (indexOf id ns) (length ns)) (sym e) (indexed 0 id ns)
+pub none-index : (id : ℕ) (ns : List Node) → Nothing ≡ nodeFound 0 id ns → indexOf id ns ≡ noNode
+none-index id ns e = subst (Indexed (indexOf id ns) (0 + length ns)) (sym e) (indexed 0 id ns)
 
 -- ---- what the resolver gives
 

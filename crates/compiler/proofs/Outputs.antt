@@ -17,7 +17,7 @@ use Rattle.graph.specs.Schedule.{schedule}
 use Rattle.graph.specs.Sound.{Wired}
 use Rattle.graph.proofs.Order.{reads-in}
 use Rattle.reader.specs.Layout.{nodesAt, nodesPlace, nodeCount, outputsAt, outputCount, outputsPlace, functionAt, earlier}
-use Rattle.reader.proofs.Passed.{function-holds}
+use Rattle.reader.proofs.Passed.{function-holds, nodes-named}
 use Rattle.compiler.specs.Static.{nowhere, Located, locationOf, summary, allocate}
 use Rattle.sums.specs.Position.{placeOf, functionIn, before, Accepted}
 use Rattle.compiler.specs.Emit.{summaryAt}
@@ -36,12 +36,12 @@ wired-inside early f [] (r ∷ rs) h = absurd h
 wired-inside early f (w ∷ ws) [] h = absurd h
 wired-inside early f (w ∷ ws) (r ∷ rs) (h, hs) = (reads-in early f r w h, wired-inside early f ws rs hs)
 
-outputs-coded : (s allocated : List ℕ) (ns : List Node) (located : List Located) → length ns ≤ nodeLimit → PortsKnown ns allocated located → (m q : ℕ) → Each (Inside ns) (outputRefs (outputsAt m s q))
+outputs-coded : (s allocated : List ℕ) (ns : List Node) (located : List Located) → length ns ≤ nodeLimit → ((n : Node) → Is n ns → 1 ≤ n .id) → PortsKnown ns allocated located → (m q : ℕ) → Each (Inside ns) (outputRefs (outputsAt m s q))
     → AllCodes (outputCodes s allocated ns m q) (map (locationOf located) (outputRefs (outputsAt m s q)))
 unfolding outputCodes
-outputs-coded s allocated ns located few known zero q h = tt
-outputs-coded s allocated ns located few known (suc m) q (h, hs) =
-    (port-coded ns few allocated located known (reference s (q + 1)) h, outputs-coded s allocated ns located few known m (q + 4) hs)
+outputs-coded s allocated ns located few named known zero q h = tt
+outputs-coded s allocated ns located few named known (suc m) q (h, hs) =
+    (port-coded ns few named allocated located known (reference s (q + 1)) h, outputs-coded s allocated ns located few named known m (q + 4) hs)
 
 module _ (s : List ℕ) (k c : ℕ) (acc : Accepted s (suc k)) (order₀ order locations₀ locations outs₀ outs allocated : List ℕ) (r : ℕ) where
   abbrev p : ℕ
@@ -54,9 +54,10 @@ module _ (s : List ℕ) (k c : ℕ) (acc : Accepted s (suc k)) (order₀ order l
   unfolding functionAt earlier
   codes-are h =
       let l : length (nodesAt (nodeCount s p) s (nodesPlace s p)) ≡ nodeCount s p = length-nodes (nodeCount s p) s (nodesPlace s p) in
-      let f = function-holds s p (read-below s (suc k) acc k (omega arith)) .few in
+      let o = function-holds s p (read-below s (suc k) acc k (omega arith)) in
+      let f = o .few in
       let sound = sound-below s (suc k) acc k (omega arith) .0 in
-      outputs-coded s allocated (functionIn s k .nodes) (allocate (summary (before s k)) (schedule (functionIn s k .nodes)) [] 0 .located) (omega arith) (h .known) (outputCount s p) (outputsPlace s p)
+      outputs-coded s allocated (functionIn s k .nodes) (allocate (summary (before s k)) (schedule (functionIn s k .nodes)) [] 0 .located) (omega arith) (nodes-named s (nodeCount s p) (nodesPlace s p) (o .nodes)) (h .known) (outputCount s p) (outputsPlace s p)
       (wired-inside (before s k) (functionIn s k) (outputTypes (functionIn s k .outputs)) (outputRefs (functionIn s k .outputs)) (sound .resolved .answers))
 
   pub function-allocated : NodesAllocated s k c order₀ order locations₀ locations allocated r → {q n at : ℕ} → q ≡ p → n ≡ nodeCount s p → at ≡ nodesPlace s p

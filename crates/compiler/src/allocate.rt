@@ -33,7 +33,7 @@ use base::wide16;
 use base::wide32;
 use reader::Found;
 
-// The index of the node that the reference at q reads, or `NO_NODE` for an input.
+// The index of the node that the reference at q reads, or `NO_NODE`.
 fn target(table: &[u8], at: usize, n: usize, q: usize) -> u16
     requires { ⌜ (n ≤ nodeLimit) × (q + 2 ≤ length (now table)) × ReadsNodes n (now table) at ⌝ }
     ensures { λ r. ⌜ r ≡ Resolve.target (nodesAt n (now (table .entry)) at) (some (reference (now (table .entry)) q)) ⌝ }
@@ -45,7 +45,7 @@ fn target(table: &[u8], at: usize, n: usize, q: usize) -> u16
     let found = reader::find_node(table, at, n, id);
     match found {
         Found::At(i, _) => i as u16,
-        Found::Nothing => n as u16,
+        Found::Nothing => NO_NODE,
     }
 }
 

@@ -1,5 +1,5 @@
 -- The order and the loops by indices give the check of the loops, 13.
-use Prim.Native.Nat.{ℕ, zero, suc, _≤_, _<_}
+use Prim.Native.Nat.{ℕ, zero, suc, _<_}
 use mathlib.Core.Path.{_≡_, refl, ap, sym, _∙_, subst}
 use mathlib.Core.List.{List, [], _∷_}
 use mathlib.Core.Option.{some}
@@ -63,14 +63,13 @@ module _ (ts : List ℕ) (n : ℕ) where
       ⊎-elim (λ l. let a = loop-at ts n first l refl in let z : _≡_ {A = ℕ} 0 1 = cc in omega arith)
       (λ l. let b = path-below ts n p in before-none i (omega arith) p) (lt-or-le first n)
 
--- ---- the nodes of a function, each with an id of its own that is not 0
+-- ---- the nodes of a function, each with an id of its own
 
 module _
-    (ts : List ℕ) (f : Function) (r : Resolves ts (f .nodes))
-    (own : (n : Node) → Is n (f .nodes) → findNode (n .id) (f .nodes) ≡ some n) (named : (n : Node) → Is n (f .nodes) → 1 ≤ n .id)
+    (ts : List ℕ) (f : Function) (r : Resolves ts (f .nodes)) (own : (n : Node) → Is n (f .nodes) → findNode (n .id) (f .nodes) ≡ some n)
   where
     free : ((x : ℕ) → Path ts (length (f .nodes)) x x → ⊥) → loopFree f ≡ ok tt
-    free h = loop-free-iff f .1 (λ i p. h (indexOf i (f .nodes)) (loop-path ts (f .nodes) r named i p))
+    free h = loop-free-iff f .1 (λ i p. h (indexOf i (f .nodes)) (loop-path ts (f .nodes) r i p))
 
     order-size : length (indexOrder ts (length (f .nodes))) ≡ length (schedule (f .nodes))
     order-size =
@@ -100,5 +99,5 @@ module _
         let (b, ends, q) = path-leads ts ns r own p x stands in
         let lies : Leads ns (x .id) (x .id) = subst (λ (m : Node). Leads ns (x .id) (m .id)) (some-is (sym ends ∙ stands)) q in
         let none-before : (v : ℕ) (y : Node) → v < i → getElem? ns v ≡ some y → Leads ns (y .id) (y .id) → ⊥ =
-        λ v y h g w. let a = index-first ns v y g in least (indexOf (y .id) ns) (omega arith) (loop-path ts ns r named (y .id) w) in
+        λ v y h g w. let a = index-first ns v y g in least (indexOf (y .id) ns) (omega arith) (loop-path ts ns r (y .id) w) in
         (x, stands, judged-is (loopChecks ns ns) (loopFree f) (fault 13 (x .place)) (loops-judged ns ns) (first-at ns ns i x stands none-before lies))

@@ -1,18 +1,20 @@
 -- Nodes by index and by id, and what the slots of a node hold.
-use Prim.Native.Nat.{ℕ, zero, suc, _≤_, _<_}
-use mathlib.Core.Path.{_≡_, refl, ap, sym, subst}
+use Prim.Native.Nat.{ℕ, zero, suc, _+_, _≤_, _<_}
+use mathlib.Core.Path.{_≡_, refl, ap, sym, _∙_, subst}
 use mathlib.Core.Bool.{Bool, true, false, cond}
 use mathlib.Core.List.{List, [], _∷_, map}
-use mathlib.Core.Option.{some}
+use mathlib.Core.Option.{Option, none, some}
 use mathlib.Core.Logic.{_⊎_, inl, inr, ⊎-elim}
 use native.Mathlib.Omega.{arith}
+use native.Mathlib.Nat.{zero-add}
 use lib.Dec.{eqb}
 use lib.ListN.{length, getElem?}
 use borrow.Author.Tests.{eqb-true, eqb-false, eq-eqb}
 use Rattle.graph.specs.Graph.{Ref, Node}
 use Rattle.graph.specs.Look.{findNode, ids}
 use Rattle.base.specs.Lists.{member, Is}
-use Rattle.order.specs.Resolve.{indexOf}
+use Rattle.base.specs.Limits.{nodeLimit, noNode}
+use Rattle.order.specs.Resolve.{indexFrom, indexOf}
 use Rattle.base.proofs.Lists.{some-is, member-first, member-later, member-inv}
 
 -- ---- what stands at an index
@@ -35,41 +37,67 @@ module _ {A : Type 0} where
 
 -- ---- the index of an id
 
-pub index-of : (j : ℕ) (ns : List Node) → indexOf j ns < length ns
-    → (m : Node) × (getElem? ns (indexOf j ns) ≡ some m) × (findNode j ns ≡ some m) × (m .id ≡ j)
-index-of j [] h = absurd (omega arith)
-index-of j (n ∷ ns) h = pickOne (eqb (n .id) j) refl (λ l. index-of j ns l) h
-  where
-    pickOne :
-        (b : Bool) → eqb (n .id) j ≡ b
-        → (indexOf j ns < length ns → (m : Node) × (getElem? ns (indexOf j ns) ≡ some m) × (findNode j ns ≡ some m) × (m .id ≡ j))
-        → cond b 0 (suc (indexOf j ns)) < suc (length ns)
-        → (m : Node) × (getElem? (n ∷ ns) (cond b 0 (suc (indexOf j ns))) ≡ some m) × (cond b (some n) (findNode j ns) ≡ some m) × (m .id ≡ j)
-    pickOne true q ih l = (n, refl, refl, eqb-true (n .id) j q)
-    pickOne false q ih l = ih (omega arith)
+-- v and o are the index, counted from i, and the node of the id j, or both are none
+abbrev Indexed : ℕ → ℕ → List Node → ℕ → Option Node → Type 0
+Indexed i j ns v o =
+    ((k : ℕ) × (m : Node) × (v ≡ i + k) × (getElem? ns k ≡ some m) × (o ≡ some m) × (m .id ≡ j)) ⊎ ((v ≡ noNode) × (o ≡ none))
 
-pub in-index : (j : ℕ) (ns : List Node) → Is j (ids ns) → indexOf j ns < length ns
-in-index j [] h = absurd h
-in-index j (n ∷ ns) h = pickOne (eqb (n .id) j) refl (λ i. in-index j ns i) h
+indexed : (i j : ℕ) (ns : List Node) → Indexed i j ns (indexFrom i j ns) (findNode j ns)
+indexed i j [] = inr (refl, refl)
+indexed i j (n ∷ ns) = pickOne (eqb (n .id) j) refl (indexed (i + 1) j ns)
   where
     pickOne :
-        (b : Bool) → eqb (n .id) j ≡ b → (Is j (ids ns) → indexOf j ns < length ns) → (j ≡ n .id) ⊎ Is j (ids ns)
-        → cond b 0 (suc (indexOf j ns)) < suc (length ns)
+        (b : Bool) → eqb (n .id) j ≡ b → Indexed (i + 1) j ns (indexFrom (i + 1) j ns) (findNode j ns)
+        → Indexed i j (n ∷ ns) (cond b i (indexFrom (i + 1) j ns)) (cond b (some n) (findNode j ns))
+    pickOne true q h = inl (0, n, omega arith, refl, refl, eqb-true (n .id) j q)
+    pickOne false q (inl (k, m, e, stands, found, same)) = inl (suc k, m, omega arith, stands, found, same)
+    pickOne false q (inr h) = inr h
+
+-- the node at the index of an id
+pub index-of : (j : ℕ) (ns : List Node) → length ns ≤ nodeLimit → indexOf j ns < length ns
+    → (m : Node) × (getElem? ns (indexOf j ns) ≡ some m) × (findNode j ns ≡ some m) × (m .id ≡ j)
+index-of j ns few l =
+    ⊎-elim (λ (k, m, e, stands, found, same). (m, ap (getElem? ns) (e ∙ zero-add k) ∙ stands, found, same)) (λ (e, h). absurd (omega arith))
+    (indexed 0 j ns)
+
+-- an index behind the last node
+pub no-index : (j : ℕ) (ns : List Node) → length ns ≤ indexOf j ns → findNode j ns ≡ none
+no-index j ns l =
+    ⊎-elim (λ (k, m, e, stands, found, same). let h = at-below ns k m stands in absurd (omega arith)) (λ (e, h). h) (indexed 0 j ns)
+
+-- an id that no node has
+pub index-none : (j : ℕ) (ns : List Node) → ((n : Node) → Is n ns → n .id ≡ j → ⊥) → indexOf j ns ≡ noNode
+index-none j ns h =
+    ⊎-elim (λ (k, m, e, stands, found, same). absurd (h m (at-is ns k m stands) same)) (λ (e, found). e) (indexed 0 j ns)
+
+index-below : (i j : ℕ) (ns : List Node) → Is j (ids ns) → indexFrom i j ns < i + length ns
+index-below i j [] h = absurd h
+index-below i j (n ∷ ns) h = pickOne (eqb (n .id) j) refl (λ k. index-below (i + 1) j ns k) h
+  where
+    pickOne :
+        (b : Bool) → eqb (n .id) j ≡ b → (Is j (ids ns) → indexFrom (i + 1) j ns < i + 1 + length ns) → (j ≡ n .id) ⊎ Is j (ids ns)
+        → cond b i (indexFrom (i + 1) j ns) < i + suc (length ns)
     pickOne true q ih h = omega arith
     pickOne false q ih (inl e) = absurd (eqb-false (n .id) j q (sym e))
-    pickOne false q ih (inr i) = let l = ih i in omega arith
+    pickOne false q ih (inr k) = let l = ih k in omega arith
+
+pub in-index : (j : ℕ) (ns : List Node) → Is j (ids ns) → indexOf j ns < length ns
+in-index j ns h = let l = index-below 0 j ns h in omega arith
 
 -- the index of an id is that of the first node that has it
-pub index-first : (ns : List Node) (v : ℕ) (x : Node) → getElem? ns v ≡ some x → indexOf (x .id) ns ≤ v
-index-first [] v x e = let z : _≡_ {A = ℕ} 0 1 = cc in absurd (omega arith)
-index-first (n ∷ ns) zero x e =
+first-from : (i : ℕ) (ns : List Node) (v : ℕ) (x : Node) → getElem? ns v ≡ some x → indexFrom i (x .id) ns ≤ i + v
+first-from i [] v x e = let z : _≡_ {A = ℕ} 0 1 = cc in absurd (omega arith)
+first-from i (n ∷ ns) zero x e =
     let q : n ≡ x = cc in
-    subst (λ (b : Bool). cond b 0 (suc (indexOf (x .id) ns)) ≤ 0) (sym (eq-eqb (n .id) (x .id) (ap (λ (m : Node). m .id) q))) (omega arith)
-index-first (n ∷ ns) (suc v) x e = pickOne (eqb (n .id) (x .id)) (index-first ns v x e)
+    subst (λ (b : Bool). cond b i (indexFrom (i + 1) (x .id) ns) ≤ i + 0) (sym (eq-eqb (n .id) (x .id) (ap (λ (m : Node). m .id) q))) (omega arith)
+first-from i (n ∷ ns) (suc v) x e = pickOne (eqb (n .id) (x .id)) (first-from (i + 1) ns v x e)
   where
-    pickOne : (b : Bool) → indexOf (x .id) ns ≤ v → cond b 0 (suc (indexOf (x .id) ns)) ≤ suc v
+    pickOne : (b : Bool) → indexFrom (i + 1) (x .id) ns ≤ i + 1 + v → cond b i (indexFrom (i + 1) (x .id) ns) ≤ i + suc v
     pickOne true h = omega arith
     pickOne false h = omega arith
+
+pub index-first : (ns : List Node) (v : ℕ) (x : Node) → getElem? ns v ≡ some x → indexOf (x .id) ns ≤ v
+index-first ns v x e = let l = first-from 0 ns v x e in omega arith
 
 -- ---- references by index
 

@@ -18,7 +18,7 @@ use Rattle.base.proofs.Bools.{and-inv}
 use Rattle.order.specs.Indices.{firstOf, allOf, slot, settled, ready, eligible, next, orderFrom, indexOrder}
 use Rattle.order.specs.Resolve.{indexOf, target, Resolves}
 use Rattle.order.proofs.Range.{First, first-is, all-same}
-use Rattle.order.proofs.Nodes.{at-is, index-of, in-index, index-first, ref-member}
+use Rattle.order.proofs.Nodes.{at-is, index-of, index-none, in-index, index-first, ref-member}
 use Rattle.base.specs.Limits.{noNode, operandLimit}
 use Rattle.base.proofs.Lists.{some-is}
 
@@ -85,15 +85,19 @@ module _ (ts : List ℕ) (ns : List Node) (r : Resolves ts ns) where
   abbrev Agree : List ℕ → List ℕ → Type 0
   Agree is done = (j : ℕ) → Is j (ids ns) → member (indexOf j ns) is ≡ member j done
 
+  nothing-settled : (is : List ℕ) → settled (length ns) (λ v. member v is) noNode ≡ true
+  nothing-settled is = ap (λ (b : Bool). b || member noNode is) (le-leb (length ns) noNode (let f = r .few in omega arith))
+
   target-settled :
       (is done : List ℕ) → Agree is done → (x : Node) → Is x ns → (s : ℕ) (q : Ref) → getElem? (reads x) s ≡ some q
       → settled (length ns) (λ v. member v is) (target ns (some q)) ≡ eqb (q .node) 0 || member (q .node) done
   target-settled is done h x i s q e = pickOne (eqb (q .node) 0) refl
     where
       pickOne :
-          (b : Bool) → eqb (q .node) 0 ≡ b
-          → settled (length ns) (λ v. member v is) (cond b noNode (indexOf (q .node) ns)) ≡ b || member (q .node) done
-      pickOne true w = ap (λ (b : Bool). b || member noNode is) (le-leb (length ns) noNode (let f = r .few in omega arith))
+          (b : Bool) → eqb (q .node) 0 ≡ b → settled (length ns) (λ v. member v is) (indexOf (q .node) ns) ≡ b || member (q .node) done
+      pickOne true w =
+          let z = eqb-true (q .node) 0 w in
+          ap (settled (length ns) (λ v. member v is)) (index-none (q .node) ns (λ n k e. let l = r .named n k in omega arith)) ∙ nothing-settled is
       pickOne false w =
           let j : Is (q .node) (ids ns) =
           ⊎-elim (λ z. absurd (eqb-false (q .node) 0 w z)) (λ a. a) (r .closed x (q .node) i (ref-member (reads x) s q e)) in
@@ -116,7 +120,7 @@ module _ (ts : List ℕ) (ns : List Node) (r : Resolves ts ns) where
       let i = at-is ns v x e in
       all-same (λ j. settled n (λ w. member w is) (slot ts v j)) (λ j. settled n (λ w. member w is) (target ns (getElem? (reads x) j))) operandLimit 0
       (λ j a b. ap (λ (t : ℕ). settled n (λ w. member w is) t) (r .slots v j x e (omega arith)))
-      ∙ (slots-refs (λ o. settled n (λ w. member w is) (target ns o)) (ap (λ (b : Bool). b || member noNode is) (le-leb n noNode (let f = r .few in omega arith))) (reads x) operandLimit 0 (reads x)
+      ∙ (slots-refs (λ o. settled n (λ w. member w is) (target ns o)) (nothing-settled is) (reads x) operandLimit 0 (reads x)
       (λ w. let e : 0 + w ≡ w = omega arith in ap (λ (m : ℕ). getElem? (reads x) m) e) (r .narrow x i)
       ∙ refs-ready is done h x i (reads x) 0 (λ w. let e : 0 + w ≡ w = omega arith in ap (λ (m : ℕ). getElem? (reads x) m) e))
 
@@ -206,7 +210,7 @@ module _ (ts : List ℕ) (ns : List Node) (r : Resolves ts ns) where
     agree-step :
         (is done : List ℕ) (f : ℕ) (y : Node) → Agree is done → First (eligible ts (length ns) (λ v. member v is)) 0 (length ns) f
         → f < length ns → getElem? ns f ≡ some y → Agree (f ∷ is) (y .id ∷ done)
-    agree-step is done f y agree first l e j i = go (index-of j ns (in-index j ns i)) (eqb (y .id) j) (eqb f v) refl refl
+    agree-step is done f y agree first l e j i = go (index-of j ns (r .few) (in-index j ns i)) (eqb (y .id) j) (eqb f v) refl refl
       where
         v : ℕ
         v = indexOf j ns

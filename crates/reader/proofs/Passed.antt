@@ -2,7 +2,7 @@
 use Prim.Native.Nat.{ℕ, zero, suc, _+_, _-_, _*_, _≤_, _<_}
 use mathlib.Core.Path.{_≡_, refl, ap, sym, _∙_, subst}
 use mathlib.Core.Bool.{Bool, true, false, _&&_, cond}
-use mathlib.Core.Logic.{⊎-elim}
+use mathlib.Core.Logic.{inl, inr, ⊎-elim}
 use mathlib.Core.Option.{none, some}
 use mathlib.Core.List.{List, [], _∷_}
 use native.Mathlib.Omega.{arith}
@@ -18,6 +18,7 @@ use Rattle.ports.specs.declared.Ports.{Ports}
 use Rattle.ports.specs.Kinds.{Kind, kindOf}
 use Rattle.ports.specs.Ports.{absent, portsOf, formOf, exists, typeFits, legal}
 use Rattle.ports.proofs.Laws.{no-kind}
+use Rattle.base.specs.Lists.{Is}
 use Rattle.base.specs.Outcome.{ok, Part}
 use Rattle.base.specs.Bytes.{byte, u16}
 use Rattle.graph.specs.Graph.{Payload, Node, Output}
@@ -121,6 +122,15 @@ module _ (s : List ℕ) where
   unfolding nodePlace
   place-reads n zero at h r = first-reads n at h r
   place-reads n (suc j) at h r = place-reads (n - 1) j (nodeEnd s at) (omega arith) (rest-reads n at (omega arith) r)
+
+  -- no node has the id 0
+  pub nodes-named : (n at : ℕ) → ReadsNodes n s at → (x : Node) → Is x (nodesAt n s at) → 1 ≤ x .id
+  unfolding nodesAt nodeAt
+  nodes-named zero at r x h = absurd h
+  nodes-named (suc n) at r x (inl e) = subst (λ (y : Node). 1 ≤ y .id) (sym e) (node-legal s at (first-reads (suc n) at (omega arith) r) .0)
+  nodes-named (suc n) at r x (inr h) =
+      let z : suc n - 1 ≡ n = omega arith in
+      nodes-named n (nodeEnd s at) (subst (λ (k : ℕ). ReadsNodes k s (nodeEnd s at)) z (rest-reads (suc n) at (omega arith) r)) x h
 
 -- ---- a function
 

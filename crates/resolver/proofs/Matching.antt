@@ -1,13 +1,13 @@
 -- The ids wanted, met with the nodes in turn: the last match, which is the first where ids are single.
-use Prim.Native.Nat.{ℕ, zero, suc, _+_, _-_, _≤_, _<_}
+use Prim.Native.Nat.{ℕ, _+_, _-_, _≤_, _<_}
 use mathlib.Core.Path.{_≡_, refl, sym, ap, _∙_, subst}
 use mathlib.Core.Bool.{Bool, true, false, cond}
 use mathlib.Core.List.{List, [], _∷_, map}
 use native.Mathlib.Omega.{arith}
 use lib.Dec.{eqb}
-use lib.ListN.{length, getD, set, replicate, length-set, getD-replicate}
+use lib.ListN.{length, getD, set, replicate, length-set, length-replicate, getD-replicate}
 use lib.Seq.{getD-set-same, getD-set-other}
-use borrow.Author.Tests.{eqb-true, eqb-false, eq-eqb, ne-eqb}
+use borrow.Author.Tests.{eqb-true, eqb-false}
 use Rattle.base.specs.Bytes.{u16}
 use Rattle.graph.specs.Graph.{Node}
 use Rattle.base.specs.Lists.{member, Distinct}
@@ -16,10 +16,8 @@ use Rattle.graph.specs.Judge.{fresh}
 use Rattle.graph.proofs.Fresh.{fresh-distinct}
 use Rattle.reader.specs.Layout.{nodeAt, nodeEnd, nodesAt}
 use Rattle.reader.specs.Find.{ReadsNodes}
-use Rattle.reader.proofs.Passed.{first-reads, rest-reads, node-legal}
-use Rattle.order.specs.Resolve.{indexOf}
-use Rattle.resolver.specs.Groups.{sought, Marked, FoundAll}
-use Rattle.resolver.proofs.Rows.{length-nodes}
+use Rattle.order.specs.Resolve.{indexFrom, indexOf}
+use Rattle.resolver.specs.Groups.{Marked, FoundAll}
 use Rattle.reader.proofs.Walking.{Passed, pass-start, pass-step, left-next, left-none, left-all}
 use Rattle.base.specs.Limits.{nodeLimit, noNode}
 
@@ -71,54 +69,16 @@ last-none w (n ∷ ns) i old e = pickOne (eqb (n .id) w) (λ o h. last-none w ns
     pickOne true ih h = let z : _≡_ {A = ℕ} 0 1 = cc in absurd (omega arith)
     pickOne false ih h = ih old h
 
-last-one : (w : ℕ) (ns : List Node) (i old : ℕ) → Distinct (ids ns) → member w (ids ns) ≡ true → lastMatch w i old ns ≡ i + indexOf w ns
+-- where no id stands twice it is the first
+last-first : (w : ℕ) (ns : List Node) (i : ℕ) → Distinct (ids ns) → lastMatch w i noNode ns ≡ indexFrom i w ns
 unfolding lastMatch
-last-one w [] i old d e = let z : _≡_ {A = ℕ} 0 1 = cc in absurd (omega arith)
-last-one w (n ∷ ns) i old (a, d) e = pickOne (eqb (n .id) w) refl (λ h. last-one w ns (i + 1) old d h) e
+last-first w [] i d = refl
+last-first w (n ∷ ns) i (a, d) = pickOne (eqb (n .id) w) refl (last-first w ns (i + 1) d)
   where
-    pickOne : (b : Bool) → eqb (n .id) w ≡ b → (member w (ids ns) ≡ true → lastMatch w (i + 1) old ns ≡ i + 1 + indexOf w ns) → cond b true (member w (ids ns)) ≡ true
-        → lastMatch w (i + 1) (cond b i old) ns ≡ i + cond b 0 (suc (indexOf w ns))
-    pickOne true q ih h =
-        let z : n .id ≡ w = eqb-true (n .id) w q in
-        last-none w ns (i + 1) i (subst (λ (x : ℕ). member x (ids ns) ≡ false) z a) ∙ omega arith
-    pickOne false q ih h = ih h ∙ omega arith
-
-index-past : (w : ℕ) (ns : List Node) → member w (ids ns) ≡ false → indexOf w ns ≡ length ns
-index-past w [] e = refl
-index-past w (n ∷ ns) e = pickOne (eqb (n .id) w) (λ h. index-past w ns h) e
-  where
-    pickOne : (b : Bool) → (member w (ids ns) ≡ false → indexOf w ns ≡ length ns) → cond b true (member w (ids ns)) ≡ false
-        → cond b 0 (suc (indexOf w ns)) ≡ suc (length ns)
-    pickOne true ih h = let z : _≡_ {A = ℕ} 0 1 = cc in absurd (omega arith)
-    pickOne false ih h = ap suc (ih h)
-
--- no node has the id 0
-no-zero : (n : ℕ) (s : List ℕ) (at : ℕ) → ReadsNodes n s at → member 0 (ids (nodesAt n s at)) ≡ false
-unfolding nodesAt nodeAt
-no-zero zero s at r = refl
-no-zero (suc n) s at r =
-    let l = node-legal s at (first-reads s (suc n) at (omega arith) r) .0 in
-    let z : suc n - 1 ≡ n = omega arith in
-    let q : u16 s at ≡ 0 → ⊥ = λ e. omega arith in
-    ap (λ (b : Bool). cond b true (member 0 (ids (nodesAt n s (nodeEnd s at))))) (ne-eqb (u16 s at) 0 q)
-    ∙ no-zero n s (nodeEnd s at) (subst (λ (k : ℕ). ReadsNodes k s (nodeEnd s at)) z (rest-reads s (suc n) at (omega arith) r))
-
--- the last match is what the id finds
-last-sought : (w : ℕ) (ns : List Node) → Distinct (ids ns) → member 0 (ids ns) ≡ false → lastMatch w 0 (cond (eqb 0 w) noNode (length ns)) ns ≡ sought ns w
-last-sought w ns d z = pickOne (eqb w 0) refl
-  where
-    here : (b : Bool) → member w (ids ns) ≡ b → lastMatch w 0 (length ns) ns ≡ indexOf w ns
-    here true e = last-one w ns 0 (length ns) d e ∙ omega arith
-    here false e = last-none w ns 0 (length ns) e ∙ sym (index-past w ns e)
-
-    pickOne : (b : Bool) → eqb w 0 ≡ b → lastMatch w 0 (cond (eqb 0 w) noNode (length ns)) ns ≡ cond b noNode (indexOf w ns)
-    pickOne true q =
-        let e : w ≡ 0 = eqb-true w 0 q in
-        last-none w ns 0 (cond (eqb 0 w) noNode (length ns)) (subst (λ (x : ℕ). member x (ids ns) ≡ false) (sym e) z)
-        ∙ ap (λ (b : Bool). cond b noNode (length ns)) (eq-eqb 0 w (sym e))
-    pickOne false q =
-        let e : w ≡ 0 → ⊥ = eqb-false w 0 q in
-        ap (λ (b : Bool). lastMatch w 0 (cond b noNode (length ns)) ns) (ne-eqb 0 w (λ x. e (sym x))) ∙ here (member w (ids ns)) refl
+    pickOne : (b : Bool) → eqb (n .id) w ≡ b → lastMatch w (i + 1) noNode ns ≡ indexFrom (i + 1) w ns
+        → lastMatch w (i + 1) (cond b i noNode) ns ≡ cond b i (indexFrom (i + 1) w ns)
+    pickOne true q ih = last-none w ns (i + 1) i (subst (λ (x : ℕ). member x (ids ns) ≡ false) (eqb-true (n .id) w q) a)
+    pickOne false q ih = ih
 
 -- ---- the nodes in turn
 
@@ -133,20 +93,20 @@ last-end w i old left e = ap (lastMatch w i old) e
 pub record Matching (s : List ℕ) (first count : ℕ) (wanted : List ℕ) (m : ℕ) (found : List ℕ) (at i : ℕ) : Type 0 where
   pub pass : Passed s count at i
   pub size : length found ≡ nodeLimit
-  pub same : (r : ℕ) → r < m
-      → lastMatch (getD wanted r 0) 0 (cond (eqb 0 (getD wanted r 0)) noNode count) (nodesAt count s first) ≡ lastMatch (getD wanted r 0) i (getD found r 0) (nodesAt (count - i) s at)
+  pub same : (r : ℕ) → r < m → indexOf (getD wanted r 0) (nodesAt count s first) ≡ lastMatch (getD wanted r 0) i (getD found r 0) (nodesAt (count - i) s at)
 
 module _ {s : List ℕ} {first count : ℕ} {wanted : List ℕ} {m : ℕ} where
-  pub match-start : {found₀ found : List ℕ} → ReadsNodes count s first → m ≤ nodeLimit → found₀ ≡ replicate nodeLimit count → Marked wanted m 0 noNode found₀ found → Matching s first count wanted m found first 0
-  match-start {found₀} {found} r l e h =
+  pub match-start : {found : List ℕ} → ReadsNodes count s first → fresh [] (nodesAt count s first) ≡ ok tt → m ≤ nodeLimit → found ≡ replicate nodeLimit noNode
+      → Matching s first count wanted m found first 0
+  match-start {found} r f l e =
       record {
         pass = pass-start r;
-        size = h .size;
+        size = ap length e ∙ length-replicate nodeLimit noNode;
         same = λ q a.
+            let ns = nodesAt count s first in
             let w = getD wanted q 0 in
-            let x : getD found₀ q 0 ≡ count = ap (λ (f : List ℕ). getD f q 0) e ∙ getD-replicate nodeLimit q count 0 (omega arith) in
-            let y : cond (eqb 0 w) noNode count ≡ getD found q 0 = ap (λ (k : ℕ). cond (eqb 0 w) noNode k) (sym x) ∙ sym (h .marks q a) in
-            ap (λ (k : ℕ). lastMatch w 0 k (nodesAt count s first)) y ∙ ap (lastMatch w 0 (getD found q 0)) (left-all s count first);
+            let x : getD found q 0 ≡ noNode = ap (λ (xs : List ℕ). getD xs q 0) e ∙ getD-replicate nodeLimit q noNode 0 (omega arith) in
+            sym (last-first w ns 0 (fresh-distinct ns f)) ∙ ap (λ (k : ℕ). lastMatch w 0 k ns) (sym x) ∙ ap (lastMatch w 0 (getD found q 0)) (left-all s count first);
       }
 
   pub match-step : {found found' : List ℕ} {at at' i id : ℕ} → Matching s first count wanted m found at i → i < count → id ≡ u16 s at → Marked wanted m id i found found' → at' ≡ nodeEnd s at
@@ -163,11 +123,6 @@ module _ {s : List ℕ} {first count : ℕ} {wanted : List ℕ} {m : ℕ} where
             h .same q a ∙ last-next s at w i (getD found q 0) (nodesAt (count - i) s at) rest (left-next s count at at' i l ea) ∙ ap (λ (x : ℕ). lastMatch w (i + 1) x rest) y;
       }
 
-  pub match-done : {found : List ℕ} {at i : ℕ} → Matching s first count wanted m found at i → count ≤ i → ReadsNodes count s first → fresh [] (nodesAt count s first) ≡ ok tt
-      → FoundAll (nodesAt count s first) wanted m found
-  match-done {found} {at} {i} h l r f q a =
-      let ns = nodesAt count s first in
-      let w = getD wanted q 0 in
-      sym (h .same q a ∙ last-end w i (getD found q 0) (nodesAt (count - i) s at) (left-none s count at i l))
-      ∙ ap (λ (k : ℕ). lastMatch w 0 (cond (eqb 0 w) noNode k) ns) (sym (length-nodes count s first))
-      ∙ last-sought w ns (fresh-distinct ns f) (no-zero count s first r)
+  pub match-done : {found : List ℕ} {at i : ℕ} → Matching s first count wanted m found at i → count ≤ i → FoundAll (nodesAt count s first) wanted m found
+  match-done {found} {at} {i} h l q a =
+      sym (h .same q a ∙ last-end (getD wanted q 0) i (getD found q 0) (nodesAt (count - i) s at) (left-none s count at i l))

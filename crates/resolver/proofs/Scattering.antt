@@ -12,13 +12,13 @@ use Rattle.graph.specs.Look.{reads}
 use Rattle.graph.proofs.Formed.{refs-length}
 use Rattle.reader.specs.Layout.{nodeAt, nodeEnd, nodesAt, nodePlace}
 use Rattle.reader.proofs.Passed.{place-next}
-use Rattle.order.specs.Resolve.{target}
+use Rattle.order.specs.Resolve.{indexOf, target}
 use Rattle.reader.specs.declared.Reads.{Reads}
 use Rattle.resolver.specs.declared.Group.{Group}
 use Rattle.resolver.specs.declared.Frontier.{Frontier}
 use Rattle.reader.specs.Find.{ReadsOf}
 use Rattle.resolver.specs.Slots.{padded, rowOf, rowsOf}
-use Rattle.resolver.specs.Groups.{idsOf, named, sought, entries, Gathered, FoundAll, Found, GroupDone}
+use Rattle.resolver.specs.Groups.{idsOf, named, entries, Gathered, FoundAll, Found, GroupDone}
 use Rattle.base.proofs.Stores.{sets-in}
 use Rattle.base.proofs.Stores.{Run, run-start, run-more, run-done}
 use Rattle.resolver.proofs.Rows.{length-row, length-rows, length-nodes, rows-next, rows-none}
@@ -53,11 +53,11 @@ pub found-start : {ns : List Node} {s : List ℕ} {at left : ℕ} {wanted₀ wan
 found-start {ns} {s} {at} {left} {wanted₀} {wanted} {found} {r} e h f =
     record {
       fits = let a = h .size in let b = h .fits in omega (arith, a, b);
-      holds = entries-are (sought ns) ids found 0 (λ q l.
+      holds = entries-are (λ w. indexOf w ns) ids found 0 (λ q l.
           let a = h .size in
           let b = h .fits in
           let z : 0 + q ≡ q = zero-add q in
-          ap (λ (k : ℕ). getD found k 0) z ∙ f q (omega (arith, l, a)) ∙ ap (λ (w : ℕ). sought ns w) (stands q l));
+          ap (λ (k : ℕ). getD found k 0) z ∙ f q (omega (arith, l, a)) ∙ ap (λ (w : ℕ). indexOf w ns) (stands q l));
     }
   where
     ids : List ℕ
@@ -71,14 +71,14 @@ found-start {ns} {s} {at} {left} {wanted₀} {wanted} {found} {r} e h f =
 
 -- ---- the nodes of a group in turn
 
-targets-are : (ns : List Node) (rs : List Ref) → map (sought ns) (idsOf rs) ≡ map (λ r. target ns (some r)) rs
+targets-are : (ns : List Node) (rs : List Ref) → map (λ w. indexOf w ns) (idsOf rs) ≡ map (λ r. target ns (some r)) rs
 targets-are ns [] = refl
 targets-are ns (r ∷ rs) = ap (λ (xs : List ℕ). target ns (some r) ∷ xs) (targets-are ns rs)
 
 ids-length : (s : List ℕ) (p : ℕ) (r : Reads) → ReadsOf s p r → length (idsOf (reads (nodeAt s p))) ≡ r .count
 ids-length s p r h = length-map (reads (nodeAt s p)) (λ (x : Ref). x .node) ∙ ap length (h .refs) ∙ refs-length (r .count) s (r .first)
 
-row-is : (ns : List Node) (x : Node) (xs : List ℕ) → xs ≡ map (sought ns) (idsOf (reads x)) → padded operandLimit xs ≡ rowOf ns x
+row-is : (ns : List Node) (x : Node) (xs : List ℕ) → xs ≡ map (λ w. indexOf w ns) (idsOf (reads x)) → padded operandLimit xs ≡ rowOf ns x
 unfolding rowOf
 row-is ns x xs e = ap (padded operandLimit) (e ∙ targets-are ns (reads x))
 
@@ -94,7 +94,7 @@ module _ (ns : List Node) (s found : List ℕ) where
       let whole : named (nodesAt (count - n) s p) ≡ here ++ rest = ap named (left-next s count p p' n l e) in
       let c = ids-length s p r f in
       let b : length (named (nodesAt (count - n) s p)) ≡ length here + length rest = ap length whole ∙ length-append here rest in
-      let (x, y) = entries-split (sought ns) here rest found m (subst (λ (xs : List ℕ). entries (length xs) found m ≡ map (sought ns) xs) whole (h .holds)) in
+      let (x, y) = entries-split (λ w. indexOf w ns) here rest found m (subst (λ (xs : List ℕ). entries (length xs) found m ≡ map (λ w. indexOf w ns) xs) whole (h .holds)) in
       let d = h .fits in (
         row-is ns (nodeAt s p) (entries (r .count) found m) (ap (λ (k : ℕ). entries k found m) (sym c) ∙ x),
         omega (arith, b, c, d),

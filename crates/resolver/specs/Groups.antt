@@ -13,7 +13,7 @@ use Rattle.order.specs.Resolve.{indexOf}
 use Rattle.resolver.specs.declared.Group.{Group}
 use Rattle.resolver.specs.declared.Frontier.{Frontier}
 use Rattle.resolver.specs.Slots.{rowsOf}
-use Rattle.base.specs.Limits.{nodeLimit, operandLimit, noNode}
+use Rattle.base.specs.Limits.{nodeLimit, operandLimit}
 
 -- the ids that references name
 abbrev pub idsOf : List Ref → List ℕ
@@ -23,10 +23,6 @@ idsOf rs = map (λ r. r .node) rs
 unfoldable pub named : List Node → List ℕ
 named [] = []
 named (n ∷ ns) = idsOf (reads n) ++ named ns
-
--- what an id finds: the index of its node, or `noNode` for 0
-abbrev pub sought : List Node → ℕ → ℕ
-sought ns w = cond (eqb w 0) noNode (indexOf w ns)
 
 -- the n entries of an array from m on
 unfoldable pub entries : ℕ → List ℕ → ℕ → List ℕ
@@ -46,14 +42,14 @@ pub record Marked (wanted : List ℕ) (m id i : ℕ) (p q : List ℕ) : Type 0 w
   pub size : length q ≡ nodeLimit
   pub marks : (r : ℕ) → r < m → getD q r 0 ≡ cond (eqb id (getD wanted r 0)) i (getD p r 0)
 
--- the first m entries are what the ids find
+-- the first m entries are the indices of the ids
 abbrev pub FoundAll : List Node → List ℕ → ℕ → List ℕ → Type 0
-FoundAll ns wanted m q = (r : ℕ) → r < m → getD q r 0 ≡ sought ns (getD wanted r 0)
+FoundAll ns wanted m q = (r : ℕ) → r < m → getD q r 0 ≡ indexOf (getD wanted r 0) ns
 
--- from m on stands what the ids find that n nodes from `at` on name
+-- from m on stand the indices of the ids that n nodes from `at` on name
 pub record Found (ns : List Node) (s : List ℕ) (at n : ℕ) (found : List ℕ) (m : ℕ) : Type 0 where
   pub fits : m + length (named (nodesAt n s at)) ≤ nodeLimit
-  pub holds : entries (length (named (nodesAt n s at))) found m ≡ map (sought ns) (named (nodesAt n s at))
+  pub holds : entries (length (named (nodesAt n s at))) found m ≡ map (λ w. indexOf w ns) (named (nodesAt n s at))
 
 -- the rows from node i to the node reached are done
 pub record GroupDone (s : List ℕ) (first count at i : ℕ) (p q : List ℕ) (r : Frontier) : Type 0 where

@@ -13,7 +13,7 @@ padded zero xs = []
 padded (suc n) [] = noNode ∷ padded n []
 padded (suc n) (x ∷ xs) = x ∷ padded n xs
 
--- the slots of a node: for each reference the index of the node that it names; `noNode` for an input and behind the last reference
+-- the slots of a node: the target of each of its references, and `noNode` behind the last
 unfoldable pub rowOf : List Node → Node → List ℕ
 rowOf ns n = padded operandLimit (map (λ r. target ns (some r)) (reads n))
 

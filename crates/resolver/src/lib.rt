@@ -6,7 +6,7 @@ ghost use Prim.Native.Nat.{_+_, _-_, _*_, _^_, _<_, _≤_};
 ghost use lib.Dec.{eqb};
 ghost use lib.ListN.{length, replicate};
 ghost use lib.Seq.{sets};
-ghost use Rattle.base.specs.Limits.{nodeLimit, operandLimit, slotLimit};
+ghost use Rattle.base.specs.Limits.{nodeLimit, operandLimit, slotLimit, noNode};
 ghost use Rattle.base.specs.Outcome.{ok};
 ghost use Rattle.graph.specs.Judge.{fresh};
 ghost use Rattle.graph.specs.Read.{references};
@@ -120,10 +120,9 @@ fn find_all(
     found: &mut [u16; NODE_LIMIT],
 )
     requires { ⌜ ReadsNodes count (now s) first × (count ≤ nodeLimit) × (fresh [] (nodesAt count (now s) first) ≡ ok tt) ⌝ }
-    requires { ⌜ (m ≤ nodeLimit) × (now found ≡ replicate nodeLimit count) ⌝ }
+    requires { ⌜ (m ≤ nodeLimit) × (now found ≡ replicate nodeLimit noNode) ⌝ }
     ensures { λ _. ⌜ FoundAll (nodesAt count (now (s .entry)) first) (now (wanted .entry)) m (now (found .exit)) ⌝ }
 {
-    mark(wanted, found, m, 0, NO_NODE);
     let sizes = reader::node_sizes();
     let mut at = first;
     let mut i = 0;
@@ -216,7 +215,7 @@ fn resolve_group(
     ensures { λ r. ⌜ GroupDone (now (s .entry)) first count at i (now (targets .entry)) (now (targets .exit)) r ⌝ }
 {
     let mut wanted = [0u16; NODE_LIMIT];
-    let mut found = [count as u16; NODE_LIMIT];
+    let mut found = [NO_NODE; NODE_LIMIT];
     let g = gather(s, at, count - i, &mut wanted);
     let nodes = g.nodes;
     find_all(s, first, count, &wanted, g.refs, &mut found);

@@ -41,7 +41,7 @@ returns c =
     let q = b .pre in
     ap seen
     (sym
-    (complete-iff (a .targets .now) (functionAt (a .s .now) (a .f .place)) (q .resolves) (q .own) (q .named) .0
+    (complete-iff (a .targets .now) (functionAt (a .s .now) (a .f .place)) (q .resolves) (q .own) .0
     (ap (λ (n : ℕ). length (indexOrder (a .targets .now) n)) (sym (count b))
     ∙ (eqb-true (length (indexOrder (a .targets .now) (a .f .count))) (a .f .count) (sym (d .orderable .ensures) ∙ c .if1 .taken) ∙ count b))))
 
@@ -69,7 +69,7 @@ returns-2 c =
     let a = b .args in
     let s = a .s .now in
     let q = b .pre in
-    let (x, stands, e) = loop-fault (a .targets .now) (functionAt s (a .f .place)) (q .resolves) (q .own) (q .named) _ (sym (told f) ∙ d .before .found .given .1) in
+    let (x, stands, e) = loop-fault (a .targets .now) (functionAt s (a .f .place)) (q .resolves) (q .own) _ (sym (told f) ∙ d .before .found .given .1) in
     ap (λ (p : ℕ). Seen.Refused 13 p)
     (c .node-place .ensures ∙ ap (λ (n : ℕ). nodePlace s n (d .before .found .given .0 .0)) (q .first) ∙ place-of s (a .f .place) _ x stands)
     ∙ ap seen (sym e)
@@ -80,7 +80,7 @@ returns-3 c =
     let b = start f in
     let a = b .args in
     let q = b .pre in
-    ap seen (sym (nowhere-free (a .targets .now) (functionAt (a .s .now) (a .f .place)) (q .resolves) (q .own) (q .named) (sym (told f) ∙ c .enum-told .given .1)))
+    ap seen (sym (nowhere-free (a .targets .now) (functionAt (a .s .now) (a .f .place)) (q .resolves) (q .own) (sym (told f) ∙ c .enum-told .given .1)))
 
 pub loop-free-spec : {M : Type 1} → statement M
 loop-free-spec =

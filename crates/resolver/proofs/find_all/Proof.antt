@@ -1,13 +1,10 @@
 use borrow.Author.Needs.{needs}
 use Prim.Native.Nat.{_-_}
-use mathlib.Core.Path.{ap, _∙_}
 use native.Mathlib.Omega.{arith}
-use lib.ListN.{length, length-replicate}
 use Rattle.reader.proofs.Walking.{Here, pass-here, size-here}
 use Rattle.resolver.proofs.Matching.{Matching, match-start, match-step, match-done}
 use Rattle.resolver.proofs.find_all.Statement.{statement}
 use Rattle.resolver.proofs.find_all.Tie as tie
-use Rattle.base.specs.Limits.{nodeLimit}
 
 abbrev Inv-loop : tie.InvT-loop
 Inv-loop s first count wanted m found₀ sizes at₀ i₀ found at i = Matching s first count wanted m found at i
@@ -18,7 +15,7 @@ abbrev μ-loop : tie.MeasureT-loop
 -- ---- places
 
 abbrev start-of-node-sizes : tie.After-node-sizes Inv-loop μ-loop → tie.Start Inv-loop μ-loop
-start-of-node-sizes c = let k = c .before .before .before in k .before
+start-of-node-sizes c = c .before .before
 
 abbrev start-of-in-loop : tie.In-loop Inv-loop μ-loop → tie.Start Inv-loop μ-loop
 start-of-in-loop c = start-of-node-sizes (c .before .before)
@@ -30,17 +27,17 @@ here : (d : tie.In-loop Inv-loop μ-loop) → Here (start-of-in-loop d .args .s 
 here d = pass-here (d .before .loop .inv .pass) (d .loop-test .taken)
 
 loop-holds : tie.Need-loop-holds Inv-loop μ-loop
-loop-holds c = let b = start-of-node-sizes c in match-start (b .pre .0 .0) (b .pre .1 .0) (b .pre .1 .1) (c .before .mark .ensures)
+loop-holds c = let b = start-of-node-sizes c in match-start (b .pre .0 .0) (b .pre .0 .2) (b .pre .1 .0) (b .pre .1 .1)
 
 loop-again : tie.Need-loop-again Inv-loop μ-loop
 loop-again c =
     let k = c .before .before .before in
     let u = k .before in
     let d = u .before .before in
-    match-step (d .before .loop .inv) (d .loop-test .taken) (u .u16-at .ensures .0) (k .mark2 .ensures) (c .end-by .ensures)
+    match-step (d .before .loop .inv) (d .loop-test .taken) (u .u16-at .ensures .0) (k .mark .ensures) (c .end-by .ensures)
 
 returns : tie.Need-returns Inv-loop μ-loop
-returns c = let b = start-of-node-sizes (c .before .before) in match-done (c .before .loop .inv) (c .loop-test .left) (b .pre .0 .0) (b .pre .0 .2)
+returns c = match-done (c .before .loop .inv) (c .loop-test .left)
 
 pub find-all-spec : {M : Type 1} → statement M
 find-all-spec =
@@ -48,7 +45,6 @@ find-all-spec =
     (tie.spec
     Inv-loop
     μ-loop
-    (λ c κs. let b = c .before .before in (b .pre .1 .0, ap length (b .pre .1 .1) ∙ length-replicate nodeLimit (b .args .count)))
     (λ c κs. search needs)
     loop-holds
     (λ c κs. omega (arith, here (c .before) .head))

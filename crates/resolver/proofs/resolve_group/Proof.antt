@@ -32,7 +32,6 @@ pub resolve-group-spec : {M : Type 1} → statement M
 resolve-group-spec =
     tie.close
     (tie.spec
-    (λ c. omega (arith, c .before .pre .0 .1))
     (λ c. omega (arith, c .before .pre .1 .1))
     (λ c κs. let b = c .before .before in (b .pre .1 .0, omega (arith, b .pre .1 .1)))
     (λ c κs. let g = c .before .before in (g .before .before .before .pre .0, (g .gather .ensures .fits, refl)))

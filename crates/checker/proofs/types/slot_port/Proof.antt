@@ -56,8 +56,7 @@ returns-2 c =
     c .node-port .ensures
     ∙ sym
     (node-typed s (a .k) (a .f .place) (a .at) (w .wide32 .result) (named e)
-    (slot-found s (a .f .place) (a .at) (a .i) (named e) (b .pre .3) (let q = b .pre .0 .count in let l = t .if2 .taken in omega (arith, l, q))
-    ∙ ap (λ (x : ℕ). some (nodeAt s x)) (ap (λ (x : ℕ). nodePlace s x (a .i)) (sym (b .pre .0 .first)) ∙ sym (place w))))
+    (slot-found (b .pre .0) (a .at) (a .i) (b .pre .3) (t .if2 .taken) ∙ ap (λ (x : ℕ). some (nodeAt s x)) (sym (place w))))
 
 returns-3 : tie.Need-returns-3
 returns-3 c =
@@ -66,8 +65,7 @@ returns-3 c =
     let a = b .args in
     let s = a .s .now in
     sym
-    (none-typed s (a .k) (a .f .place) (a .at) (named e)
-    (slot-lost s (a .f .place) (a .at) (a .i) (named e) (b .pre .3) (let q = b .pre .0 .count in let l = c .if2 .left in omega (arith, l, q))))
+    (none-typed s (a .k) (a .f .place) (a .at) (named e) (slot-lost (b .pre .0) (a .at) (a .i) (b .pre .3) (omega (arith, c .if2 .left))))
 
 pub slot-port-spec : {M : Type 1} → statement M
 slot-port-spec =

@@ -2,11 +2,12 @@ use borrow.Author.Needs.{needs}
 use Prim.Native.Nat.{ℕ, _<_}
 use mathlib.Core.Path.{_≡_, sym, ap, _∙_}
 use native.Mathlib.Omega.{arith}
-use borrow.Author.Tests.{eq-eqb, ne-eqb}
 use lib.ListN.{length}
 use Rattle.base.specs.Bytes.{u16}
 use Rattle.reader.specs.Layout.{nodesAt}
+use Rattle.reader.proofs.Passed.{nodes-named}
 use Rattle.order.specs.Resolve.{indexOf}
+use Rattle.order.proofs.Nodes.{index-none}
 use Rattle.resolver.proofs.Rows.{length-nodes}
 use Rattle.compiler.proofs.Filling.{found-index, none-index}
 use Rattle.compiler.proofs.allocate.target.Statement.{statement}
@@ -26,12 +27,13 @@ search-of-found c = c .before .before .before
 abbrev entry-of-found : tie.After-known-told → tie.Start
 entry-of-found c = entry-of-id (id-of-search (search-of-found c))
 
+-- no node has an input's id
 returns : tie.Need-returns
-returns c = let a = entry-of-id (c .before) .args in rw (eq-eqb (u16 (a .table .now) (a .q)) 0 (sym (c .before .u16-at .ensures .0) ∙ c .if1 .taken))
-
--- the reference names a node
-named : (c : tie.After-find-node) → let a = entry-of-id (id-of-search c) .args in u16 (a .table .now) (a .q) ≡ 0 → ⊥
-named c z = c .before .if1 .left (id-of-search c .u16-at .ensures .0 ∙ z)
+returns c =
+    let b = entry-of-id (c .before) in
+    let a = b .args in
+    let z : u16 (a .table .now) (a .q) ≡ 0 = sym (c .before .u16-at .ensures .0) ∙ c .if1 .taken in
+    sym (index-none _ (nodesAt (a .n) (a .table .now) (a .at)) (λ x i e. let l = nodes-named (a .table .now) (a .n) (a .at) (b .pre .2) x i in omega (arith, l, e, z)))
 
 -- what was found
 index : (c : tie.After-known-told) →
@@ -53,9 +55,8 @@ cast-result c =
 
 returns-2 : tie.Need-returns-2
 returns-2 c =
-    let s = search-of-found c in
     let a = entry-of-found c .args in
-    rw (ne-eqb (u16 (a .table .now) (a .q)) 0 (named s)) (index c .0 ∙ ap (λ (i : ℕ). indexOf i (nodesAt (a .n) (a .table .now) (a .at))) (id-of-search s .u16-at .ensures .0))
+    index c .0 ∙ ap (λ (i : ℕ). indexOf i (nodesAt (a .n) (a .table .now) (a .at))) (id-of-search (search-of-found c) .u16-at .ensures .0)
 
 returns-3 : tie.Need-returns-3
 returns-3 c =
@@ -63,11 +64,10 @@ returns-3 c =
     let i = id-of-search s in
     let a = entry-of-id i .args in
     let ns = nodesAt (a .n) (a .table .now) (a .at) in
-    let x = none-index (i .u16-at .result) ns (sym (c .enum-told .given .1) ∙ s .find-node .ensures) in
-    rw (ne-eqb (u16 (a .table .now) (a .q)) 0 (named s)) (sym (ap (λ (i : ℕ). indexOf i ns) (sym (i .u16-at .ensures .0)) ∙ x ∙ length-nodes (a .n) (a .table .now) (a .at)))
+    sym (ap (λ (i : ℕ). indexOf i ns) (sym (i .u16-at .ensures .0)) ∙ none-index (i .u16-at .result) ns (sym (c .enum-told .given .1) ∙ s .find-node .ensures))
 
 pub target-spec : {M : Type 1} → statement M
 target-spec =
     tie.close
-    (tie.spec (λ c κs. search needs) returns (λ c κs. entry-of-id (c .before) .pre .2) (λ c. search needs) cast-result (λ c. search needs)
-    (λ c. search needs) returns-2 returns-3)
+    (tie.spec (λ c κs. search needs) returns (λ c κs. entry-of-id (c .before) .pre .2) (λ c. search needs) cast-result (λ c. search needs) returns-2
+    returns-3)
