@@ -113,7 +113,7 @@ fn judge_function(
     let Seen::Passed = outs else {
         return outs;
     };
-    resolver::resolve(s, first, count, targets);
+    resolver::resolve(s, places, count, targets);
     let nodes = nodes_good(s, starts, k, f, places, targets);
     let Seen::Passed = nodes else {
         return nodes;

@@ -299,7 +299,7 @@ fn allocate_function(
     let mut index = [0u16; NODE_LIMIT];
     let mut allocated = [0u16; NODE_PORT_LIMIT];
     resolver::places(table, at, n, &mut places);
-    resolver::resolve(table, at, n, &mut targets);
+    resolver::resolve(table, &places, n, &mut targets);
     order::schedule(&targets, n, &mut index);
     let end = allocate_nodes(
         table,

@@ -1,9 +1,12 @@
 -- What the slots of a function's nodes hold, `operandLimit` for each node.
-use Prim.Native.Nat.{ℕ, zero, suc}
+use Prim.Native.Nat.{ℕ, zero, suc, _+_, _<_}
 use mathlib.Core.List.{List, [], _∷_, _++_, map}
 use mathlib.Core.Option.{some}
+use lib.ListN.{getD}
 use Rattle.graph.specs.Graph.{Node}
 use Rattle.graph.specs.Look.{reads}
+use Rattle.reader.specs.Layout.{nodeAt}
+use Rattle.reader.specs.Find.{ReadsNode}
 use Rattle.order.specs.Resolve.{target}
 use Rattle.base.specs.Limits.{operandLimit, noNode}
 
@@ -25,3 +28,12 @@ rowsOf ns (n ∷ rest) = rowOf ns n ++ rowsOf ns rest
 -- the places of some nodes
 abbrev pub placesOf : List Node → List ℕ
 placesOf ns = map (λ n. n .place) ns
+
+-- the nodes at the n places that an array has from i on
+unfoldable pub nodesBy : List ℕ → List ℕ → ℕ → ℕ → List Node
+nodesBy s ps i zero = []
+nodesBy s ps i (suc n) = nodeAt s (getD ps i 0) ∷ nodesBy s ps (i + 1) n
+
+-- they were read
+abbrev pub PlacesRead : List ℕ → List ℕ → ℕ → ℕ → Type 0
+PlacesRead s ps i n = (j : ℕ) → j < n → ReadsNode s (getD ps (i + j) 0)

@@ -2,7 +2,7 @@
 ghost use mathlib.Core.Path.{_≡_};
 ghost use mathlib.Core.List.{[]};
 ghost use mathlib.Core.Bool.{cond};
-ghost use Prim.Native.Nat.{_+_, _-_, _*_, _^_, _<_, _≤_};
+ghost use Prim.Native.Nat.{_+_, _*_, _^_, _<_, _≤_};
 ghost use lib.Dec.{eqb};
 ghost use lib.ListN.{length, replicate};
 ghost use lib.Seq.{sets};
@@ -10,16 +10,17 @@ ghost use Rattle.base.specs.Limits.{nodeLimit, operandLimit, slotLimit, noNode}
 ghost use Rattle.base.specs.Outcome.{ok};
 ghost use Rattle.graph.specs.Judge.{fresh};
 ghost use Rattle.graph.specs.Read.{references};
-ghost use Rattle.reader.specs.Layout.{nodesAt, nodePlace};
+ghost use Rattle.reader.specs.Layout.{nodesAt};
 ghost use Rattle.reader.specs.Find.{ReadsNodes};
-ghost use Rattle.resolver.specs.Slots.{padded, rowsOf, placesOf};
-ghost use Rattle.resolver.specs.Groups.{idsOf, entries, Gathered, Marked, FoundAll, Found, GroupDone};
+ghost use Rattle.resolver.specs.Slots.{padded, rowsOf, placesOf, nodesBy, PlacesRead};
+ghost use Rattle.resolver.specs.Groups.{idsOf, named, entries, rowsFrom, Gathered, Marked, FoundAll, GroupDone};
 use base::NO_NODE;
 use base::NODE_LIMIT;
 use base::OPERAND_LIMIT;
 use base::SLOT_LIMIT;
 use base::u16_at;
 use base::wide;
+use base::wide32;
 
 // ---- places
 
@@ -28,14 +29,11 @@ pub fn places(s: &[u8], first: usize, count: usize, places: &mut [u32; NODE_LIMI
     requires { ⌜ ReadsNodes count (now s) first × (count ≤ nodeLimit) × (length (now s) < 2 ^ 32) × (length (now places) ≡ nodeLimit) ⌝ }
     ensures { λ _. ⌜ now (places .exit) ≡ sets (now (places .entry)) 0 (placesOf (nodesAt count (now (s .entry)) first)) ⌝ }
 {
-    let sizes = reader::node_sizes();
     let mut at = first;
     let mut i = 0;
     while i < count {
         places[i] = at as u32;
-        let k = wide(s[at + 2]);
-        let bytes = sizes[k];
-        at = reader::end_by(s, at, bytes);
+        at = reader::node_end(s, at);
         i += 1;
     }
 }
@@ -65,47 +63,54 @@ fn gather_node(s: &[u8], first: usize, n: usize, wanted: &mut [u16; NODE_LIMIT],
     }
 }
 
-// The ids that the first of the `left` nodes from `at` on name, as many as fit.
-fn gather(s: &[u8], at: usize, left: usize, wanted: &mut [u16; NODE_LIMIT]) -> Group
-    requires { ⌜ ReadsNodes left (now s) at × (0 < left) ⌝ }
-    ensures { λ r. ⌜ Gathered (now (s .entry)) at left (now (wanted .entry)) (now (wanted .exit)) r ⌝ }
+// The ids that the first of the `left` nodes from index i on name, as many as fit.
+fn gather(
+    s: &[u8],
+    places: &[u32; NODE_LIMIT],
+    i: usize,
+    left: usize,
+    wanted: &mut [u16; NODE_LIMIT],
+) -> Group
+    requires { ⌜ PlacesRead (now s) (now places) i left × (0 < left) × (i + left ≤ nodeLimit) ⌝ }
+    ensures { λ r. ⌜ Gathered (now (s .entry)) (now (places .entry)) i left (now (wanted .entry)) (now (wanted .exit)) r ⌝ }
 {
-    let sizes = reader::node_sizes();
-    let operands = reader::operand_counts();
-    let mut p = at;
+    let rows = ports::PORTS;
     let mut n = 0;
     let mut m = 0;
     while n < left {
         if GROUP_LIMIT < m {
             return Group { nodes: n, refs: m };
         }
+        let p = wide32(places[i + n]);
         let k = wide(s[p + 2]);
-        let bytes = sizes[k];
-        let r = reader::reads_by(s, p, bytes, operands[k]);
+        let row = rows[k];
+        let r = reader::reads_by(s, p, row);
         let c = r.count;
         gather_node(s, r.first, c, wanted, m);
         m += c;
-        p = reader::end_by(s, p, bytes);
         n += 1;
     }
     Group { nodes: n, refs: m }
 }
 
-fn choose(wanted: u16, id: u16, i: u16, old: u16) -> u16
-    ensures { λ r. ⌜ r ≡ cond (eqb id wanted) i old ⌝ }
+fn amount(wanted: u16, id: u16, by: u16) -> u16
+    ensures { λ r. ⌜ r ≡ cond (eqb id wanted) by 0 ⌝ }
 {
-    if wanted == id { i } else { old }
+    if wanted == id { by } else { 0 }
 }
 
-// i is found for each of the m ids that is `id`.
+// i is found for each of the m ids that is `id`, for which nothing was found before. So `NO_NODE` goes down to i, which
+// takes fewer instructions than to choose between the two.
 fn mark(wanted: &[u16; NODE_LIMIT], found: &mut [u16; NODE_LIMIT], m: usize, id: u16, i: u16)
     requires { ⌜ (m ≤ nodeLimit) × (length (now found) ≡ nodeLimit) ⌝ }
+    requires { ⌜ ((r : ℕ) → r < m → getD (now wanted) r 0 ≡ id → getD (now found) r 0 ≡ noNode) ⌝ }
     ensures { λ _. ⌜ Marked (now (wanted .entry)) m id i (now (found .entry)) (now (found .exit)) ⌝ }
 {
+    let by = NO_NODE - i;
     let mut r = 0;
     while r < m {
         let old = found[r];
-        found[r] = choose(wanted[r], id, i, old);
+        found[r] = old - amount(wanted[r], id, by);
         r += 1;
     }
 }
@@ -113,24 +118,20 @@ fn mark(wanted: &[u16; NODE_LIMIT], found: &mut [u16; NODE_LIMIT], m: usize, id:
 // What the m ids find among all nodes, in one walk.
 fn find_all(
     s: &[u8],
-    first: usize,
+    places: &[u32; NODE_LIMIT],
     count: usize,
     wanted: &[u16; NODE_LIMIT],
     m: usize,
     found: &mut [u16; NODE_LIMIT],
 )
-    requires { ⌜ ReadsNodes count (now s) first × (count ≤ nodeLimit) × (fresh [] (nodesAt count (now s) first) ≡ ok tt) ⌝ }
+    requires { ⌜ PlacesRead (now s) (now places) 0 count × (count ≤ nodeLimit) × (fresh [] (nodesBy (now s) (now places) 0 count) ≡ ok tt) ⌝ }
     requires { ⌜ (m ≤ nodeLimit) × (now found ≡ replicate nodeLimit noNode) ⌝ }
-    ensures { λ _. ⌜ FoundAll (nodesAt count (now (s .entry)) first) (now (wanted .entry)) m (now (found .exit)) ⌝ }
+    ensures { λ _. ⌜ FoundAll (nodesBy (now (s .entry)) (now (places .entry)) 0 count) (now (wanted .entry)) m (now (found .exit)) ⌝ }
 {
-    let sizes = reader::node_sizes();
-    let mut at = first;
     let mut i = 0;
     while i < count {
+        let at = wide32(places[i]);
         mark(wanted, found, m, u16_at(s, at) as u16, i as u16);
-        let k = wide(s[at + 2]);
-        let bytes = sizes[k];
-        at = reader::end_by(s, at, bytes);
         i += 1;
     }
 }
@@ -160,82 +161,62 @@ fn put_row(found: &[u16; NODE_LIMIT], m: usize, n: usize, targets: &mut [u16; SL
     }
 }
 
-// The rows of the group's nodes, the first of them node i, from what was found; the place behind them.
+// The rows of some nodes, the first of them node i, from what was found for all their references.
 fn scatter(
     s: &[u8],
-    first: usize,
-    count: usize,
-    at: usize,
+    places: &[u32; NODE_LIMIT],
     nodes: usize,
     found: &[u16; NODE_LIMIT],
     targets: &mut [u16; SLOT_LIMIT],
     i: usize,
-) -> usize
-    requires { ⌜ ReadsNodes (count - i) (now s) at × (i + nodes ≤ count) × (count ≤ nodeLimit) ⌝ }
-    requires { ⌜ Found (nodesAt count (now s) first) (now s) at nodes (now found) 0 ⌝ }
-    ensures { λ r. ⌜ (r ≡ nodePlace (now (s .entry)) at nodes) × (now (targets .exit) ≡ sets (now (targets .entry)) (operandLimit * i) (rowsOf (nodesAt count (now (s .entry)) first) (nodesAt nodes (now (s .entry)) at))) ⌝ }
+)
+    requires { ⌜ PlacesRead (now s) (now places) i nodes × (i + nodes ≤ nodeLimit) × (length (named (nodesBy (now s) (now places) i nodes)) ≤ nodeLimit) ⌝ }
+    ensures { λ _. ⌜ now (targets .exit) ≡ sets (now (targets .entry)) (operandLimit * i) (rowsFrom (now (found .entry)) 0 (nodesBy (now (s .entry)) (now (places .entry)) i nodes)) ⌝ }
 {
-    let sizes = reader::node_sizes();
-    let operands = reader::operand_counts();
-    let mut p = at;
+    let rows = ports::PORTS;
     let mut n = 0;
     let mut m = 0;
     while n < nodes {
+        let p = wide32(places[i + n]);
         let k = wide(s[p + 2]);
-        let bytes = sizes[k];
-        let r = reader::reads_by(s, p, bytes, operands[k]);
+        let row = rows[k];
+        let r = reader::reads_by(s, p, row);
         let c = r.count;
         put_row(found, m, c, targets, i + n);
         m += c;
-        p = reader::end_by(s, p, bytes);
         n += 1;
     }
-    p
 }
 
 // ---- all groups
 
-// The nodes before `index` are done; that one stands at `at`.
-struct Frontier {
-    at: usize,
-    index: usize,
-}
-
-// The rows of the group that begins with node i, at `at`.
+// The rows of the group that begins with node i; the index behind it.
 fn resolve_group(
     s: &[u8],
-    first: usize,
+    places: &[u32; NODE_LIMIT],
     count: usize,
-    at: usize,
     i: usize,
     targets: &mut [u16; SLOT_LIMIT],
-) -> Frontier
-    requires { ⌜ ReadsNodes count (now s) first × (count ≤ nodeLimit) × (fresh [] (nodesAt count (now s) first) ≡ ok tt) ⌝ }
-    requires { ⌜ ReadsNodes (count - i) (now s) at × (i < count) ⌝ }
-    ensures { λ r. ⌜ GroupDone (now (s .entry)) first count at i (now (targets .entry)) (now (targets .exit)) r ⌝ }
+) -> usize
+    requires { ⌜ PlacesRead (now s) (now places) 0 count × (count ≤ nodeLimit) × (fresh [] (nodesBy (now s) (now places) 0 count) ≡ ok tt) × (i < count) ⌝ }
+    ensures { λ r. ⌜ GroupDone (now (s .entry)) (now (places .entry)) count i (now (targets .entry)) (now (targets .exit)) r ⌝ }
 {
     let mut wanted = [0u16; NODE_LIMIT];
     let mut found = [NO_NODE; NODE_LIMIT];
-    let g = gather(s, at, count - i, &mut wanted);
+    let g = gather(s, places, i, count - i, &mut wanted);
     let nodes = g.nodes;
-    find_all(s, first, count, &wanted, g.refs, &mut found);
-    let end = scatter(s, first, count, at, nodes, &found, targets, i);
-    Frontier {
-        at: end,
-        index: i + nodes,
-    }
+    find_all(s, places, count, &wanted, g.refs, &mut found);
+    scatter(s, places, nodes, &found, targets, i);
+    i + nodes
 }
 
-// The slots of the nodes: what each reads, by its index.
-pub fn resolve(s: &[u8], first: usize, count: usize, targets: &mut [u16; SLOT_LIMIT])
-    requires { ⌜ ReadsNodes count (now s) first × (count ≤ nodeLimit) × (length (now targets) ≡ slotLimit) × (fresh [] (nodesAt count (now s) first) ≡ ok tt) ⌝ }
-    ensures { λ _. ⌜ now (targets .exit) ≡ sets (now (targets .entry)) 0 (rowsOf (nodesAt count (now (s .entry)) first) (nodesAt count (now (s .entry)) first)) ⌝ }
+// The slots of the nodes at these places: what each reads, by its index.
+pub fn resolve(s: &[u8], places: &[u32; NODE_LIMIT], count: usize, targets: &mut [u16; SLOT_LIMIT])
+    requires { ⌜ PlacesRead (now s) (now places) 0 count × (count ≤ nodeLimit) × (length (now targets) ≡ slotLimit) × (fresh [] (nodesBy (now s) (now places) 0 count) ≡ ok tt) ⌝ }
+    ensures { λ _. ⌜ now (targets .exit) ≡ sets (now (targets .entry)) 0 (rowsOf (nodesBy (now (s .entry)) (now (places .entry)) 0 count) (nodesBy (now (s .entry)) (now (places .entry)) 0 count)) ⌝ }
 {
-    let mut at = first;
     let mut i = 0;
     while i < count {
-        let r = resolve_group(s, first, count, at, i, targets);
-        at = r.at;
-        i = r.index;
+        i = resolve_group(s, places, count, i, targets);
     }
 }
