@@ -28,7 +28,7 @@ returns c =
     let t = c .before in
     let u = t .before .before in
     let a = start u .args in
-    c .input-port .ensures ∙ sym (input-typed (a .s .now) (a .k) (a .f .place) (a .at) (sym (u .u16-at .ensures .0) ∙ t .if1 .taken))
+    c .input-port .ensures ∙ sym (input-typed (a .s .now) _ (a .f .place) (a .at) (sym (u .u16-at .ensures .0) ∙ t .if1 .taken))
 
 -- the reference names no input
 named : (e : tie.Else1) → let a = start-of-else e .args in u16 (a .s .now) (a .at) ≡ 0 → ⊥
@@ -55,7 +55,7 @@ returns-2 c =
     let s = a .s .now in
     c .node-port .ensures
     ∙ sym
-    (node-typed s (a .k) (a .f .place) (a .at) (w .wide32 .result) (named e)
+    (node-typed s _ (a .f .place) (a .at) (w .wide32 .result) (named e)
     (slot-found s (a .f .place) (a .at) (a .i) (named e) (b .pre .3) (let q = b .pre .0 .count in let l = t .if2 .taken in omega (arith, l, q))
     ∙ ap (λ (x : ℕ). some (nodeAt s x)) (ap (λ (x : ℕ). nodePlace s x (a .i)) (sym (b .pre .0 .first)) ∙ sym (place w))))
 
@@ -66,7 +66,7 @@ returns-3 c =
     let a = b .args in
     let s = a .s .now in
     sym
-    (none-typed s (a .k) (a .f .place) (a .at) (named e)
+    (none-typed s _ (a .f .place) (a .at) (named e)
     (slot-lost s (a .f .place) (a .at) (a .i) (named e) (b .pre .3) (let q = b .pre .0 .count in let l = c .if2 .left in omega (arith, l, q))))
 
 pub slot-port-spec : {M : Type 1} → statement M
