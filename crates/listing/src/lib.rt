@@ -9,8 +9,8 @@ ghost use Rattle.lowering.specs.Listing.{decimal, newline, refusedText, atText,
 ghost use Rattle.base.specs.Bytes.{byte};
 ghost use Rattle.base.specs.Outcome.{ok};
 ghost use Rattle.graph.specs.Judge.{verdict};
-ghost use Rattle.reader.specs.Find.{ReadsFunction, Started};
-ghost use Rattle.sums.specs.Position.{before, Accepted};
+ghost use Rattle.reader.specs.Find.{ReadsFunction};
+ghost use Rattle.sums.specs.Position.{before, Accepted, Started};
 ghost use Rattle.sums.specs.Capped.{AllSummed};
 ghost use Rattle.listing.specs.Lines.{textLimit, firstLimit, lineLimit, Put, headText, countsText, lineAt};
 use base::FUNCTION_LIMIT;

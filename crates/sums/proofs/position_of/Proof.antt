@@ -1,8 +1,5 @@
 use borrow.Author.Needs.{needs}
-use Prim.Native.Nat.{ℕ}
 use mathlib.Core.Path.{_≡_, ap, sym, _∙_}
-use mathlib.Core.List.{List}
-use Rattle.graph.specs.Graph.{Function}
 use Rattle.reader.specs.Find.{functionFound}
 use Rattle.sums.specs.Position.{before, foundAt, positionOf}
 use Rattle.sums.proofs.Tabulate.{starts-read, starts-known}
