@@ -11,7 +11,7 @@ use native.Mathlib.Numerals.{add-one}
 use lib.Dec.{leb, eqb}
 use lib.ListN.{length, getD, List·getD-map}
 use borrow.Author.Tests.{leb-true, eq-eqb, ne-eqb}
-use Rattle.base.specs.Limits.{kindLimit}
+use Rattle.base.specs.Limits.{portLimit, nodeLimit, kindLimit}
 use Rattle.ports.specs.declared.Form.{Form}
 use Rattle.ports.specs.declared.Form.the-variants.{Absent, Constant, References, Call}
 use Rattle.ports.specs.declared.Ports.{Ports}
@@ -195,7 +195,7 @@ pub record Holds (s : List ℕ) (at : ℕ) : Type 0 where
   pub head : at + 6 ≤ length s
   pub inputs : at + 6 + inputCount s at ≤ length s
   pub outputs : nodesPlace s at ≤ length s
-  pub few : nodeCount s at ≤ 256
+  pub few : nodeCount s at ≤ nodeLimit
   pub nodes : ReadsNodes (nodeCount s at) s (nodesPlace s at)
 
 pub function-holds : (s : List ℕ) (at : ℕ) → ReadsFunction s at → Holds s at
@@ -207,7 +207,7 @@ function-holds s at (x, e) =
     let (ns, en, e5) = took _ _ _ e4 in
     let nin = byte s (at + 2) in
     let nout = byte s (at + 3) in
-    let (u1, u2) = and-inv (leb 1 (u16 s at) && leb nin 8 && (leb 1 nout && leb nout 8)) (leb (u16 s (at + 4)) 256) u in
+    let (u1, u2) = and-inv (leb 1 (u16 s at) && leb nin portLimit && (leb 1 nout && leb nout portLimit)) (leb (u16 s (at + 4)) nodeLimit) u in
     let h : at + 6 ≤ length s = leb-true _ _ t in
     let i : at + 6 + nin ≤ length s = inputs-fit nin s (at + 6) ins ei h in
     record { head = h; inputs = i; outputs = outputs-fit nout s (at + 6 + nin) outs eo i; few = leb-true _ _ u2; nodes = (ns, en) }
