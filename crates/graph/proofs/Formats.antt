@@ -1,4 +1,4 @@
--- What is so of every format that there is. Nothing else opens `formatOf` but the code that goes by the version.
+-- What is so of every format that there is.
 use Prim.Native.Nat.{ℕ, zero, suc, _+_, _-_, _^_, _≤_, _<_}
 use mathlib.Core.Path.{_≡_, _∙_}
 use mathlib.Core.Bool.{true, _&&_}
