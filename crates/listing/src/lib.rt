@@ -6,7 +6,6 @@ ghost use Prim.Native.Nat.{_+_, _<_, _≤_};
 ghost use lib.ListN.{length, drop};
 ghost use lib.Seq.{sets};
 ghost use Rattle.lowering.specs.Listing.{decimal, newline, refusedText, atText, functionLines, listing};
-ghost use Rattle.base.specs.Bytes.{byte};
 ghost use Rattle.base.specs.Outcome.{ok};
 ghost use Rattle.graph.specs.Judge.{verdict};
 ghost use Rattle.reader.specs.Find.{ReadsFunction};

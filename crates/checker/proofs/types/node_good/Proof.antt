@@ -1,7 +1,7 @@
 use borrow.Author.Needs.{needs}
 use Prim.Native.Nat.{ℕ, _+_, _≤_, _<_}
 use mathlib.Core.Path.{_≡_, refl, ap, sym, _∙_, subst}
-use mathlib.Core.List.{[]}
+use mathlib.Core.List.{List, []}
 use mathlib.Core.Option.{some}
 use native.Mathlib.Omega.{arith}
 use lib.ListN.{length}
@@ -9,6 +9,7 @@ use Rattle.ports.specs.declared.Form.{Form}
 use Rattle.ports.specs.Ports.{formOf, own, types}
 use Rattle.base.specs.Outcome.{ok}
 use Rattle.base.specs.Bytes.{byte, u16}
+use Rattle.graph.specs.Graph.{Function}
 use Rattle.graph.specs.Look.{findFunction, reads, readsOf}
 use Rattle.graph.specs.Read.{references}
 use Rattle.graph.specs.Judge.{callOk}
@@ -31,6 +32,9 @@ use Rattle.base.specs.Limits.{nodeLimit}
 
 abbrev start : tie.After-wide32 → tie.Start
 start w = w .before .before .before
+
+abbrev early : tie.After-wide32 → List Function
+early w = let a = start w .args in known (a .s .now) (a .starts .now) (a .k)
 
 abbrev place-of : tie.After-ports-of → tie.After-wide32
 place-of c = c .before .before
@@ -73,16 +77,16 @@ head w = head-fits (start w .args .s .now) (w .wide32 .result) (here w)
 
 -- its call passed 10
 good : (w : tie.After-wide32) → let a = start w .args in
-    callOk (known (a .s .now) (a .starts .now) (a .k)) (w .wide32 .result) (nodeAt (a .s .now) (w .wide32 .result) .payload) ≡ ok tt
+    callOk (early w) (w .wide32 .result) (nodeAt (a .s .now) (w .wide32 .result) .payload) ≡ ok tt
 good w =
     let a = start w .args in
-    subst (λ (p : ℕ). callOk (known (a .s .now) (a .starts .now) (a .k)) p (nodeAt (a .s .now) p .payload) ≡ ok tt) (sym (place w)) (start w .pre .4)
+    subst (λ (p : ℕ). callOk (early w) p (nodeAt (a .s .now) p .payload) ≡ ok tt) (sym (place w)) (start w .pre .4)
 
 -- an answer on the node at the place is one on node i
 answer : (w : tie.After-wide32) (r : Seen) → let a = start w .args in
-    r ≡ seen (nodeChecked (a .s .now) (known (a .s .now) (a .starts .now) (a .k)) (a .f .place) (nodeAt (a .s .now) (w .wide32 .result)))
-    → r ≡ seen (nodeChecked (a .s .now) (known (a .s .now) (a .starts .now) (a .k)) (a .f .place) (nodeAt (a .s .now) (nodePlace (a .s .now) (a .f .first) (a .i))))
-answer w r e = let a = start w .args in e ∙ ap (λ (p : ℕ). seen (nodeChecked (a .s .now) (known (a .s .now) (a .starts .now) (a .k)) (a .f .place) (nodeAt (a .s .now) p))) (place w)
+    r ≡ seen (nodeChecked (a .s .now) (early w) (a .f .place) (nodeAt (a .s .now) (w .wide32 .result)))
+    → r ≡ seen (nodeChecked (a .s .now) (early w) (a .f .place) (nodeAt (a .s .now) (nodePlace (a .s .now) (a .f .first) (a .i))))
+answer w r e = let a = start w .args in e ∙ ap (λ (p : ℕ). seen (nodeChecked (a .s .now) (early w) (a .f .place) (nodeAt (a .s .now) p))) (place w)
 
 -- its slots
 row : (w : tie.After-wide32) (r : Reads) → let a = start w .args in
@@ -100,7 +104,7 @@ form d h e = let w = d .before .before in form-is (start w .args .s .now) (w .wi
 -- ---- no references
 
 none : (d : tie.After-ports-of) (h : Form) → d .ports-of .result .form ≡ h → let w = d .before .before in let a = start w .args in let s = a .s .now in
-    readsOf (payloadAt h (kindAt s (w .wide32 .result)) s (w .wide32 .result + 4)) ≡ [] → Seen.Passed ≡ seen (nodeChecked s (known s (a .starts .now) (a .k)) (a .f .place) (nodeAt s (nodePlace s (a .f .first) (a .i))))
+    readsOf (payloadAt h (kindAt s (w .wide32 .result)) s (w .wide32 .result + 4)) ≡ [] → Seen.Passed ≡ seen (nodeChecked s (early w) (a .f .place) (nodeAt s (nodePlace s (a .f .first) (a .i))))
 none d h e q =
     let w = d .before .before in
     let a = start w .args in
@@ -128,7 +132,7 @@ returns-3 c =
     let at = w .wide32 .result in
     let rowOf = d .ports-of .result in
     let n = references-node s _ (a .f .place) at rowOf (d .ports-of .ensures) (form d _ (t .enum-told3 .given .1)) in
-    let check : Reads → ℕ → ℕ → Seen = λ m x y. seen (referencesChecked s (known s (a .starts .now) (a .k)) (a .f .place) (types (m .count) x y) (references (m .count) s (m .first))) in
+    let check : Reads → ℕ → ℕ → Seen = λ m x y. seen (referencesChecked s (early w) (a .f .place) (types (m .count) x y) (references (m .count) s (m .first))) in
     answer w _
     (c .references-good .ensures
     ∙ ap (λ (m : Reads). check m (o1 .own .result) (o2 .own2 .result)) (r .ensures .0)
@@ -142,14 +146,14 @@ calls : (t : tie.After-enum-told4) → formOf (kindAt (start (place-of-call t) .
 calls t = form (t .before .before .before) _ (t .enum-told4 .given .1)
 
 told : (f : tie.After-find-function) → let w = place-of-call (call-of-find f) in let a = start w .args in
-    f .find-function .result ≡ functionFound (u16 (a .s .now) (w .wide32 .result + 4)) (known (a .s .now) (a .starts .now) (a .k))
+    f .find-function .result ≡ functionFound (u16 (a .s .now) (w .wide32 .result + 4)) (early w)
 told f =
-    let a = start (place-of-call (call-of-find f)) .args in
-    f .find-function .ensures ∙ ap (λ (i : ℕ). functionFound i (known (a .s .now) (a .starts .now) (a .k))) (f .before .callee-at .ensures)
+    let w = place-of-call (call-of-find f) in
+    f .find-function .ensures ∙ ap (λ (i : ℕ). functionFound i (early w)) (f .before .callee-at .ensures)
 
 -- the function that was found
 callee : (d : tie.After-known-told) → let w = place-of-call (call-of-known d) in let a = start w .args in let p = d .before .found .given .0 .1 .0 in
-    ReadsFunction (a .s .now) p × (findFunction (u16 (a .s .now) (w .wide32 .result + 4)) (known (a .s .now) (a .starts .now) (a .k)) ≡ some (functionAt (a .s .now) p))
+    ReadsFunction (a .s .now) p × (findFunction (u16 (a .s .now) (w .wide32 .result + 4)) (early w) ≡ some (functionAt (a .s .now) p))
 callee d = let f = found-arguments d .before in found-callee _ _ _ (start (place-of-call (call-of-find f)) .pre .0 .started) _ _ _ (sym (told f) ∙ d .before .found .given .1)
 
 -- its inputs fit, and are as many as the arguments
@@ -183,7 +187,7 @@ returns-4 c =
     let p = d .before .found .given .0 .1 .0 in
     answer w _
     (c .references-good2 .ensures
-    ∙ ap (λ (m : Reads). seen (referencesChecked s (known s (a .starts .now) (a .k)) (a .f .place) (inputsAt (m .count) s (p + 6)) (references (m .count) s (m .first)))) (found-arguments d .arguments-at .ensures .0)
+    ∙ ap (λ (m : Reads). seen (referencesChecked s (early w) (a .f .place) (inputsAt (m .count) s (p + 6)) (references (m .count) s (m .first)))) (found-arguments d .arguments-at .ensures .0)
     ∙ ap seen (sym (call-node s _ (a .f .place) at (calls t) (good w) p (callee d .1))))
 
 returns-5 : tie.Need-returns-5

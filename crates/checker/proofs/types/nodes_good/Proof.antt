@@ -33,6 +33,9 @@ abbrev μ-loop : tie.MeasureT-loop
 abbrev start : tie.At-loop Inv-loop μ-loop → tie.Start Inv-loop μ-loop
 start l = l .before .before
 
+abbrev early : tie.Start Inv-loop μ-loop → List Function
+early b = known (b .args .s .now) (b .args .starts .now) (b .args .k)
+
 loop-holds : tie.Need-loop-holds Inv-loop μ-loop
 unfolding nodePlace
 loop-holds c =
@@ -42,11 +45,11 @@ loop-holds c =
     let p = b .pre .0 in
     let z : nodeCount s (a .f .place) ≡ a .f .count - 0 = let e = p .count in omega (arith, e) in (
       omega arith,
-      subst (λ (x : ℕ). Left s (known s (a .starts .now) (a .k)) (a .f .place) (a .f .count - 0) x) (sym (p .first))
-          (subst (λ (n : ℕ). Left s (known s (a .starts .now) (a .k)) (a .f .place) n (nodesPlace s (a .f .place))) z
+      subst (λ (x : ℕ). Left s (early b) (a .f .place) (a .f .count - 0) x) (sym (p .first))
+          (subst (λ (n : ℕ). Left s (early b) (a .f .place) n (nodesPlace s (a .f .place))) z
           (record {
-            same = ap (each (nodeChecked s (known s (a .starts .now) (a .k)) (a .f .place))) (nodes-of s (a .f .place));
-            calls = ap (each (call (known s (a .starts .now) (a .k)))) (sym (nodes-of s (a .f .place))) ∙ b .pre .3;
+            same = ap (each (nodeChecked s (early b) (a .f .place))) (nodes-of s (a .f .place));
+            calls = ap (each (call (early b))) (sym (nodes-of s (a .f .place))) ∙ b .pre .3;
           })),
     )
 
@@ -56,7 +59,7 @@ node-good-requires c κs =
     let l = c .before .before in
     let b = start l in
     let a = b .args in
-    (b .pre .0, b .pre .1, b .pre .2, c .if1 .taken, each-passed (a .s .now) (a .f .first) (a .f .count) (l .loop .i) (c .if1 .taken) (call (known (a .s .now) (a .starts .now) (a .k))) (l .loop .inv .1 .calls) .0)
+    (b .pre .0, b .pre .1, b .pre .2, c .if1 .taken, each-passed (a .s .now) (a .f .first) (a .f .count) (l .loop .i) (c .if1 .taken) (call (early b)) (l .loop .inv .1 .calls) .0)
 
 returns : tie.Need-returns Inv-loop μ-loop
 returns c =
@@ -68,7 +71,7 @@ returns c =
     ap seen
     (sym
     (l .loop .inv .1 .same
-    ∙ each-fault s (a .f .first) (a .f .count) (l .loop .i) (d .if1 .taken) (nodeChecked s (known s (a .starts .now) (a .k)) (a .f .place)) (seen-fault _ _ _ (sym (c .before .found .given .1) ∙ g .node-good .ensures))))
+    ∙ each-fault s (a .f .first) (a .f .count) (l .loop .i) (d .if1 .taken) (nodeChecked s (early (start l)) (a .f .place)) (seen-fault _ _ _ (sym (c .before .found .given .1) ∙ g .node-good .ensures))))
 
 loop-again : tie.Need-loop-again Inv-loop μ-loop
 loop-again c =
@@ -80,8 +83,8 @@ loop-again c =
       omega (arith, d .if1 .taken),
       record {
         same = l .loop .inv .1 .same
-            ∙ each-on s (a .f .first) (a .f .count) (l .loop .i) (d .if1 .taken) (nodeChecked s (known s (a .starts .now) (a .k)) (a .f .place)) (seen-good _ (sym (c .enum-told .given .1) ∙ g .node-good .ensures));
-        calls = each-passed s (a .f .first) (a .f .count) (l .loop .i) (d .if1 .taken) (call (known s (a .starts .now) (a .k))) (l .loop .inv .1 .calls) .1;
+            ∙ each-on s (a .f .first) (a .f .count) (l .loop .i) (d .if1 .taken) (nodeChecked s (early (start l)) (a .f .place)) (seen-good _ (sym (c .enum-told .given .1) ∙ g .node-good .ensures));
+        calls = each-passed s (a .f .first) (a .f .count) (l .loop .i) (d .if1 .taken) (call (early (start l))) (l .loop .inv .1 .calls) .1;
       },
     )
 
@@ -90,7 +93,7 @@ returns-2 c =
     let l = c .before .before in
     let a = start l .args in
     let s = a .s .now in
-    ap seen (sym (l .loop .inv .1 .same ∙ each-none (nodeChecked s (known s (a .starts .now) (a .k)) (a .f .place)) s (a .f .count - l .loop .i) _ (omega (arith, c .if1 .left))))
+    ap seen (sym (l .loop .inv .1 .same ∙ each-none (nodeChecked s (early (start l)) (a .f .place)) s (a .f .count - l .loop .i) _ (omega (arith, c .if1 .left))))
 
 pub nodes-good-spec : {M : Type 1} → statement M
 nodes-good-spec =
