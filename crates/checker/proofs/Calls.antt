@@ -13,15 +13,14 @@ use Rattle.base.specs.Outcome.{Outcome, ok, fault, need, each}
 use Rattle.base.specs.Bytes.{byte, u16}
 use Rattle.graph.specs.Graph.{Node, Function}
 use Rattle.graph.specs.Look.{findFunction, found}
-use Rattle.graph.specs.Format.{version1}
 use Rattle.graph.specs.Read.{references}
 use Rattle.graph.specs.Judge.{callOk}
 use Rattle.graph.specs.Types.{inputsOf}
 use Rattle.base.proofs.Outcomes.{takes, stops, took}
 use Rattle.base.proofs.Numbers.{one-less}
 use Rattle.graph.proofs.Formed.{refs-length}
-use Rattle.reader.specs.Layout.{kindAt, payloadAt, nodeAt, nodesAt, nodePlace, inputsAt, functionAt, earlier}
-use Rattle.reader.specs.Find.{ReadsFunction, Started, functionFound}
+use Rattle.reader.specs.Layout.{kindAt, payloadAt, nodeAt, nodesAt, nodePlace, inputsAt, functionAt, known}
+use Rattle.reader.specs.Find.{ReadsFunction, ReadsStarts, functionFound}
 use Rattle.reader.specs.declared.Found.{Found}
 use Rattle.reader.proofs.Passed.{place-next, found-function}
 
@@ -31,11 +30,11 @@ inputs-length (suc n) s at = ap suc (inputs-length n s (at + 1))
 
 -- the function that was found for an id
 pub found-callee :
-    {s starts : List ℕ} {k : ℕ} → Started s starts k → (id i p : ℕ) → functionFound id (earlier (version1 .header) s k) ≡ Found.At i p
-    → ReadsFunction s p × (findFunction id (earlier (version1 .header) s k) ≡ some (functionAt s p))
-found-callee {s} {k = k} h id i p e =
-    let (l, q, f) = found-function (version1 .header) s id k i p e in
-    (subst (ReadsFunction s) (sym q) (h .reads i l), f)
+    (s starts : List ℕ) (k : ℕ) → ReadsStarts s starts k → (id i p : ℕ) → functionFound id (known s starts k) ≡ Found.At i p
+    → ReadsFunction s p × (findFunction id (known s starts k) ≡ some (functionAt s p))
+found-callee s starts k h id i p e =
+    let (l, q, f) = found-function s starts id k i p e in
+    (subst (ReadsFunction s) (sym q) (h i l), f)
 
 module _ (s : List ℕ) (at : ℕ) (early : List Function) where
   of-form : (h : Form) → formOf (kindAt s at) ≡ h → callOk early at (nodeAt s at .payload) ≡ callOk early at (payloadAt h (kindAt s at) s (at + 4))

@@ -13,23 +13,24 @@ use lib.Seq.{getD-set-same, getD-set-other}
 use borrow.Author.Tests.{leb-true, eqb-true, eqb-false}
 use Rattle.ports.specs.Kinds.{kindOf}
 use Rattle.base.specs.Outcome.{Outcome, ok, fault, _>>_, each, Part}
-use Rattle.base.specs.Bytes.{byte, u16, Bytes}
+use Rattle.base.specs.Bytes.{byte, Bytes}
 use Rattle.graph.specs.Graph.{Payload, consts, refs, calls, Node, Function}
 use Rattle.graph.specs.Look.{findFunction, found, reads, readsOf}
-use Rattle.graph.specs.Format.{version1}
+use Rattle.graph.specs.Format.{formatOf}
 use Rattle.graph.specs.Read.{functions, parse}
 use Rattle.graph.specs.Formed.{FormedPayload, FormedNode, Formed}
 use Rattle.graph.specs.Judge.{fresh, callOk, refOk, refsOk, loopFree, judge, judgeAll, table, verdict}
 use Rattle.graph.specs.Types.{wantsOf}
 use Rattle.base.proofs.Bools.{and-inv}
 use Rattle.base.proofs.Outcomes.{took, passed, takes, stops, goes, halts, passes, fails, is-each}
-use Rattle.graph.proofs.Formed.{function-formed}
+use Rattle.graph.proofs.Formats.{plain-of, nodes-held, table-held, functions-within}
+use Rattle.graph.proofs.Formed.{function-formed, parse-written}
 use Rattle.graph.proofs.Accept.{resolved-by}
 use Rattle.graph.proofs.Order.{wired-in}
 use Rattle.order.specs.Resolve.{target}
 use Rattle.order.proofs.Nodes.{at-below}
-use Rattle.reader.specs.Layout.{nodeAt, nodeEnd, nodesAt, nodePlace, nodeCount, nodesPlace, functionAt, functionEnd, functionsAt, functionPlace, earlier}
-use Rattle.reader.specs.Find.{ReadsFunction, Started}
+use Rattle.reader.specs.Layout.{nodeAt, nodeEnd, nodesAt, nodePlace, nodeCount, nodesPlace, functionAt, functionEnd, functionsAt, earlier, known}
+use Rattle.reader.specs.Find.{ReadsFunction, ReadsFunctions, ReadsStarts}
 use Rattle.reader.specs.Records.{seen}
 use Rattle.reader.specs.declared.Seen.{Seen}
 use Rattle.reader.proofs.Rows.{operands-few}
@@ -37,8 +38,8 @@ use Rattle.reader.proofs.Standing.{function-read, parse-read, earlier-all}
 use Rattle.reader.proofs.Passed.{place-next, function-holds, length-earlier}
 use Rattle.resolver.proofs.Rows.{length-nodes}
 use Rattle.checker.specs.declared.Head.{Head}
-use Rattle.checker.specs.Slots.{ReadsFunctions, RowsAre, SlotsReady}
-use Rattle.base.specs.Limits.{operandLimit, functionLimit}
+use Rattle.checker.specs.Slots.{RowsAre, SlotsReady}
+use Rattle.base.specs.Limits.{functionLimit, nodeLimit, operandLimit, tableLimit}
 use Rattle.base.proofs.Lists.{some-is}
 
 -- ---- the nodes by their indices
@@ -129,23 +130,20 @@ module _ (early : List Function) (f : Function) where
 
 formed : (s : List ℕ) → Bytes s → (at : ℕ) → ReadsFunction s at → Formed (functionAt s at)
 formed s small at (x, e) =
-    subst Formed (ap (λ (y : Part Function). y .it) (function-read (version1 .nodeLimit) s at x e)) (function-formed s small (version1 .nodeLimit) at x e .0)
+    subst Formed (ap (λ (y : Part Function). y .it) (function-read nodeLimit s at x e)) (function-formed s small nodeLimit at x e .0)
 
 payload-narrow : (k : ℕ) (p : Payload) → FormedPayload (kindOf k) p → length (readsOf p) ≤ operandLimit
 payload-narrow k (consts ws) h = omega arith
 payload-narrow k (refs rs) (a, l) = let b = operands-few k in omega (arith, l, b)
 payload-narrow k (calls c rs) (a, l) = omega (arith, l)
 
-module _ (s : List ℕ) (small : Bytes s) (k : ℕ) (f : Head) (ts : List ℕ) where
-  abbrev early : List Function
-  early = earlier (version1 .header) s k
-
+module _ (s : List ℕ) (small : Bytes s) (early : List Function) (f : Head) (ts : List ℕ) where
   abbrev fn : Function
   fn = functionAt s (f .place)
 
   pub ready :
       ReadsFunction s (f .place) → f .first ≡ nodesPlace s (f .place) → f .count ≡ nodeCount s (f .place)
-      → Checked (earlier (version1 .header) s k) (functionAt s (f .place)) → RowsAre s (f .place) (f .count) ts → SlotsReady s f ts
+      → Checked early (functionAt s (f .place)) → RowsAre s (f .place) (f .count) ts → SlotsReady s f ts
   ready r first count c rows =
       let fm = formed s small (f .place) r in
       let rs = resolved-by early fn fm (c .new) tt tt tt tt (c .distinct) (c .calls) (c .outputs) (c .nodes) in
@@ -184,22 +182,19 @@ module _ (s : List ℕ) (at : ℕ) where
 
 -- ---- the functions in turn
 
-abbrev pub ReadsFrom : ℕ → List ℕ → ℕ → Type 0
-ReadsFrom n s at = (p : Part (List Function)) × (functions (version1 .nodeLimit) n s at ≡ ok p)
-
 module _ (s : List ℕ) where
-  pub first-function : (n at : ℕ) → 0 < n → ReadsFrom n s at → ReadsFunction s at
+  pub first-function : (n at : ℕ) → 0 < n → ReadsFunctions n s at → ReadsFunction s at
   first-function zero at l r = absurd (not-suc-le-zero l)
   first-function (suc n) at l (p, e) = let (x, ex, e1) = took _ _ _ e in (x, ex)
 
-  pub rest-functions : (n at : ℕ) → 0 < n → ReadsFrom n s at → ReadsFrom (n - 1) s (functionEnd s at)
+  pub rest-functions : (n at : ℕ) → 0 < n → ReadsFunctions n s at → ReadsFunctions (n - 1) s (functionEnd s at)
   rest-functions zero at l r = absurd (not-suc-le-zero l)
   rest-functions (suc n) at l (p, e) =
       let (x, ex, e1) = took _ _ _ e in
       let (r, er, e2) = took _ _ _ e1 in
       let m : suc n - 1 ≡ n = omega arith in
-      let w : x .next ≡ functionEnd s at = ap (λ (y : Part Function). y .next) (function-read (version1 .nodeLimit) s at x ex) in
-      (r, ap (λ (k : ℕ). functions (version1 .nodeLimit) k s (functionEnd s at)) m ∙ (ap (functions (version1 .nodeLimit) n s) (sym w) ∙ er))
+      let w : x .next ≡ functionEnd s at = ap (λ (y : Part Function). y .next) (function-read nodeLimit s at x ex) in
+      (r, ap (λ (k : ℕ). functions nodeLimit k s (functionEnd s at)) m ∙ (ap (functions nodeLimit n s) (sym w) ∙ er))
 
   pub all-fault : (early : List Function) (n at a p : ℕ) → 0 < n → judge early (functionAt s at) ≡ fault a p → judgeAll early (functionsAt n s at) ≡ fault a p
   unfolding functionsAt
@@ -215,40 +210,34 @@ module _ (s : List ℕ) where
       let m : suc n - 1 ≡ n = omega arith in
       goes _ _ tt e ∙ ap (λ (i : ℕ). judgeAll (functionAt s at ∷ early) (functionsAt i s (functionEnd s at))) (sym m)
 
-  pub start-none : (starts : List ℕ) → Started s starts 0
-  start-none starts = record { places = λ j h. absurd (not-suc-le-zero h); reads = λ j h. absurd (not-suc-le-zero h) }
+  -- one place more
+  module _ (starts : List ℕ) (k at : ℕ) (l : k < length starts) where
+    pub start-more : ReadsStarts s starts k → ReadsFunction s at → ReadsStarts s (set starts k at) (k + 1)
+    start-more h r j b = pickOne (eqb j k) refl
+      where
+        pickOne : (b : Bool) → eqb j k ≡ b → ReadsFunction s (getD (set starts k at) j 0)
+        pickOne true w = subst (λ (i : ℕ). ReadsFunction s (getD (set starts k at) i 0)) (sym (eqb-true j k w)) (subst (ReadsFunction s) (sym (getD-set-same starts k at 0 l)) r)
+        pickOne false w = let d : j ≡ k → ⊥ = eqb-false j k w in subst (ReadsFunction s) (sym (getD-set-other starts k j at 0 d)) (h j (omega arith))
 
-  -- one function more
-  pub start-more :
-      (starts : List ℕ) (k at : ℕ) → Started s starts k → k < length starts → at ≡ functionPlace (version1 .header) s k → ReadsFunction s at
-      → Started s (set starts k at) (k + 1)
-  start-more starts k at h l e r = record {
-    places = λ j b. pickOne j b (eqb j k) refl;
-    reads = λ j b. other j b (eqb j k) refl;
-  }
-    where
-      pickOne : (j : ℕ) → j < k + 1 → (b : Bool) → eqb j k ≡ b → getD (set starts k at) j 0 ≡ functionPlace (version1 .header) s j
-      pickOne j b true w = subst (λ (x : ℕ). getD (set starts k at) x 0 ≡ functionPlace (version1 .header) s x) (sym (eqb-true j k w)) (getD-set-same starts k at 0 l ∙ e)
-      pickOne j b false w = let d : j ≡ k → ⊥ = eqb-false j k w in getD-set-other starts k j at 0 d ∙ h .places j (omega arith)
-
-      other : (j : ℕ) → j < k + 1 → (b : Bool) → eqb j k ≡ b → ReadsFunction s (functionPlace (version1 .header) s j)
-      other j b true w = subst (λ (x : ℕ). ReadsFunction s (functionPlace (version1 .header) s x)) (sym (eqb-true j k w)) (subst (ReadsFunction s) e r)
-      other j b false w = let d : j ≡ k → ⊥ = eqb-false j k w in h .reads j (omega arith)
-
-  pub place-more : (k at : ℕ) → at ≡ functionPlace (version1 .header) s k → functionEnd s at ≡ functionPlace (version1 .header) s (k + 1)
-  unfolding functionPlace
-  place-more k at e = rw (add-one k) (ap (functionEnd s) e)
-
-  pub early-more : (k at : ℕ) → at ≡ functionPlace (version1 .header) s k → functionAt s at ∷ earlier (version1 .header) s k ≡ earlier (version1 .header) s (k + 1)
-  unfolding earlier
-  early-more k at e = rw (add-one k) (ap (λ (x : ℕ). functionAt s x ∷ earlier (version1 .header) s k) e)
+    pub known-more : functionAt s at ∷ known s starts k ≡ known s (set starts k at) (k + 1)
+    unfolding known
+    known-more =
+        rw (add-one k)
+        (ap (λ (x : ℕ). functionAt s x ∷ known s starts k) (sym (getD-set-same starts k at 0 l))
+        ∙ ap (λ (fs : List Function). functionAt s (getD (set starts k at) k 0) ∷ fs) (below k (omega arith)))
+      where
+        below : (j : ℕ) → j ≤ k → known s starts j ≡ known s (set starts k at) j
+        below zero h = refl
+        below (suc j) h =
+            ap (λ (x : ℕ). functionAt s x ∷ known s starts j) (sym (getD-set-other starts k j at 0 (λ e. omega arith)))
+            ∙ ap (λ (fs : List Function). functionAt s (getD (set starts k at) j 0) ∷ fs) (below j (omega arith))
 
 -- ---- the verdict
 
 module _ (s : List ℕ) where
-  pub unread : (n p : ℕ) → Seen.Refused n p ≡ seen (parse version1 s) → verdict s ≡ fault n p
+  pub unread : (n p : ℕ) → Seen.Refused n p ≡ seen (parse (formatOf s) s) → verdict s ≡ fault n p
   unfolding verdict table
-  unread n p e = stops _ _ n p (stops _ _ n p (seen-fault (parse version1 s) n p e))
+  unread n p e = stops _ _ n p (stops _ _ n p (seen-fault (parse (formatOf s) s) n p e))
 
   read-ok : (g : Outcome (List Function)) → Seen.Passed ≡ seen g → (fs : List Function) × (g ≡ ok fs)
   read-ok (ok a) e = (a, refl)
@@ -258,41 +247,38 @@ module _ (s : List ℕ) where
   pub record Whole : Type 0 where
     pub size : 8 ≤ length s
     pub few : byte s 5 ≤ functionLimit
-    pub short : length s < 65536
-    pub reads : ReadsFunctions (byte s 5) s
+    pub short : length s < tableLimit
+    pub reads : ReadsFunctions (byte s 5) s (formatOf s .header)
 
-  pub whole : Bytes s → Seen.Passed ≡ seen (parse version1 s) → Whole
+  pub whole : Bytes s → Seen.Passed ≡ seen (parse (formatOf s) s) → Whole
   whole small e =
-      let (fs, q) = read-ok (parse version1 s) e in
+      let (fs, q) = read-ok (parse (formatOf s) s) e in
       let (t1, e1) = passed _ _ _ _ _ q in
       let (t2, e2) = passed _ _ _ _ _ e1 in
       let (t3, e3) = passed _ _ _ _ _ e2 in
       let (t4, e4) = passed _ _ _ _ _ e3 in
       let (t5, e5) = passed _ _ _ _ _ e4 in
       let (p, ep, e6) = took _ _ _ e5 in
-      let l : u16 s 6 ≡ length s = eqb-true _ _ t4 in
-      let a = small 6 in
-      let b = small 7 in
       record {
         size = leb-true _ _ t1;
         few = leb-true _ _ (and-inv (leb 1 (byte s 5)) (leb (byte s 5) functionLimit) t5 .1);
-        short = omega (arith, l, a, b);
-        reads = (p, ep);
+        short = table-held s fs (parse-written (formatOf s) (plain-of s) s small fs q);
+        reads = (p, functions-within (formatOf s .nodeLimit) nodeLimit (nodes-held s) s (byte s 5) (formatOf s .header) p ep);
       }
 
-  module _ (e : Seen.Passed ≡ seen (parse version1 s)) where
-    opened : table s ≡ (judgeAll [] (functionsAt (byte s 5) s 8) >> ok (earlier 8 s (byte s 5)))
+  module _ (e : Seen.Passed ≡ seen (parse (formatOf s) s)) where
+    opened : table s ≡ (judgeAll [] (functionsAt (byte s 5) s (formatOf s .header)) >> ok (earlier (formatOf s .header) s (byte s 5)))
     unfolding table
     opened =
-        let (fs, q) = read-ok (parse version1 s) e in
-        takes (parse version1 s) (λ gs. judgeAll [] gs >> ok (reverse gs)) fs q
-        ∙ (ap (λ (gs : List Function). judgeAll [] gs >> ok (reverse gs)) (parse-read version1 s fs q)
-        ∙ ap (λ (gs : List Function). judgeAll [] (functionsAt (byte s 5) s 8) >> ok gs) (earlier-all 8 s (byte s 5)))
+        let (fs, q) = read-ok (parse (formatOf s) s) e in
+        takes (parse (formatOf s) s) (λ gs. judgeAll [] gs >> ok (reverse gs)) fs q
+        ∙ (ap (λ (gs : List Function). judgeAll [] gs >> ok (reverse gs)) (parse-read (formatOf s) s fs q)
+        ∙ ap (λ (gs : List Function). judgeAll [] (functionsAt (byte s 5) s (formatOf s .header)) >> ok gs) (earlier-all (formatOf s .header) s (byte s 5)))
 
-    pub refused : (n p : ℕ) → judgeAll [] (functionsAt (byte s 5) s 8) ≡ fault n p → verdict s ≡ fault n p
+    pub refused : (n p : ℕ) → judgeAll [] (functionsAt (byte s 5) s (formatOf s .header)) ≡ fault n p → verdict s ≡ fault n p
     unfolding verdict
     refused n p j = stops _ _ n p (opened ∙ halts _ _ n p j)
 
-    pub accepted : judgeAll [] (functionsAt (byte s 5) s 8) ≡ ok tt → verdict s ≡ ok (byte s 5)
+    pub accepted : judgeAll [] (functionsAt (byte s 5) s (formatOf s .header)) ≡ ok tt → verdict s ≡ ok (byte s 5)
     unfolding verdict
-    accepted j = takes (table s) (λ fs. ok (length fs)) (earlier 8 s (byte s 5)) (opened ∙ goes _ _ tt j) ∙ ap ok (length-earlier 8 s (byte s 5))
+    accepted j = takes (table s) (λ fs. ok (length fs)) (earlier (formatOf s .header) s (byte s 5)) (opened ∙ goes _ _ tt j) ∙ ap ok (length-earlier (formatOf s .header) s (byte s 5))

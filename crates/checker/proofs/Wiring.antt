@@ -20,13 +20,12 @@ use Rattle.base.specs.Outcome.{ok, fault, need, _>>_}
 use Rattle.base.specs.Bytes.{byte, u16}
 use Rattle.graph.specs.Graph.{Function}
 use Rattle.graph.specs.Look.{findNode, findFunction, readsOf}
-use Rattle.graph.specs.Format.{version1}
 use Rattle.graph.specs.Read.{reference, references}
 use Rattle.graph.specs.Judge.{callOk, refOk}
 use Rattle.graph.specs.Types.{inputsOf, refType, wantsOf, givesOf}
 use Rattle.base.proofs.Outcomes.{takes, stops, goes, halts, needed}
 use Rattle.base.proofs.Numbers.{one-less}
-use Rattle.reader.specs.Layout.{kindAt, payloadAt, nodeAt, nodesAt, nodeCount, nodesPlace, inputsAt, outputsAt, functionAt, earlier}
+use Rattle.reader.specs.Layout.{kindAt, payloadAt, nodeAt, nodesAt, nodeCount, nodesPlace, inputsAt, outputsAt, functionAt}
 use Rattle.checker.specs.declared.PortType.{PortType}
 use Rattle.checker.specs.declared.Want.{Want}
 use Rattle.checker.specs.declared.Want.the-variants.{Types, Inputs}
@@ -39,19 +38,16 @@ pub nodes-of : (s : List ℕ) (f : ℕ) → functionAt s f .nodes ≡ nodesAt (n
 unfolding functionAt
 nodes-of s f = refl
 
-module _ (s : List ℕ) (k f at : ℕ) where
-  abbrev early : List Function
-  early = earlier (version1 .header) s k
-
-  pub input-typed : u16 s at ≡ 0 → typeAt s k f at ≡ portOf (getElem? (functionAt s f .inputs) (byte s (at + 2)))
+module _ (s : List ℕ) (early : List Function) (f at : ℕ) where
+  pub input-typed : u16 s at ≡ 0 → typeAt s early f at ≡ portOf (getElem? (functionAt s f .inputs) (byte s (at + 2)))
   input-typed e = rw (eq-eqb (u16 s at) 0 e)
 
   pub node-typed :
       (p : ℕ) → (u16 s at ≡ 0 → ⊥) → findNode (u16 s at) (functionAt s f .nodes) ≡ some (nodeAt s p)
-      → typeAt s k f at ≡ portOf (getElem? (givesOf (earlier (version1 .header) s k) (nodeAt s p) (nodeAt s p .payload)) (byte s (at + 2)))
+      → typeAt s early f at ≡ portOf (getElem? (givesOf early (nodeAt s p) (nodeAt s p .payload)) (byte s (at + 2)))
   node-typed p d e = rw (ne-eqb (u16 s at) 0 d, e)
 
-  pub none-typed : (u16 s at ≡ 0 → ⊥) → findNode (u16 s at) (functionAt s f .nodes) ≡ none → typeAt s k f at ≡ PortType.Nothing
+  pub none-typed : (u16 s at ≡ 0 → ⊥) → findNode (u16 s at) (functionAt s f .nodes) ≡ none → typeAt s early f at ≡ PortType.Nothing
   none-typed d e = rw (ne-eqb (u16 s at) 0 d, e)
 
   -- ---- what the answer tells of 11 and 12
@@ -64,37 +60,37 @@ module _ (s : List ℕ) (k f at : ℕ) where
   some-is none t e = let z : _≡_ {A = ℕ} 0 1 = cc in absurd (omega arith)
   some-is (some u) t e = cc
 
-  pub lost : (w : ℕ) → typeAt s k f at ≡ PortType.Nothing → refOk (earlier (version1 .header) s k) (functionAt s f) w (reference s at) ≡ fault 11 at
+  pub lost : (w : ℕ) → typeAt s early f at ≡ PortType.Nothing → refOk early (functionAt s f) w (reference s at) ≡ fault 11 at
   lost w e = rw (nothing-is (refType early (functionAt s f) (reference s at)) e)
 
-  module _ (t : ℕ) (e : typeAt s k f at ≡ PortType.Is t) where
+  module _ (t : ℕ) (e : typeAt s early f at ≡ PortType.Is t) where
     type-is : refType early (functionAt s f) (reference s at) ≡ some t
     type-is = some-is (refType early (functionAt s f) (reference s at)) t e
 
-    pub mistyped : (w : ℕ) → (t ≡ w → ⊥) → refOk (earlier (version1 .header) s k) (functionAt s f) w (reference s at) ≡ fault 12 at
+    pub mistyped : (w : ℕ) → (t ≡ w → ⊥) → refOk early (functionAt s f) w (reference s at) ≡ fault 12 at
     unfolding need
     mistyped w d = rw (type-is, ne-eqb t w d)
 
-    pub welltyped : (w : ℕ) → t ≡ w → refOk (earlier (version1 .header) s k) (functionAt s f) w (reference s at) ≡ ok tt
+    pub welltyped : (w : ℕ) → t ≡ w → refOk early (functionAt s f) w (reference s at) ≡ ok tt
     unfolding need
     welltyped w q = rw (type-is, eq-eqb t w q)
 
 -- ---- outputs
 
-module _ (s : List ℕ) (k f : ℕ) where
+module _ (s : List ℕ) (early : List Function) (f : ℕ) where
   pub outputs-fault :
-      (n at a p : ℕ) → 0 < n → refOk (earlier (version1 .header) s k) (functionAt s f) (byte s at) (reference s (at + 1)) ≡ fault a p
-      → outputsChecked s k f (outputsAt n s at) ≡ fault a p
+      (n at a p : ℕ) → 0 < n → refOk early (functionAt s f) (byte s at) (reference s (at + 1)) ≡ fault a p
+      → outputsChecked s early f (outputsAt n s at) ≡ fault a p
   outputs-fault zero at a p l e = absurd (not-suc-le-zero l)
   outputs-fault (suc n) at a p l e = stops _ _ a p e
 
   pub outputs-on :
-      (n at : ℕ) → 0 < n → refOk (earlier (version1 .header) s k) (functionAt s f) (byte s at) (reference s (at + 1)) ≡ ok tt
-      → outputsChecked s k f (outputsAt n s at) ≡ outputsChecked s k f (outputsAt (n - 1) s (at + 4))
+      (n at : ℕ) → 0 < n → refOk early (functionAt s f) (byte s at) (reference s (at + 1)) ≡ ok tt
+      → outputsChecked s early f (outputsAt n s at) ≡ outputsChecked s early f (outputsAt (n - 1) s (at + 4))
   outputs-on zero at l e = absurd (not-suc-le-zero l)
   outputs-on (suc n) at l e =
       let m : suc n - 1 ≡ n = omega arith in
-      takes _ _ tt e ∙ ap (λ (i : ℕ). outputsChecked s k f (outputsAt i s (at + 4))) (sym m)
+      takes _ _ tt e ∙ ap (λ (i : ℕ). outputsChecked s early f (outputsAt i s (at + 4))) (sym m)
 
 -- ---- what references want
 
@@ -121,85 +117,85 @@ input-type (suc n) s at (suc j) h =
 
 -- ---- several references
 
-no-references : (s : List ℕ) (k f : ℕ) (ws : List ℕ) → referencesChecked s k f ws [] ≡ ok tt
-no-references s k f [] = refl
-no-references s k f (w ∷ ws) = refl
+no-references : (s : List ℕ) (early : List Function) (f : ℕ) (ws : List ℕ) → referencesChecked s early f ws [] ≡ ok tt
+no-references s early f [] = refl
+no-references s early f (w ∷ ws) = refl
 
 -- the j-th of n and those after it
-module _ (s : List ℕ) (k f n : ℕ) (want : Want) (at j : ℕ) where
+module _ (s : List ℕ) (early : List Function) (f n : ℕ) (want : Want) (at j : ℕ) where
   abbrev wants : List ℕ
   wants = wantsList s n want
 
   module _ (l : j < n) where
-    next : referencesChecked s k f (drop j wants) (references (n - j) s at)
-        ≡ (refOk (earlier (version1 .header) s k) (functionAt s f) (getD wants j 0) (reference s at) >> referencesChecked s k f (drop (j + 1) wants) (references (n - (j + 1)) s (at + 3)))
+    next : referencesChecked s early f (drop j wants) (references (n - j) s at)
+        ≡ (refOk early (functionAt s f) (getD wants j 0) (reference s at) >> referencesChecked s early f (drop (j + 1) wants) (references (n - (j + 1)) s (at + 3)))
     next =
         let e = wants-length s n want in
-        ap (λ (m : ℕ). referencesChecked s k f (drop j wants) (references m s at)) (one-less n j l)
-        ∙ ap (λ (vs : List ℕ). referencesChecked s k f vs (references (suc (n - (j + 1))) s at))
+        ap (λ (m : ℕ). referencesChecked s early f (drop j wants) (references m s at)) (one-less n j l)
+        ∙ ap (λ (vs : List ℕ). referencesChecked s early f vs (references (suc (n - (j + 1))) s at))
         (drop-cons wants j 0 (omega (arith, e, l)) ∙ ap (λ (i : ℕ). getD wants j 0 ∷ drop i wants) (sym (add-one j)))
 
     pub references-fault :
-        {a p : ℕ} → refOk (earlier (version1 .header) s k) (functionAt s f) (getD (wantsList s n want) j 0) (reference s at) ≡ fault a p
-        → referencesChecked s k f (drop j (wantsList s n want)) (references (n - j) s at) ≡ fault a p
+        {a p : ℕ} → refOk early (functionAt s f) (getD (wantsList s n want) j 0) (reference s at) ≡ fault a p
+        → referencesChecked s early f (drop j (wantsList s n want)) (references (n - j) s at) ≡ fault a p
     references-fault e = next ∙ halts _ _ _ _ e
 
     pub references-on :
-        refOk (earlier (version1 .header) s k) (functionAt s f) (getD (wantsList s n want) j 0) (reference s at) ≡ ok tt
-        → referencesChecked s k f (drop j (wantsList s n want)) (references (n - j) s at)
-        ≡ referencesChecked s k f (drop (j + 1) (wantsList s n want)) (references (n - (j + 1)) s (at + 3))
+        refOk early (functionAt s f) (getD (wantsList s n want) j 0) (reference s at) ≡ ok tt
+        → referencesChecked s early f (drop j (wantsList s n want)) (references (n - j) s at)
+        ≡ referencesChecked s early f (drop (j + 1) (wantsList s n want)) (references (n - (j + 1)) s (at + 3))
     references-on e = next ∙ goes _ _ tt e
 
-  pub references-none : n ≤ j → referencesChecked s k f (drop j (wantsList s n want)) (references (n - j) s at) ≡ ok tt
+  pub references-none : n ≤ j → referencesChecked s early f (drop j (wantsList s n want)) (references (n - j) s at) ≡ ok tt
   references-none h =
       let z : n - j ≡ 0 = omega arith in
-      ap (λ (m : ℕ). referencesChecked s k f (drop j wants) (references m s at)) z ∙ no-references s k f (drop j wants)
+      ap (λ (m : ℕ). referencesChecked s early f (drop j wants) (references m s at)) z ∙ no-references s early f (drop j wants)
 
 -- ---- the references of a node
 
-module _ (s : List ℕ) (k f at : ℕ) where
+module _ (s : List ℕ) (early : List Function) (f at : ℕ) where
   by-form : (h : Form) → formOf (kindAt s at) ≡ h
-      → nodeChecked s k f (nodeAt s at)
-      ≡ referencesChecked s k f (wantsOf (earlier (version1 .header) s k) (nodeAt s at) (payloadAt h (kindAt s at) s (at + 4))) (readsOf (payloadAt h (kindAt s at) s (at + 4)))
+      → nodeChecked s early f (nodeAt s at)
+      ≡ referencesChecked s early f (wantsOf early (nodeAt s at) (payloadAt h (kindAt s at) s (at + 4))) (readsOf (payloadAt h (kindAt s at) s (at + 4)))
   unfolding nodeAt
   by-form h e =
       ap
-      (λ (x : Form). referencesChecked s k f (wantsOf (earlier (version1 .header) s k) (nodeAt s at) (payloadAt x (kindAt s at) s (at + 4)))
+      (λ (x : Form). referencesChecked s early f (wantsOf early (nodeAt s at) (payloadAt x (kindAt s at) s (at + 4)))
       (readsOf (payloadAt x (kindAt s at) s (at + 4))))
       e
 
   -- a node that reads nothing
-  pub bare-node : (h : Form) → formOf (kindAt s at) ≡ h → readsOf (payloadAt h (kindAt s at) s (at + 4)) ≡ [] → nodeChecked s k f (nodeAt s at) ≡ ok tt
+  pub bare-node : (h : Form) → formOf (kindAt s at) ≡ h → readsOf (payloadAt h (kindAt s at) s (at + 4)) ≡ [] → nodeChecked s early f (nodeAt s at) ≡ ok tt
   bare-node h e q =
-      let ws = wantsOf (earlier (version1 .header) s k) (nodeAt s at) (payloadAt h (kindAt s at) s (at + 4)) in
-      by-form h e ∙ ap (referencesChecked s k f ws) q ∙ no-references s k f ws
+      let ws = wantsOf early (nodeAt s at) (payloadAt h (kindAt s at) s (at + 4)) in
+      by-form h e ∙ ap (referencesChecked s early f ws) q ∙ no-references s early f ws
 
   pub references-node :
       (row : Ports) → row ≡ portsOf (kindAt s at) → formOf (kindAt s at) ≡ References
-      → nodeChecked s k f (nodeAt s at) ≡ referencesChecked s k f (takesRow row (byte s (at + 3))) (references (row .operands) s (at + 4))
+      → nodeChecked s early f (nodeAt s at) ≡ referencesChecked s early f (takesRow row (byte s (at + 3))) (references (row .operands) s (at + 4))
   unfolding nodeAt
   references-node row q e =
-      by-form References e ∙ ap (λ (r : Ports). referencesChecked s k f (takesRow r (byte s (at + 3))) (references (r .operands) s (at + 4))) (sym q)
+      by-form References e ∙ ap (λ (r : Ports). referencesChecked s early f (takesRow r (byte s (at + 3))) (references (r .operands) s (at + 4))) (sym q)
 
   -- a call that passed 10
-  module _ (c : formOf (kindAt s at) ≡ Call) (good : callOk (earlier (version1 .header) s k) at (nodeAt s at .payload) ≡ ok tt) where
-    pub call-found : findFunction (u16 s (at + 4)) (earlier (version1 .header) s k) ≡ none → ⊥
+  module _ (c : formOf (kindAt s at) ≡ Call) (good : callOk early at (nodeAt s at .payload) ≡ ok tt) where
+    pub call-found : findFunction (u16 s (at + 4)) early ≡ none → ⊥
     call-found e =
-        let h = needed false 10 at tt (sym (call-none s at (earlier (version1 .header) s k) c e) ∙ good) in
+        let h = needed false 10 at tt (sym (call-none s at early c e) ∙ good) in
         let z : _≡_ {A = ℕ} 0 1 = cc in
         omega arith
 
-    pub call-count : (p : ℕ) → findFunction (u16 s (at + 4)) (earlier (version1 .header) s k) ≡ some (functionAt s p) → byte s (at + 4 + 2) ≡ byte s (p + 2)
+    pub call-count : (p : ℕ) → findFunction (u16 s (at + 4)) early ≡ some (functionAt s p) → byte s (at + 4 + 2) ≡ byte s (p + 2)
     call-count p e =
         eqb-true _ _
-        (needed (eqb (byte s (at + 4 + 2)) (byte s (p + 2))) 10 at tt (sym (call-some s at (earlier (version1 .header) s k) c p e) ∙ good))
+        (needed (eqb (byte s (at + 4 + 2)) (byte s (p + 2))) 10 at tt (sym (call-some s at early c p e) ∙ good))
 
     pub call-node :
-        (p : ℕ) → findFunction (u16 s (at + 4)) (earlier (version1 .header) s k) ≡ some (functionAt s p)
-        → nodeChecked s k f (nodeAt s at)
-        ≡ referencesChecked s k f (inputsAt (byte s (at + 4 + 2)) s (p + 6)) (references (byte s (at + 4 + 2)) s (at + 4 + 3))
+        (p : ℕ) → findFunction (u16 s (at + 4)) early ≡ some (functionAt s p)
+        → nodeChecked s early f (nodeAt s at)
+        ≡ referencesChecked s early f (inputsAt (byte s (at + 4 + 2)) s (p + 6)) (references (byte s (at + 4 + 2)) s (at + 4 + 3))
     unfolding functionAt
     call-node p e =
         by-form Call c
-        ∙ (ap (λ (o : Option Function). referencesChecked s k f (inputsOf o) (references (byte s (at + 4 + 2)) s (at + 4 + 3))) e
-        ∙ ap (λ (n : ℕ). referencesChecked s k f (inputsAt n s (p + 6)) (references (byte s (at + 4 + 2)) s (at + 4 + 3))) (sym (call-count p e)))
+        ∙ (ap (λ (o : Option Function). referencesChecked s early f (inputsOf o) (references (byte s (at + 4 + 2)) s (at + 4 + 3))) e
+        ∙ ap (λ (n : ℕ). referencesChecked s early f (inputsAt n s (p + 6)) (references (byte s (at + 4 + 2)) s (at + 4 + 3))) (sym (call-count p e)))

@@ -9,13 +9,13 @@ use Rattle.ports.specs.Ports.{types}
 use Rattle.base.specs.Outcome.{Outcome, ok, fault, each}
 use Rattle.graph.specs.Graph.{Ref, Node, Output, Function}
 use Rattle.graph.specs.Look.{reads}
-use Rattle.graph.specs.Format.{version1}
+use Rattle.graph.specs.Format.{formatOf}
 use Rattle.graph.specs.Read.{reference}
 use Rattle.graph.specs.Rules.{Gives}
 use mathlib.Core.Path.{_≡_}
 use Rattle.graph.specs.Judge.{callOk, refOk, refsOk}
 use Rattle.graph.specs.Types.{refType, wantsOf}
-use Rattle.reader.specs.Layout.{inputsAt, functionAt, earlier}
+use Rattle.reader.specs.Layout.{inputsAt, functionAt}
 use Rattle.checker.specs.declared.Verdict.{Verdict}
 use Rattle.checker.specs.declared.PortType.{PortType}
 use Rattle.checker.specs.declared.Want.{Want}
@@ -28,7 +28,7 @@ verdictOf (fault n p) = Verdict.Refused n p
 
 -- the same by 01's words alone, with neither the reading nor the judging that compute the verdict
 abbrev pub Judged : List ℕ → Verdict → Type 0
-Judged s r = (o : Outcome ℕ) × Gives version1 s o × (r ≡ verdictOf o)
+Judged s r = (o : Outcome ℕ) × Gives (formatOf s) s o × (r ≡ verdictOf o)
 
 -- one of the first j ids
 abbrev pub hit : List ℕ → ℕ → ℕ → Bool
@@ -41,9 +41,9 @@ abbrev pub portOf : Option ℕ → PortType
 portOf none = PortType.Nothing
 portOf (some t) = PortType.Is t
 
--- the type of the reference at `at` in the function at f, the k-th of the table
-abbrev pub typeAt : List ℕ → ℕ → ℕ → ℕ → PortType
-typeAt s k f at = portOf (refType (earlier (version1 .header) s k) (functionAt s f) (reference s at))
+-- the type of the reference at `at` in the function at f, with those before it
+abbrev pub typeAt : List ℕ → List Function → ℕ → ℕ → PortType
+typeAt s early f at = portOf (refType early (functionAt s f) (reference s at))
 
 -- what n references want
 abbrev pub wantsList : List ℕ → ℕ → Want → List ℕ
@@ -54,16 +54,16 @@ abbrev pub WantFits : List ℕ → ℕ → Want → Type 0
 WantFits s n (Types a b) = Unit {0}
 WantFits s n (Inputs p) = p + 6 + n ≤ length s
 
--- ---- the checks of the function at f, the k-th of the table
+-- ---- the checks of the function at f, with those before it
 
-abbrev pub outputsChecked : List ℕ → ℕ → ℕ → List Output → Outcome (Unit {0})
-outputsChecked s k f = each (λ o. refOk (earlier (version1 .header) s k) (functionAt s f) (o .type) (o .ref))
+abbrev pub outputsChecked : List ℕ → List Function → ℕ → List Output → Outcome (Unit {0})
+outputsChecked s early f = each (λ o. refOk early (functionAt s f) (o .type) (o .ref))
 
-abbrev pub referencesChecked : List ℕ → ℕ → ℕ → List ℕ → List Ref → Outcome (Unit {0})
-referencesChecked s k f = refsOk (earlier (version1 .header) s k) (functionAt s f)
+abbrev pub referencesChecked : List ℕ → List Function → ℕ → List ℕ → List Ref → Outcome (Unit {0})
+referencesChecked s early f = refsOk early (functionAt s f)
 
-abbrev pub nodeChecked : List ℕ → ℕ → ℕ → Node → Outcome (Unit {0})
-nodeChecked s k f n = refsOk (earlier (version1 .header) s k) (functionAt s f) (wantsOf (earlier (version1 .header) s k) n (n .payload)) (reads n)
+abbrev pub nodeChecked : List ℕ → List Function → ℕ → Node → Outcome (Unit {0})
+nodeChecked s early f n = refsOk early (functionAt s f) (wantsOf early n (n .payload)) (reads n)
 
-abbrev pub callsChecked : List ℕ → ℕ → Function → Outcome (Unit {0})
-callsChecked s k f = each (λ n. callOk (earlier (version1 .header) s k) (n .place) (n .payload)) (f .nodes)
+abbrev pub callsChecked : List Function → Function → Outcome (Unit {0})
+callsChecked early f = each (λ n. callOk early (n .place) (n .payload)) (f .nodes)

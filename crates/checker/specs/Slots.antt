@@ -4,25 +4,20 @@ use mathlib.Core.Path.{_≡_}
 use mathlib.Core.List.{List}
 use mathlib.Core.Option.{some}
 use lib.ListN.{length, getD, getElem?}
-use Rattle.base.specs.Outcome.{ok, Part}
-use Rattle.graph.specs.Graph.{Node, Function}
+use Rattle.graph.specs.Graph.{Node}
 use Rattle.graph.specs.Look.{findNode, reads}
-use Rattle.graph.specs.Format.{version1}
-use Rattle.graph.specs.Read.{reference, functions}
+use Rattle.graph.specs.Read.{reference}
 use Rattle.base.specs.Lists.{Is}
 use Rattle.order.specs.Indices.{slot}
 use Rattle.order.specs.Resolve.{target, Resolves}
 use Rattle.reader.specs.Layout.{nodeAt, nodePlace, nodeCount, nodesPlace, functionAt}
-use Rattle.reader.specs.Find.{ReadsFunction, Started}
+use Rattle.reader.specs.Find.{ReadsFunction, ReadsStarts}
 use Rattle.checker.specs.declared.Head.{Head}
 use Rattle.base.specs.Limits.{functionLimit, nodeLimit, operandLimit, slotLimit}
 
-abbrev pub ReadsFunctions : ℕ → List ℕ → Type 0
-ReadsFunctions n s = (p : Part (List Function)) × (functions (version1 .nodeLimit) n s (version1 .header) ≡ ok p)
-
--- the function f is judged after the first k, whose places `starts` has
+-- the function f is judged after those at the first k places of `starts`
 pub record Scene (s starts : List ℕ) (k : ℕ) (f : Head) : Type 0 where
-  pub started : Started s starts k
+  pub started : ReadsStarts s starts k
   pub few : k ≤ functionLimit
   pub reads : ReadsFunction s (f .place)
   pub first : f .first ≡ nodesPlace s (f .place)

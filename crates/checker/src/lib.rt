@@ -4,14 +4,13 @@ ghost use Prim.Native.Nat.{_+_, _*_, _^_, _<_, _≤_};
 ghost use mathlib.Core.List.{[]};
 ghost use lib.ListN.{length};
 ghost use Rattle.base.specs.Limits.{functionLimit, nodeLimit, slotLimit};
-ghost use Rattle.graph.specs.Format.{version1};
 ghost use Rattle.graph.specs.Judge.{fresh, loopFree, judge, judgeAll, verdict};
-ghost use Rattle.reader.specs.Layout.{nodeCount, nodesPlace, functionAt, functionEnd, functionsAt, earlier};
-ghost use Rattle.reader.specs.Find.{ReadsFunction, Started};
+ghost use Rattle.reader.specs.Layout.{nodeCount, nodesPlace, functionAt, functionEnd, functionsAt, known};
+ghost use Rattle.reader.specs.Find.{ReadsFunction, ReadsFunctions, ReadsStarts};
 ghost use Rattle.reader.specs.Records.{seen};
 ghost use Rattle.reader.specs.declared.Seen.{Seen};
 ghost use Rattle.checker.specs.Answers.{verdictOf, Judged};
-ghost use Rattle.checker.specs.Slots.{ReadsFunctions, PlacesAre, SlotsReady, Filled};
+ghost use Rattle.checker.specs.Slots.{PlacesAre, SlotsReady, Filled};
 use base::FUNCTION_LIMIT;
 use base::NODE_LIMIT;
 use base::SLOT_LIMIT;
@@ -71,7 +70,7 @@ fn loop_free(s: &[u8], f: Head, targets: &[u16; SLOT_LIMIT]) -> Seen
 
 // ---- a function, and the table
 
-// The function at `place`, the k-th from 0; `targets` is room to work in. One that is good leaves the places of its nodes.
+// The function at `place`, after those at the first k places of `starts`; `targets` is room to work in. One that is good leaves the places of its nodes.
 fn judge_function(
     s: &[u8],
     starts: &[usize; FUNCTION_LIMIT],
@@ -80,8 +79,8 @@ fn judge_function(
     places: &mut [u32; NODE_LIMIT],
     targets: &mut [u16; SLOT_LIMIT],
 ) -> Seen
-    requires { ⌜ Started (now s) (now starts) k × (k ≤ functionLimit) × ReadsFunction (now s) place × (length (now s) < 2 ^ 32) × (length (now places) ≡ nodeLimit) × (length (now targets) ≡ slotLimit) ⌝ }
-    ensures { λ r. ⌜ r ≡ seen (judge (earlier (version1 .header) (now (s .entry)) k) (functionAt (now (s .entry)) place)) ⌝ }
+    requires { ⌜ ReadsStarts (now s) (now starts) k × (k ≤ functionLimit) × ReadsFunction (now s) place × (length (now s) < 2 ^ 32) × (length (now places) ≡ nodeLimit) × (length (now targets) ≡ slotLimit) ⌝ }
+    ensures { λ r. ⌜ r ≡ seen (judge (known (now (s .entry)) (now (starts .entry)) k) (functionAt (now (s .entry)) place)) ⌝ }
     ensures { λ r. ⌜ (r ≡ Seen.Passed → Filled (now (s .entry)) place (now (places .exit)) (now (targets .exit))) ⌝ }
 {
     let same = reader::find_function(s, starts, k, u16_at(s, place));
@@ -140,15 +139,15 @@ fn function_end(s: &[u8], at: usize, places: &[u32; NODE_LIMIT]) -> usize
     }
 }
 
-// The functions of a table that was read, one after another.
-fn judge_all(s: &[u8], count: usize) -> Seen
-    requires { ⌜ ReadsFunctions count (now s) × (count ≤ functionLimit) × (length (now s) < 2 ^ 32) ⌝ }
-    ensures { λ r. ⌜ r ≡ seen (judgeAll [] (functionsAt count (now (s .entry)) (version1 .header))) ⌝ }
+// The functions of a table that was read, one after another from `first` on.
+fn judge_all(s: &[u8], first: usize, count: usize) -> Seen
+    requires { ⌜ ReadsFunctions count (now s) first × (count ≤ functionLimit) × (length (now s) < 2 ^ 32) ⌝ }
+    ensures { λ r. ⌜ r ≡ seen (judgeAll [] (functionsAt count (now (s .entry)) first)) ⌝ }
 {
     let mut starts = [0usize; FUNCTION_LIMIT];
     let mut places = [0u32; NODE_LIMIT];
     let mut targets = [0u16; SLOT_LIMIT];
-    let mut at = reader::HEADER;
+    let mut at = first;
     let mut k = 0;
     while k < count {
         let judged = judge_function(s, &starts, k, at, &mut places, &mut targets);
@@ -178,7 +177,7 @@ pub fn check(table: &[u8]) -> Verdict
         }
     }
     let count = wide(table[5]);
-    let judged = judge_all(table, count);
+    let judged = judge_all(table, reader::HEADER, count);
     match judged {
         Seen::Passed => Verdict::Accepted(count),
         Seen::Refused(number, place) => Verdict::Refused(number, place),

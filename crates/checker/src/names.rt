@@ -4,10 +4,9 @@ ghost use Prim.Native.Nat.{_+_, _<_, _≤_};
 ghost use mathlib.Core.List.{[]};
 ghost use Rattle.base.specs.Limits.{functionLimit, nodeLimit};
 ghost use Rattle.base.specs.Outcome.{need, each};
-ghost use Rattle.graph.specs.Format.{version1};
 ghost use Rattle.graph.specs.Judge.{fresh, callOk};
-ghost use Rattle.reader.specs.Layout.{nodeAt, nodesAt, earlier};
-ghost use Rattle.reader.specs.Find.{ReadsNode, ReadsNodes, Started};
+ghost use Rattle.reader.specs.Layout.{nodeAt, nodesAt, known};
+ghost use Rattle.reader.specs.Find.{ReadsNode, ReadsNodes, ReadsStarts};
 ghost use Rattle.reader.specs.Records.{seen};
 ghost use Rattle.reader.specs.declared.Seen.{Seen};
 ghost use Rattle.checker.specs.Answers.{hit};
@@ -63,8 +62,8 @@ pub fn fresh_nodes(s: &[u8], f: Head, places: &[u32; NODE_LIMIT]) -> Seen
 
 // The node at `at` is no call, or a call of one of the first k functions with its count of arguments.
 fn call_good(s: &[u8], at: usize, starts: &[usize; FUNCTION_LIMIT], k: usize) -> bool
-    requires { ⌜ ReadsNode (now s) at × Started (now s) (now starts) k × (k ≤ functionLimit) ⌝ }
-    ensures { λ r. ⌜ callOk (earlier (version1 .header) (now (s .entry)) k) at (nodeAt (now (s .entry)) at .payload) ≡ need r 10 at ⌝ }
+    requires { ⌜ ReadsNode (now s) at × ReadsStarts (now s) (now starts) k × (k ≤ functionLimit) ⌝ }
+    ensures { λ r. ⌜ callOk (known (now (s .entry)) (now (starts .entry)) k) at (nodeAt (now (s .entry)) at .payload) ≡ need r 10 at ⌝ }
 {
     let row = ports::ports_of(s[at + 2]);
     let form = row.form;
@@ -91,8 +90,8 @@ pub fn calls_good(
     f: Head,
     places: &[u32; NODE_LIMIT],
 ) -> Seen
-    requires { ⌜ ReadsNodes (f .count) (now s) (f .first) × (f .count ≤ nodeLimit) × PlacesHeld (now s) f (now places) × Started (now s) (now starts) k × (k ≤ functionLimit) ⌝ }
-    ensures { λ r. ⌜ r ≡ seen (each (λ n. callOk (earlier (version1 .header) (now (s .entry)) k) (n .place) (n .payload)) (nodesAt (f .count) (now (s .entry)) (f .first))) ⌝ }
+    requires { ⌜ ReadsNodes (f .count) (now s) (f .first) × (f .count ≤ nodeLimit) × PlacesHeld (now s) f (now places) × ReadsStarts (now s) (now starts) k × (k ≤ functionLimit) ⌝ }
+    ensures { λ r. ⌜ r ≡ seen (each (λ n. callOk (known (now (s .entry)) (now (starts .entry)) k) (n .place) (n .payload)) (nodesAt (f .count) (now (s .entry)) (f .first))) ⌝ }
 {
     let mut j = 0;
     while j < f.count {

@@ -7,13 +7,12 @@ ghost use Rattle.ports.specs.Ports.{givesRow};
 ghost use Rattle.base.specs.Limits.{functionLimit, nodeLimit, operandLimit};
 ghost use Rattle.base.specs.Outcome.{ok, each};
 ghost use Rattle.graph.specs.Look.{findFunction};
-ghost use Rattle.graph.specs.Format.{version1};
 ghost use Rattle.graph.specs.Read.{reference, references};
 ghost use Rattle.graph.specs.Judge.{callOk};
 ghost use Rattle.graph.specs.Types.{givesOf, outputsOf, outputTypes};
 ghost use Rattle.order.specs.Resolve.{target};
-ghost use Rattle.reader.specs.Layout.{nodeAt, nodePlace, outputsAt, functionAt, earlier};
-ghost use Rattle.reader.specs.Find.{ReadsNode, ReadsFunction, Started};
+ghost use Rattle.reader.specs.Layout.{nodeAt, nodePlace, outputsAt, functionAt, known};
+ghost use Rattle.reader.specs.Find.{ReadsNode, ReadsFunction, ReadsStarts};
 ghost use Rattle.reader.specs.Records.{seen};
 ghost use Rattle.reader.specs.declared.Seen.{Seen};
 ghost use Rattle.checker.specs.Answers.{portOf, typeAt, wantsList, WantFits, outputsChecked, referencesChecked, nodeChecked, callsChecked};
@@ -77,8 +76,8 @@ fn callee_port(
     id: usize,
     port: u8,
 ) -> PortType
-    requires { ⌜ Started (now s) (now starts) k × (k ≤ functionLimit) ⌝ }
-    ensures { λ r. ⌜ r ≡ portOf (getElem? (outputsOf (findFunction id (earlier (version1 .header) (now (s .entry)) k))) port) ⌝ }
+    requires { ⌜ ReadsStarts (now s) (now starts) k × (k ≤ functionLimit) ⌝ }
+    ensures { λ r. ⌜ r ≡ portOf (getElem? (outputsOf (findFunction id (known (now (s .entry)) (now (starts .entry)) k))) port) ⌝ }
 {
     let found = reader::find_function(s, starts, k, id);
     match found {
@@ -89,8 +88,8 @@ fn callee_port(
 
 // Of the node at `at`.
 fn node_port(s: &[u8], at: usize, starts: &[usize; FUNCTION_LIMIT], k: usize, port: u8) -> PortType
-    requires { ⌜ ReadsNode (now s) at × Started (now s) (now starts) k × (k ≤ functionLimit) ⌝ }
-    ensures { λ r. ⌜ r ≡ portOf (getElem? (givesOf (earlier (version1 .header) (now (s .entry)) k) (nodeAt (now (s .entry)) at) (nodeAt (now (s .entry)) at .payload)) port) ⌝ }
+    requires { ⌜ ReadsNode (now s) at × ReadsStarts (now s) (now starts) k × (k ≤ functionLimit) ⌝ }
+    ensures { λ r. ⌜ r ≡ portOf (getElem? (givesOf (known (now (s .entry)) (now (starts .entry)) k) (nodeAt (now (s .entry)) at) (nodeAt (now (s .entry)) at .payload)) port) ⌝ }
 {
     let row = ports::ports_of(s[at + 2]);
     let ty = s[at + 3];
@@ -112,7 +111,7 @@ fn reference_port(
     at: usize,
 ) -> PortType
     requires { ⌜ Scene (now s) (now starts) k f × (at + 3 ≤ length (now s)) ⌝ }
-    ensures { λ r. ⌜ r ≡ typeAt (now (s .entry)) k (f .place) at ⌝ }
+    ensures { λ r. ⌜ r ≡ typeAt (now (s .entry)) (known (now (s .entry)) (now (starts .entry)) k) (f .place) at ⌝ }
 {
     let id = u16_at(s, at);
     let port = s[at + 2];
@@ -137,7 +136,7 @@ fn slot_port(
     at: usize,
 ) -> PortType
     requires { ⌜ Scene (now s) (now starts) k f × PlacesHeld (now s) f (now places) × (at + 3 ≤ length (now s)) × (i ≡ target (functionAt (now s) (f .place) .nodes) (some (reference (now s) at))) ⌝ }
-    ensures { λ r. ⌜ r ≡ typeAt (now (s .entry)) k (f .place) at ⌝ }
+    ensures { λ r. ⌜ r ≡ typeAt (now (s .entry)) (known (now (s .entry)) (now (starts .entry)) k) (f .place) at ⌝ }
 {
     let id = u16_at(s, at);
     let port = s[at + 2];
@@ -172,7 +171,7 @@ pub fn outputs_good(
     n: usize,
 ) -> Seen
     requires { ⌜ Scene (now s) (now starts) k f × (begin + 4 * n ≤ length (now s)) ⌝ }
-    ensures { λ r. ⌜ r ≡ seen (outputsChecked (now (s .entry)) k (f .place) (outputsAt n (now (s .entry)) begin)) ⌝ }
+    ensures { λ r. ⌜ r ≡ seen (outputsChecked (now (s .entry)) (known (now (s .entry)) (now (starts .entry)) k) (f .place) (outputsAt n (now (s .entry)) begin)) ⌝ }
 {
     let mut at = begin;
     let mut left = n;
@@ -204,7 +203,7 @@ fn references_good(
     i: usize,
 ) -> Seen
     requires { ⌜ Scene (now s) (now starts) k f × PlacesHeld (now s) f (now places) × WantFits (now s) n want × (begin + 3 * n ≤ length (now s)) × (n ≤ operandLimit) × (i < nodeLimit) × RowIs (now s) (f .place) begin n i (now targets) ⌝ }
-    ensures { λ r. ⌜ r ≡ seen (referencesChecked (now (s .entry)) k (f .place) (wantsList (now (s .entry)) n want) (references n (now (s .entry)) begin)) ⌝ }
+    ensures { λ r. ⌜ r ≡ seen (referencesChecked (now (s .entry)) (known (now (s .entry)) (now (starts .entry)) k) (f .place) (wantsList (now (s .entry)) n want) (references n (now (s .entry)) begin)) ⌝ }
 {
     let mut at = begin;
     let mut j = 0;
@@ -240,8 +239,8 @@ fn node_good(
     targets: &[u16; SLOT_LIMIT],
     i: usize,
 ) -> Seen
-    requires { ⌜ Scene (now s) (now starts) k f × PlacesHeld (now s) f (now places) × RowsAre (now s) (f .place) (f .count) (now targets) × (i < f .count) × (callOk (earlier (version1 .header) (now s) k) (nodePlace (now s) (f .first) i) (nodeAt (now s) (nodePlace (now s) (f .first) i) .payload) ≡ ok tt) ⌝ }
-    ensures { λ r. ⌜ r ≡ seen (nodeChecked (now (s .entry)) k (f .place) (nodeAt (now (s .entry)) (nodePlace (now (s .entry)) (f .first) i))) ⌝ }
+    requires { ⌜ Scene (now s) (now starts) k f × PlacesHeld (now s) f (now places) × RowsAre (now s) (f .place) (f .count) (now targets) × (i < f .count) × (callOk (known (now s) (now starts) k) (nodePlace (now s) (f .first) i) (nodeAt (now s) (nodePlace (now s) (f .first) i) .payload) ≡ ok tt) ⌝ }
+    ensures { λ r. ⌜ r ≡ seen (nodeChecked (now (s .entry)) (known (now (s .entry)) (now (starts .entry)) k) (f .place) (nodeAt (now (s .entry)) (nodePlace (now (s .entry)) (f .first) i))) ⌝ }
 {
     let at = wide32(places[i]);
     let row = ports::ports_of(s[at + 2]);
@@ -297,8 +296,8 @@ pub fn nodes_good(
     places: &[u32; NODE_LIMIT],
     targets: &[u16; SLOT_LIMIT],
 ) -> Seen
-    requires { ⌜ Scene (now s) (now starts) k f × PlacesHeld (now s) f (now places) × RowsAre (now s) (f .place) (f .count) (now targets) × (callsChecked (now s) k (functionAt (now s) (f .place)) ≡ ok tt) ⌝ }
-    ensures { λ r. ⌜ r ≡ seen (each (nodeChecked (now (s .entry)) k (f .place)) (functionAt (now (s .entry)) (f .place) .nodes)) ⌝ }
+    requires { ⌜ Scene (now s) (now starts) k f × PlacesHeld (now s) f (now places) × RowsAre (now s) (f .place) (f .count) (now targets) × (callsChecked (known (now s) (now starts) k) (functionAt (now s) (f .place)) ≡ ok tt) ⌝ }
+    ensures { λ r. ⌜ r ≡ seen (each (nodeChecked (now (s .entry)) (known (now (s .entry)) (now (starts .entry)) k) (f .place)) (functionAt (now (s .entry)) (f .place) .nodes)) ⌝ }
 {
     let mut i = 0;
     while i < f.count {

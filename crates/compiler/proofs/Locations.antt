@@ -17,7 +17,7 @@ use Rattle.base.specs.Lists.{Each, member, Distinct}
 use Rattle.graph.specs.Look.{readsOf, reads, outputRefs, ids}
 use Rattle.graph.specs.Schedule.{ready, schedule}
 use Rattle.base.specs.Outcome.{ok, _>>_}
-use Rattle.graph.specs.Format.{version1}
+use Rattle.graph.specs.Format.{formatOf}
 use Rattle.graph.specs.Read.{parse}
 use Rattle.graph.specs.Judge.{judge, judgeAll, table}
 use Rattle.base.specs.Bytes.{Bytes}
@@ -218,7 +218,7 @@ all-single early (f ∷ fs) u h e =
 pub accepted-single : (s : List ℕ) → Bytes s → (fs : List Function) → table s ≡ ok fs → Each (λ f. Single (f .nodes)) fs
 unfolding table
 accepted-single s small fs e =
-    let (gs, p, e1) = took (parse version1 s) (λ fs. judgeAll [] fs >> ok (reverse fs)) fs e in
+    let (gs, p, e1) = took (parse (formatOf s) s) (λ fs. judgeAll [] fs >> ok (reverse fs)) fs e in
     let (u, j, e2) = after (judgeAll [] gs) (ok (reverse gs)) fs e1 in
     let q : reverse gs ≡ fs = ok-is e2 in
     subst (λ (hs : List Function). Each (λ f. Single (f .nodes)) hs) q (all-single [] gs u tt j)

@@ -9,7 +9,7 @@ use native.Mathlib.Omega.{arith}
 use lib.ListN.{length, getD, set, length-set}
 use lib.Seq.{getD-set-same, getD-set-other}
 use Rattle.compiler.specs.Sizes.{orderLimit, outputLimit}
-use Rattle.base.specs.Limits.{nodeLimit, referenceLimit, wordLimit}
+use Rattle.base.specs.Limits.{nodeLimit, tableLimit, referenceLimit, wordLimit}
 use Rattle.base.proofs.Numbers.{lt-or-eq}
 use Rattle.ports.specs.declared.Form.{Form}
 use Rattle.ports.specs.declared.Form.the-variants.{Absent, Constant, References, Call}
@@ -88,7 +88,7 @@ nodes-end-low s (suc n) at h l =
     nodes-end-low s n (nodeEnd s at) (rw z at y) (end-fits s at (first-reads s (suc n) at (omega arith) h))
 
 module _ (s : List ℕ) (j : ℕ) (acc : Accepted s (suc j)) where
-  function-space : (13 * readCount s j + 4 * placeOf s j ≤ 4 * placeOf s (suc j)) × (placeOf s (suc j) < 65536)
+  function-space : (13 * readCount s j + 4 * placeOf s j ≤ 4 * placeOf s (suc j)) × (placeOf s (suc j) < tableLimit)
   unfolding functionPlace functionEnd functionAt
   function-space =
       let h = function-holds s (placeOf s j) (read-below s (suc j) acc j (omega arith)) in

@@ -9,11 +9,11 @@ ghost use Rattle.compiler.specs.Sizes.{orderLimit, nodePortLimit, output
 ghost use Rattle.graph.specs.Look.{reads};
 ghost use Rattle.graph.specs.Read.{reference};
 ghost use Rattle.order.specs.Resolve as Resolve;
-ghost use Rattle.reader.specs.Find.{ReadsNode, ReadsNodes, ReadsFunction, Started};
+ghost use Rattle.reader.specs.Find.{ReadsNode, ReadsNodes, ReadsFunction};
 ghost use Rattle.order.specs.Indices.{indexOrder};
 ghost use Rattle.compiler.specs.Locating.{NodesAllocated, FunctionAllocated, AllocatedTo, readCount, outputCodes, Places, Slots, portCode, readCodes, rebasedCode, rebasedCodes, resultCodes, nodeCodes, AllOuts};
 ghost use Rattle.reader.specs.Layout.{outputCount, outputsPlace, nodeAt, nodesAt, nodesPlace, nodeCount};
-ghost use Rattle.sums.specs.Position.{placeOf, Accepted};
+ghost use Rattle.sums.specs.Position.{placeOf, Accepted, Started};
 ghost use Rattle.sums.specs.Capped.{resultWordsAt, addsWords, WordsHeld};
 use super::NODE_PORT_LIMIT;
 use super::ORDER_LIMIT;

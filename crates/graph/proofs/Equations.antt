@@ -22,7 +22,7 @@ use Rattle.value.proofs.Laws.{results-typed}
 use Rattle.graph.specs.Graph.{Ref, Payload, consts, refs, calls, Node, Function}
 use Rattle.graph.specs.Look.{findNode, findFunction, reads, outputRefs, ids}
 use Rattle.graph.specs.Types.{outputTypes, wantsOf, givesOf, givesAt, refType}
-use Rattle.graph.specs.Format.{version1}
+use Rattle.graph.specs.Format.{formatOf}
 use Rattle.graph.specs.Rules.{Meets}
 use Rattle.graph.specs.Schedule.{ready, schedule}
 use Rattle.graph.specs.Sound.{Wired, Shaped, Sound, AllSound}
@@ -340,7 +340,7 @@ module _ (fs : List Function) (sound : AllSound fs) where
 -- ---- a table
 
 -- an accepted table has one meaning
-pub one-meaning : (s : List ℕ) → Bytes s → (fs : List Function) → Meets version1 s fs → OneMeaning fs (meaningOf (reverse fs))
+pub one-meaning : (s : List ℕ) → Bytes s → (fs : List Function) → Meets (formatOf s) s fs → OneMeaning fs (meaningOf (reverse fs))
 one-meaning s small fs m =
     let sound : AllSound (reverse fs) = accepted s small (reverse fs) (table-back s fs m) in
     let there : (f : Function) → Is f fs → Is f (reverse fs) = λ f h. reversed-back f fs [] (inl h) in

@@ -16,7 +16,7 @@ use Rattle.base.specs.Lists.{Each}
 use Rattle.base.specs.Outcome.{ok, _>>_, Part}
 use Rattle.graph.specs.Graph.{Ref, Payload, Node, Output, Function}
 use Rattle.base.specs.Bytes.{byte, u16, Bytes, bytesOf, allBytes, constants}
-use Rattle.graph.specs.Format.{Format, version1}
+use Rattle.graph.specs.Format.{Format, formatOf}
 use Rattle.graph.specs.Read.{inputs, reference, references, outputs, payload, node, nodes, inRange, function, functions, tableMarked, parse}
 use Rattle.graph.specs.Types.{outputTypes}
 use Rattle.graph.specs.Judge.{judgeAll, table}
@@ -29,6 +29,7 @@ use Rattle.base.proofs.Numbers.{between}
 use Rattle.base.proofs.Outcomes.{took, after, passed, ok-is}
 use Rattle.base.proofs.Stands.{bytes-length, all-length, Here, moved, join, onto, whole-is, little, little-below, little-here, u16-here, u16-below, constants-here, constants-length, constants-words}
 use Rattle.graph.specs.Checks.{Says, tableChecks}
+use Rattle.graph.proofs.Formats.{Plain, plain-of}
 use Rattle.graph.proofs.First.{all-judged}
 use Rattle.graph.proofs.Accept.{all-sound}
 
@@ -276,16 +277,6 @@ module _ (s : List ℕ) (small : Bytes s) where
 
 -- ---- the table
 
--- a format whose length field takes the bytes from 6 up to the functions
-pub record Plain (format : Format) : Type 0 where
-  pub version : format .version < 65536
-  pub header : 8 ≤ format .header
-  pub limit : format .nodeLimit < 65536
-  pub size : (s : List ℕ) → format .size s ≡ little s (format .header - 6) 6
-
-pub plain1 : Plain version1
-plain1 = record { version = omega arith; header = omega arith; limit = omega arith; size = λ s. omega arith }
-
 module _ (format : Format) (plain : Plain format) (s : List ℕ) (small : Bytes s) where
   table-stood : (gs : List Function) → tableMarked s ≡ true → u16 s 3 ≡ format .version → format .size s ≡ length s → length gs ≡ byte s 5
       → Here s (format .header) (flat functionBytes gs) → length s ≡ format .header + length (flat functionBytes gs) → s ≡ tableBytes format gs
@@ -335,8 +326,8 @@ module _ (s : List ℕ) (small : Bytes s) where
   pub accepted : (fs : List Function) → table s ≡ ok fs → AllSound fs
   unfolding table
   accepted fs e =
-      let (gs, p, e1) = took (parse version1 s) (λ fs. judgeAll [] fs >> ok (reverse fs)) fs e in
+      let (gs, p, e1) = took (parse (formatOf s) s) (λ fs. judgeAll [] fs >> ok (reverse fs)) fs e in
       let (u, j, e2) = after (judgeAll [] gs) (ok (reverse gs)) fs e1 in
       let q : reverse gs ≡ fs = ok-is e2 in
       subst AllSound q
-      (all-sound [] gs (parse-written version1 plain1 s small gs p .formed) tt (subst (Says (tableChecks [] gs)) j (all-judged [] gs .0)))
+      (all-sound [] gs (parse-written (formatOf s) (plain-of s) s small gs p .formed) tt (subst (Says (tableChecks [] gs)) j (all-judged [] gs .0)))

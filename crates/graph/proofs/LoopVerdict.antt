@@ -8,7 +8,7 @@ use Rattle.base.specs.Lists.{Is}
 use Rattle.base.specs.Outcome.{fault}
 use Rattle.base.specs.Bytes.{Bytes}
 use Rattle.graph.specs.Graph.{Node, Function}
-use Rattle.graph.specs.Format.{Format, version1}
+use Rattle.graph.specs.Format.{Format, formatOf}
 use Rattle.graph.specs.Judge.{verdict}
 use Rattle.graph.specs.Formed.{Formed}
 use Rattle.graph.specs.Written.{Written}
@@ -98,14 +98,14 @@ stands (g ∷ before) f behind = inr (stands before f behind)
 
 module _ (s : List ℕ) (small : Bytes s) where
   -- 13 with its place
-  pub verdict-13 : (p : ℕ) → (verdict s ≡ fault 13 p) ↔ LoopFault version1 s p
+  pub verdict-13 : (p : ℕ) → (verdict s ≡ fault 13 p) ↔ LoopFault (formatOf s) s p
   verdict-13 p =
       let i = verdict-iff s small (fault 13 p) in
-      let j = fault-13 version1 s p in
+      let j = fault-13 (formatOf s) s p in
       (λ e. j .0 (i .0 e), λ l. i .1 (j .1 l))
 
   -- where no earlier fault stands, 13 is given exactly when no order puts each node of the function after all that it reads
-  pub no-order-verdict : (before : List Function) (f : Function) (behind : List Function) → Written version1 s (before ++ f ∷ behind)
+  pub no-order-verdict : (before : List Function) (f : Function) (behind : List Function) → Written (formatOf s) s (before ++ f ∷ behind)
       → All (tableChecks [] before) → All (linkChecks (reverse before) f)
       → ((m : Node) × FirstOnLoop (f .nodes) m × (verdict s ≡ fault 13 (m .place))) ↔ ((os : List Node) → Orders (f .nodes) os → ⊥)
   no-order-verdict before f behind w a l = (λ (m, o, e). loop .0 (m, o), back)

@@ -11,7 +11,7 @@ use Rattle.base.specs.Outcome.{ok, fault}
 use Rattle.base.specs.Bytes.{Bytes}
 use Rattle.graph.specs.Graph.{Ref, Payload, consts, refs, calls, Node, Output, Function}
 use Rattle.graph.specs.Look.{reads, readsOf, outputRefs}
-use Rattle.graph.specs.Format.{Format, version1}
+use Rattle.graph.specs.Format.{Format, formatOf}
 use Rattle.graph.specs.Types.{wantsOf, outputTypes}
 use Rattle.graph.specs.Judge.{verdict}
 use Rattle.graph.specs.Written.{flat, refBytes, outputBytes, payloadBytes, nodeBytes, functionBytes, headerBytes, RefsAt, PayloadAt, OutputsAt, NodesAt, FunctionAt, FunctionsAt}
@@ -19,7 +19,8 @@ use Rattle.graph.specs.Checks.{Check, First, idChecks, callChecks, refCh
 use Rattle.graph.specs.Reading.{headerChecks, Shape, head, input, output, node, payload, arguments, size, recordChecks, Reading, end, stop, on}
 use Rattle.graph.specs.Rules.{Fault, of-header, of-reading, of-rules}
 use Rattle.base.proofs.Stands.{little-below}
-use Rattle.graph.proofs.Formed.{refs-size, outputs-size, header-length, Plain, plain1}
+use Rattle.graph.proofs.Formed.{refs-size, outputs-size, header-length}
+use Rattle.graph.proofs.Formats.{Plain, plain-of}
 use Rattle.graph.proofs.Exactly.{verdict-iff}
 
 -- ---- checks whose numbers and places are so
@@ -218,9 +219,9 @@ module _ (format : Format) (plain : Plain format) (s : List ℕ) (small : Bytes 
       (omega arith, b, omega arith)
 
 module _ (s : List ℕ) (small : Bytes s) where
-  -- a refusal's number is 1 to 13, and its place fits two bytes
-  pub fault-bounds : (n p : ℕ) → verdict s ≡ fault n p → (1 ≤ n) × (n ≤ 13) × (p < 65536)
-  fault-bounds n p e = fault-range version1 plain1 s small n p (verdict-iff s small (fault n p) .0 e)
+  -- a refusal's number is 1 to 13, and its place fits the length field
+  pub fault-bounds : (n p : ℕ) → verdict s ≡ fault n p → (1 ≤ n) × (n ≤ 13) × (p < 256 ^ (formatOf s .header - 6))
+  fault-bounds n p e = fault-range (formatOf s) (plain-of s) s small n p (verdict-iff s small (fault n p) .0 e)
 
   -- an accepted table has 1 to 16 functions
   pub count-bounds : (n : ℕ) → verdict s ≡ ok n → (1 ≤ n) × (n ≤ 16)

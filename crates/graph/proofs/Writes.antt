@@ -26,7 +26,8 @@ use Rattle.graph.specs.Written.{flat, refBytes, outputBytes, payloadByte
 use Rattle.base.proofs.Bools.{and-both}
 use Rattle.base.proofs.Outcomes.{takes, passes}
 use Rattle.base.proofs.Stands.{split, all-length, Here, moved, off, little-read, u16-read, constants-read}
-use Rattle.graph.proofs.Formed.{refs-size, outputs-size, header-length, Plain, parse-written}
+use Rattle.graph.proofs.Formats.{Plain}
+use Rattle.graph.proofs.Formed.{refs-size, outputs-size, header-length, parse-written}
 
 ref-is : (r : Ref) {a b c : ℕ} → a ≡ r .node → b ≡ r .port → r .place ≡ c → record { node = a; port = b; place = c } ≡ r
 ref-is r p q w = rw (p, q, ← w) refl

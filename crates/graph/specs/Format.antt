@@ -13,3 +13,7 @@ pub record Format : Type 0 where
 
 abbrev pub version1 : Format
 version1 = record { version = 1; header = 8; size = λ s. u16 s 6; nodeLimit = Limits.nodeLimit }
+
+-- the format of a table: there is one
+unfoldable pub formatOf : List ℕ → Format
+formatOf s = version1

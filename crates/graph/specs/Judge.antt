@@ -7,7 +7,7 @@ use lib.Dec.{eqb}
 use lib.ListN.{length}
 use Rattle.base.specs.Outcome.{Outcome, ok, fault, _>>=_, _>>_, need, each}
 use Rattle.graph.specs.Graph.{Ref, Payload, consts, refs, calls, Node, Function}
-use Rattle.graph.specs.Format.{version1}
+use Rattle.graph.specs.Format.{formatOf}
 use Rattle.graph.specs.Read.{parse}
 use Rattle.graph.specs.Look.{findNode, findFunction, found, reads}
 use Rattle.graph.specs.Loops.{loops}
@@ -68,7 +68,7 @@ judgeAll early (f ∷ fs) = do
 -- the functions of an accepted table, the last first, or the first fault
 unfoldable pub table : List ℕ → Outcome (List Function)
 table s = do
-  fs ← parse version1 s
+  fs ← parse (formatOf s) s
   judgeAll [] fs
   ok (reverse fs)
 

@@ -18,7 +18,7 @@ use Rattle.sums.proofs.Measuring.{leb-cap}
 use Rattle.base.specs.Outcome.{ok, fault}
 use Rattle.base.specs.Bytes.{byte, u16}
 use Rattle.graph.specs.Graph.{Function}
-use Rattle.graph.specs.Format.{version1}
+use Rattle.graph.specs.Format.{formatOf}
 use Rattle.graph.specs.Judge.{verdict}
 use Rattle.graph.specs.Sums.{functionOperations, operationsOf, functionWords}
 use Rattle.reader.specs.Layout.{outputsAt, functionAt, inputCount, outputCount, nodeCount, outputsPlace, nodesPlace}
@@ -103,7 +103,7 @@ line-at s k r e =
 pub listing-accepted : (s : List ℕ) (n : ℕ) → verdict s ≡ ok n → acceptedText ++ decimal n ++ newline ++ functionLines (before s n) ≡ listing s
 unfolding listing
 listing-accepted s n e =
-    ap (λ (m : ℕ). acceptedText ++ decimal m ++ newline ++ functionLines (before s n)) (sym (length-earlier (version1 .header) s n)) ∙ sym (ap report (functions-are s n e))
+    ap (λ (m : ℕ). acceptedText ++ decimal m ++ newline ++ functionLines (before s n)) (sym (length-earlier (formatOf s .header) s n)) ∙ sym (ap report (functions-are s n e))
 
 pub listing-refused : (s : List ℕ) (a b : ℕ) → verdict s ≡ fault a b → refusedText ++ decimal a ++ atText ++ decimal b ++ newline ≡ listing s
 unfolding listing

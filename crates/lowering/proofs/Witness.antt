@@ -17,7 +17,7 @@ use Rattle.base.proofs.Bools.{and-inv}
 use Rattle.base.proofs.Lists.{some-is}
 use Rattle.base.proofs.Outcomes.{ok-is}
 use Rattle.value.specs.Results.{results}
-use Rattle.graph.specs.Format.{version1}
+use Rattle.graph.specs.Format.{formatOf}
 use Rattle.graph.specs.Loops.{Leads, via, loops}
 use Rattle.graph.specs.Rules.{Meets}
 use Rattle.graph.specs.Sums.{operationsOf, resultWordsOf}
@@ -41,7 +41,8 @@ unfolding via
 no-loop l = let e : loops (functionA .nodes) 1 ≡ true = loops-iff (functionA .nodes) 1 .1 l in let z : _≡_ {A = ℕ} 0 1 = cc in omega arith
 
 -- by 01's words, with neither the reading nor the judging
-pub meets-a : Meets version1 tableA (functionA ∷ [])
+pub meets-a : Meets (formatOf tableA) tableA (functionA ∷ [])
+unfolding formatOf
 meets-a =
     record {
       written = record {

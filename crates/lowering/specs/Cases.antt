@@ -9,6 +9,7 @@ use Rattle.base.specs.Lists.{Each}
 use Rattle.value.specs.Results.{results}
 use Rattle.base.specs.Outcome.{Outcome, ok, fault, _>>=_, _>>_, need}
 use Rattle.graph.specs.Loops.{via}
+use Rattle.graph.specs.Format.{formatOf}
 use Rattle.graph.specs.Judge.{table, verdict}
 use Rattle.graph.specs.Graph.{refs, Function}
 use Rattle.graph.specs.Written.{flat}
@@ -212,6 +213,6 @@ cases =
     ∷ []
 
 pub settled : Each Holds cases
-unfolding verdict table need _>>=_ _>>_ via nodeMeans meaningOf results operationsOf resultWordsOf schedule inlined encode decode guard then execute compiled ran decimal functionLine listing Ieee.add Ieee.mul Ieee.ofBits Ieee.toBits
+unfolding verdict table formatOf need _>>=_ _>>_ via nodeMeans meaningOf results operationsOf resultWordsOf schedule inlined encode decode guard then execute compiled ran decimal functionLine listing Ieee.add Ieee.mul Ieee.ofBits Ieee.toBits
 settled =
     ((refl, refl), (refl, (refl, (refl, (refl, (refl, (refl, (refl, (refl, (refl, ((refl, refl), ((refl, refl), ((refl, refl), ((refl, refl), (refl, (refl, (refl, (refl, (refl, (refl, (refl, (refl, (refl, (refl, (refl, (refl, (refl, (refl, (refl, (refl, (refl, (refl, (refl, (refl, (refl, (refl, (refl, tt)))))))))))))))))))))))))))))))))))))

@@ -11,7 +11,7 @@ use Rattle.base.specs.Bytes.{Bytes}
 use Rattle.base.specs.Limits.{operationLimit, wordLimit}
 use Rattle.value.specs.Typed.{Finite}
 use Rattle.graph.specs.Graph.{Function}
-use Rattle.graph.specs.Format.{version1}
+use Rattle.graph.specs.Format.{formatOf}
 use Rattle.graph.specs.Rules.{Meets}
 use Rattle.graph.specs.Types.{outputTypes}
 use Rattle.graph.specs.Sums.{functionOperations, operationsOf, functionWords}
@@ -23,7 +23,7 @@ use Rattle.lowering.specs.Answers.{codeOf}
 -- order of the table
 pub record Within (s : List ℕ) (c : ℕ) (functions : List Function) (x : Chosen) : Type 0 where
   pub bytes : Bytes s
-  pub meets : Meets version1 s functions
+  pub meets : Meets (formatOf s) s functions
   pub chosen : chosen c (reverse functions) ≡ some x
   pub operations : functionOperations (operationsOf (x .early)) (x .function) ≤ operationLimit
   pub words : functionWords (x .early) (x .function) ≤ wordLimit

@@ -21,6 +21,7 @@ use Rattle.graph.specs.Judge.{table, verdict}
 use Rattle.graph.specs.Types.{outputTypes}
 use Rattle.graph.specs.Sums.{functionOperations, operationsOf, functionWords}
 use Rattle.graph.specs.Table.{Chosen, chosen}
+use Rattle.graph.proofs.Formats.{places-held}
 use Rattle.graph.proofs.Ranges.{fault-bounds, count-bounds}
 use Rattle.bytecode.specs.Code.{decode}
 use Rattle.bytecode.specs.Answers.{Buffers, ran}
@@ -93,11 +94,11 @@ module _ (s : List ℕ) (small : Bytes s) where
     where
       go : (o : Outcome ℕ) → verdict s ≡ o → Bounded o
       go (ok n) e = let (a, b) = count-bounds s small n e in omega arith
-      go (fault n p) e = let (a, b, c) = fault-bounds s small n p e in (a, omega arith, omega arith)
+      go (fault n p) e = let (a, b, c) = fault-bounds s small n p e in let h = places-held s in (a, omega arith, omega arith)
 
   table-fault : (n p : ℕ) → table s ≡ fault n p → Refusal n p
   unfolding verdict
-  table-fault n p e = let (a, b, c) = fault-bounds s small n p (stops (table s) _ n p e) in (a, omega arith, omega arith)
+  table-fault n p e = let (a, b, c) = fault-bounds s small n p (stops (table s) _ n p e) in let h = places-held s in (a, omega arith, omega arith)
 
   compilable-fault : (c n p : ℕ) → compilable s c ≡ fault n p → Refusal n p
   compilable-fault c n p e =

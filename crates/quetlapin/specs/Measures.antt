@@ -13,10 +13,9 @@ use Rattle.graph.specs.Judge.{table}
 use Rattle.graph.specs.Sums.{functionOperations, operationsOf, functionWords}
 use Rattle.graph.specs.Table.{Chosen, chosen}
 use Rattle.lowering.specs.Answers.{codeOf, compilable}
-use Rattle.reader.specs.Find.{Started}
 use Rattle.sums.specs.declared.Sizes.{Sizes}
 use Rattle.sums.specs.CodeSums.{functionInstructions, instructionsOf}
-use Rattle.sums.specs.Position.{functionIn, before, Accepted}
+use Rattle.sums.specs.Position.{functionIn, before, Accepted, Started}
 use Rattle.sums.specs.Capped.{WordsHeld}
 use Rattle.sums.specs.Answers as sums
 use Rattle.quetlapin.specs.declared.Found.{Found}

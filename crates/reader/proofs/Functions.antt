@@ -9,12 +9,13 @@ use native.Mathlib.Numerals.{sub-one}
 use lib.Dec.{leb, eqb}
 use lib.ListN.{length}
 use borrow.Author.Tests.{le-leb, lt-leb, eq-eqb, ne-eqb}
-use Rattle.base.specs.Limits.{functionLimit, nodeLimit}
+use Rattle.base.specs.Limits.{functionLimit}
 use Rattle.base.specs.Outcome.{Outcome, ok, fault, _>>=_, _>>_, need, Part}
 use Rattle.graph.specs.Graph as Graph
 use Rattle.graph.specs.Graph.{Function}
 use Rattle.base.specs.Bytes.{byte, u16}
 use Rattle.ports.specs.Ports.{isType}
+use Rattle.graph.specs.Format.{Format}
 use Rattle.graph.specs.Read.{fits, reference, inputs, outputs, node, nodes, inRange, function, functions}
 use Rattle.base.proofs.Outcomes.{takes, stops, passes, fails}
 use Rattle.reader.specs.Layout.{outputsPlace, nodesPlace}
@@ -175,29 +176,29 @@ module _ {A : Type 0} where
 
 -- ---- the table
 
-module _ (s : List ℕ) where
+module _ (format : Format) (s : List ℕ) where
   -- what is left of the reading, from each test on
   abbrev pub from-functions : Outcome (List Function)
-  from-functions = functions nodeLimit (byte s 5) s 8 >>= λ fs. need (eqb (fs .next) (length s)) 8 (fs .next) >> ok (fs .it)
+  from-functions = functions (format .nodeLimit) (byte s 5) s (format .header) >>= λ fs. need (eqb (fs .next) (length s)) 8 (fs .next) >> ok (fs .it)
 
   abbrev pub from-count : Outcome (List Function)
   from-count = need (leb 1 (byte s 5) && leb (byte s 5) functionLimit) 6 5 >> from-functions
 
   abbrev pub from-size : Outcome (List Function)
-  from-size = need (eqb (u16 s 6) (length s)) 4 6 >> from-count
+  from-size = need (eqb (format .size s) (length s)) 4 6 >> from-count
 
   abbrev pub from-version : Outcome (List Function)
-  from-version = need (eqb (u16 s 3) 1) 3 3 >> from-size
+  from-version = need (eqb (u16 s 3) (format .version)) 3 3 >> from-size
 
-  pub functions-stop : (n p : ℕ) → Next.Refused n p ≡ next (functions nodeLimit (byte s 5) s 8) → from-functions ≡ fault n p
+  pub functions-stop : (n p : ℕ) → Next.Refused n p ≡ next (functions (format .nodeLimit) (byte s 5) s (format .header)) → from-functions ≡ fault n p
   functions-stop n p r = stops _ _ n p (next-fault n p _ r)
 
-  pub functions-end : (e : ℕ) → Next.At e ≡ next (functions nodeLimit (byte s 5) s 8) → e ≡ length s → seen from-functions ≡ Seen.Passed
+  pub functions-end : (e : ℕ) → Next.At e ≡ next (functions (format .nodeLimit) (byte s 5) s (format .header)) → e ≡ length s → seen from-functions ≡ Seen.Passed
   functions-end e r q =
       let (fs, ef, k) = next-at e _ r in
       ap seen (takes _ _ fs ef ∙ passes (eqb (fs .next) (length s)) 8 (fs .next) _ (eq-eqb (fs .next) (length s) (sym k ∙ q)))
 
-  pub functions-over : (e : ℕ) → Next.At e ≡ next (functions nodeLimit (byte s 5) s 8) → (e ≡ length s → ⊥) → from-functions ≡ fault 8 e
+  pub functions-over : (e : ℕ) → Next.At e ≡ next (functions (format .nodeLimit) (byte s 5) s (format .header)) → (e ≡ length s → ⊥) → from-functions ≡ fault 8 e
   functions-over e r q =
       let (fs, ef, k) = next-at e _ r in
       takes _ _ fs ef ∙ (fails (eqb (fs .next) (length s)) 8 (fs .next) _ (ne-eqb (fs .next) (length s) (λ w. q (k ∙ w))) ∙ ap (fault 8) (sym k))

@@ -11,7 +11,7 @@ use native.Mathlib.Numerals.{add-one}
 use lib.Dec.{leb, eqb}
 use lib.ListN.{length}
 use borrow.Author.Tests.{leb-true, eq-eqb, ne-eqb}
-use Rattle.base.specs.Limits.{kindLimit}
+use Rattle.base.specs.Limits.{portLimit, nodeLimit, kindLimit}
 use Rattle.ports.specs.declared.Form.{Form}
 use Rattle.ports.specs.declared.Form.the-variants.{Absent, Constant, References, Call}
 use Rattle.ports.specs.declared.Ports.{Ports}
@@ -21,13 +21,13 @@ use Rattle.ports.proofs.Laws.{no-kind}
 use Rattle.base.specs.Lists.{Is}
 use Rattle.base.specs.Outcome.{ok, Part}
 use Rattle.base.specs.Bytes.{byte, u16}
-use Rattle.graph.specs.Graph.{Payload, Node, Output}
+use Rattle.graph.specs.Graph.{Payload, Node, Output, Function}
 use Rattle.graph.specs.Look.{findNode, findFunction}
 use Rattle.graph.specs.Read.{inputs, outputs, payload, nodes}
 use Rattle.base.proofs.Bools.{and-inv}
 use Rattle.base.proofs.Numbers.{lt-or-le}
 use Rattle.base.proofs.Outcomes.{took, passed}
-use Rattle.reader.specs.Layout.{kindAt, payloadEnd, nodeAt, nodeEnd, nodesAt, nodePlace, inputCount, nodeCount, nodesPlace, functionAt, functionPlace, earlier}
+use Rattle.reader.specs.Layout.{kindAt, payloadEnd, nodeAt, nodeEnd, nodesAt, nodePlace, inputCount, nodeCount, nodesPlace, functionAt, functionPlace, functionOf, earlier, known}
 use Rattle.reader.specs.Find.{ReadsNode, ReadsNodes, ReadsFunction, nodeFound, functionFound}
 use Rattle.reader.specs.declared.Found.the-variants.{At, Nothing}
 use Rattle.reader.proofs.Standing.{node-read}
@@ -159,7 +159,7 @@ pub record Holds (s : List ℕ) (at : ℕ) : Type 0 where
   pub head : at + 6 ≤ length s
   pub inputs : at + 6 + inputCount s at ≤ length s
   pub outputs : nodesPlace s at ≤ length s
-  pub few : nodeCount s at ≤ 256
+  pub few : nodeCount s at ≤ nodeLimit
   pub nodes : ReadsNodes (nodeCount s at) s (nodesPlace s at)
 
 pub function-holds : (s : List ℕ) (at : ℕ) → ReadsFunction s at → Holds s at
@@ -171,7 +171,7 @@ function-holds s at (x, e) =
     let (ns, en, e5) = took _ _ _ e4 in
     let nin = byte s (at + 2) in
     let nout = byte s (at + 3) in
-    let (u1, u2) = and-inv (leb 1 (u16 s at) && leb nin 8 && (leb 1 nout && leb nout 8)) (leb (u16 s (at + 4)) 256) u in
+    let (u1, u2) = and-inv (leb 1 (u16 s at) && leb nin portLimit && (leb 1 nout && leb nout portLimit)) (leb (u16 s (at + 4)) nodeLimit) u in
     let h : at + 6 ≤ length s = leb-true _ _ t in
     let i : at + 6 + nin ≤ length s = inputs-fit nin s (at + 6) ins ei h in
     record { head = h; inputs = i; outputs = outputs-fit nout s (at + 6 + nin) outs eo i; few = leb-true _ _ u2; nodes = (ns, en) }
@@ -196,57 +196,65 @@ unfolding earlier
 length-earlier begin s zero = refl
 length-earlier begin s (suc k) = ap suc (length-earlier begin s k)
 
-module _ (begin : ℕ) (s : List ℕ) (id : ℕ) where
-  pub function-hit :
-      (k at : ℕ) → 0 < k → at ≡ functionPlace begin s (k - 1) → u16 s at ≡ id → functionFound id (earlier begin s k) ≡ At (k - 1) at
-  unfolding functionAt earlier
-  function-hit zero at h q e = absurd (not-suc-le-zero h)
-  function-hit (suc k) at h q e =
-      let m : suc k - 1 ≡ k = omega arith in
-      let p : at ≡ functionPlace begin s k = q ∙ ap (functionPlace begin s) m in
-      rw (eq-eqb (u16 s (functionPlace begin s k)) id (ap (u16 s) (sym p) ∙ e), length-earlier begin s k, m, p)
+-- the functions of a table are those at its functions' places
+pub known-earlier : (begin : ℕ) (s starts : List ℕ) (k : ℕ) → ((j : ℕ) → j < k → getD starts j 0 ≡ functionPlace begin s j) → known s starts k ≡ earlier begin s k
+unfolding known earlier
+known-earlier begin s starts zero h = refl
+known-earlier begin s starts (suc k) h =
+    ap (λ (p : ℕ). functionAt s p ∷ known s starts k) (h k (omega arith))
+    ∙ ap (λ (fs : List Function). functionOf begin s k ∷ fs) (known-earlier begin s starts k (λ j l. h j (omega arith)))
 
-  pub function-miss :
-      (k at : ℕ) → 0 < k → at ≡ functionPlace begin s (k - 1) → (u16 s at ≡ id → ⊥)
-      → functionFound id (earlier begin s k) ≡ functionFound id (earlier begin s (k - 1))
-  unfolding functionAt earlier
-  function-miss zero at h q e = absurd (not-suc-le-zero h)
-  function-miss (suc k) at h q e =
-      let m : suc k - 1 ≡ k = omega arith in
-      let p : at ≡ functionPlace begin s k = q ∙ ap (functionPlace begin s) m in
-      rw (ne-eqb (u16 s (functionPlace begin s k)) id (λ w. e (ap (u16 s) p ∙ w)), m)
+module _ (s starts : List ℕ) where
+  length-known : (k : ℕ) → length (known s starts k) ≡ k
+  unfolding known
+  length-known zero = refl
+  length-known (suc k) = ap suc (length-known k)
 
--- what a function that is found is
-pub found-function :
-    (begin : ℕ) (s : List ℕ) (id k j p : ℕ) → functionFound id (earlier begin s k) ≡ At j p
-    → (j < k) × (p ≡ functionPlace begin s j) × (findFunction id (earlier begin s k) ≡ some (functionAt s p))
-unfolding functionAt earlier
-found-function begin s id zero j p e = let z : _≡_ {A = ℕ} 0 1 = cc in absurd (omega arith)
-found-function begin s id (suc k) j p e = pickOne (eqb (u16 s (functionPlace begin s k)) id) (λ w. found-function begin s id k j p w) e
-  where
-    pickOne :
-        (b : Bool)
-        → (functionFound id (earlier begin s k) ≡ At j p → (j < k) × (p ≡ functionPlace begin s j) × (findFunction id (earlier begin s k) ≡ some (functionAt s p)))
-        → cond b (At (length (earlier begin s k)) (functionPlace begin s k)) (functionFound id (earlier begin s k)) ≡ At j p
-        → (j < suc k) × (p ≡ functionPlace begin s j) × (cond b (some (functionAt s (functionPlace begin s k))) (findFunction id (earlier begin s k)) ≡ some (functionAt s p))
-    pickOne true ih w =
-        let a : length (earlier begin s k) ≡ j = cc in
-        let q : functionPlace begin s k ≡ p = cc in
-        let m : j ≡ k = sym a ∙ length-earlier begin s k in
-        (omega arith, sym q ∙ ap (functionPlace begin s) (sym m), ap (λ (x : ℕ). some (functionAt s x)) q)
-    pickOne false ih w = let (a, q, f) = ih w in (omega arith, q, f)
+  module _ (id : ℕ) where
+    pub function-hit : (k : ℕ) → 0 < k → u16 s (getD starts (k - 1) 0) ≡ id → functionFound id (known s starts k) ≡ At (k - 1) (getD starts (k - 1) 0)
+    unfolding functionAt known
+    function-hit zero h e = absurd (not-suc-le-zero h)
+    function-hit (suc k) h e =
+        let m : suc k - 1 ≡ k = omega arith in
+        rw (eq-eqb (u16 s (getD starts k 0)) id (rw m at e), length-known k, m)
 
-pub no-function : (begin : ℕ) (s : List ℕ) (id k : ℕ) → functionFound id (earlier begin s k) ≡ Nothing → findFunction id (earlier begin s k) ≡ none
-unfolding functionAt earlier
-no-function begin s id zero e = refl
-no-function begin s id (suc k) e = pickOne (eqb (u16 s (functionPlace begin s k)) id) (λ w. no-function begin s id k w) e
-  where
-    pickOne :
-        (b : Bool) → (functionFound id (earlier begin s k) ≡ Nothing → findFunction id (earlier begin s k) ≡ none)
-        → cond b (At (length (earlier begin s k)) (functionPlace begin s k)) (functionFound id (earlier begin s k)) ≡ Nothing
-        → cond b (some (functionAt s (functionPlace begin s k))) (findFunction id (earlier begin s k)) ≡ none
-    pickOne true ih w = let z : _≡_ {A = ℕ} 0 1 = cc in absurd (omega arith)
-    pickOne false ih w = ih w
+    pub function-miss : (k : ℕ) → 0 < k → (u16 s (getD starts (k - 1) 0) ≡ id → ⊥) → functionFound id (known s starts k) ≡ functionFound id (known s starts (k - 1))
+    unfolding functionAt known
+    function-miss zero h e = absurd (not-suc-le-zero h)
+    function-miss (suc k) h e =
+        let m : suc k - 1 ≡ k = omega arith in
+        rw (ne-eqb (u16 s (getD starts k 0)) id (rw m at e), m)
+
+    -- what a function that is found is
+    pub found-function :
+        (k j p : ℕ) → functionFound id (known s starts k) ≡ At j p → (j < k) × (p ≡ getD starts j 0) × (findFunction id (known s starts k) ≡ some (functionAt s p))
+    unfolding functionAt known
+    found-function zero j p e = let z : _≡_ {A = ℕ} 0 1 = cc in absurd (omega arith)
+    found-function (suc k) j p e = pickOne (eqb (u16 s (getD starts k 0)) id) (λ w. found-function k j p w) e
+      where
+        pickOne :
+            (b : Bool)
+            → (functionFound id (known s starts k) ≡ At j p → (j < k) × (p ≡ getD starts j 0) × (findFunction id (known s starts k) ≡ some (functionAt s p)))
+            → cond b (At (length (known s starts k)) (getD starts k 0)) (functionFound id (known s starts k)) ≡ At j p
+            → (j < suc k) × (p ≡ getD starts j 0) × (cond b (some (functionAt s (getD starts k 0))) (findFunction id (known s starts k)) ≡ some (functionAt s p))
+        pickOne true ih w =
+            let a : length (known s starts k) ≡ j = cc in
+            let q : getD starts k 0 ≡ p = cc in
+            let m : j ≡ k = sym a ∙ length-known k in
+            (omega arith, sym q ∙ ap (λ (i : ℕ). getD starts i 0) (sym m), ap (λ (x : ℕ). some (functionAt s x)) q)
+        pickOne false ih w = let (a, q, f) = ih w in (omega arith, q, f)
+
+    pub no-function : (k : ℕ) → functionFound id (known s starts k) ≡ Nothing → findFunction id (known s starts k) ≡ none
+    unfolding functionAt known
+    no-function zero e = refl
+    no-function (suc k) e = pickOne (eqb (u16 s (getD starts k 0)) id) (λ w. no-function k w) e
+      where
+        pickOne :
+            (b : Bool) → (functionFound id (known s starts k) ≡ Nothing → findFunction id (known s starts k) ≡ none)
+            → cond b (At (length (known s starts k)) (getD starts k 0)) (functionFound id (known s starts k)) ≡ Nothing
+            → cond b (some (functionAt s (getD starts k 0))) (findFunction id (known s starts k)) ≡ none
+        pickOne true ih w = let z : _≡_ {A = ℕ} 0 1 = cc in absurd (omega arith)
+        pickOne false ih w = ih w
 
 -- what a node that is found is
 pub record FoundNode (s : List ℕ) (id n first i j p : ℕ) : Type 0 where

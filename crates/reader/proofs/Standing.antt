@@ -10,7 +10,7 @@ use Rattle.ports.specs.Ports.{formOf}
 use Rattle.base.specs.Outcome.{ok, Part}
 use Rattle.base.specs.Bytes.{byte, u16}
 use Rattle.graph.specs.Graph.{Payload, Node, Output, Function}
-use Rattle.graph.specs.Format.{Format, version1}
+use Rattle.graph.specs.Format.{Format, formatOf}
 use Rattle.graph.specs.Read.{inputs, outputs, payload, node, nodes, function, functions, parse}
 use Rattle.graph.specs.Judge.{table, judgeAll}
 use Rattle.base.proofs.Outcomes.{took, after, passed, ok-is}
@@ -132,9 +132,9 @@ unfolding functionPlace earlier
 earlier-all begin s n = let z : n + 0 ≡ n = omega arith in earlier-more begin s n 0 ∙ ap (earlier begin s) z
 
 -- an accepted table's functions
-pub table-read : (s : List ℕ) (fs : List Function) → table s ≡ ok fs → fs ≡ earlier 8 s (byte s 5)
+pub table-read : (s : List ℕ) (fs : List Function) → table s ≡ ok fs → fs ≡ earlier (formatOf s .header) s (byte s 5)
 unfolding table
 table-read s fs e =
-    let (gs, p, e1) = took (parse version1 s) _ fs e in
+    let (gs, p, e1) = took (parse (formatOf s) s) _ fs e in
     let (u, j, e2) = after (judgeAll [] gs) (ok (reverse gs)) fs e1 in
-    sym (ok-is e2) ∙ ap reverse (parse-read version1 s gs p) ∙ earlier-all 8 s (byte s 5)
+    sym (ok-is e2) ∙ ap reverse (parse-read (formatOf s) s gs p) ∙ earlier-all (formatOf s .header) s (byte s 5)

@@ -5,13 +5,12 @@ use mathlib.Core.Bool.{cond}
 use mathlib.Core.List.{List, [], _∷_}
 use lib.Dec.{eqb}
 use lib.ListN.{length, getD}
-use Rattle.base.specs.Limits.{operandLimit}
+use Rattle.base.specs.Limits.{nodeLimit, operandLimit}
 use Rattle.base.specs.Outcome.{ok, Part}
 use Rattle.graph.specs.Graph.{Node, Function}
-use Rattle.graph.specs.Format.{version1}
 use Rattle.graph.specs.Look.{reads}
-use Rattle.graph.specs.Read.{references, node, nodes, function}
-use Rattle.reader.specs.Layout.{nodeAt, functionPlace}
+use Rattle.graph.specs.Read.{references, node, nodes, function, functions}
+use Rattle.reader.specs.Layout.{nodeAt}
 use Rattle.reader.specs.declared.Reads.{Reads}
 use Rattle.reader.specs.declared.Found.{Found}
 use Rattle.reader.specs.declared.Found.the-variants.{At, Nothing}
@@ -31,12 +30,14 @@ pub record ReadsOf (s : List ℕ) (at : ℕ) (r : Reads) : Type 0 where
   pub fits : r .first + 3 * r .count ≤ length s
 
 abbrev pub ReadsFunction : List ℕ → ℕ → Type 0
-ReadsFunction s at = (x : Part Function) × (function (version1 .nodeLimit) s at ≡ ok x)
+ReadsFunction s at = (x : Part Function) × (function nodeLimit s at ≡ ok x)
 
--- `starts` has the places of the first k functions
-pub record Started (s starts : List ℕ) (k : ℕ) : Type 0 where
-  pub places : (j : ℕ) → j < k → getD starts j 0 ≡ functionPlace (version1 .header) s j
-  pub reads : (j : ℕ) → j < k → ReadsFunction s (functionPlace (version1 .header) s j)
+abbrev pub ReadsFunctions : ℕ → List ℕ → ℕ → Type 0
+ReadsFunctions n s at = (x : Part (List Function)) × (functions nodeLimit n s at ≡ ok x)
+
+-- at each of the first k places of `starts` a function was read
+abbrev pub ReadsStarts : List ℕ → List ℕ → ℕ → Type 0
+ReadsStarts s starts k = (j : ℕ) → j < k → ReadsFunction s (getD starts j 0)
 
 -- ---- answers
 

@@ -1,6 +1,7 @@
 -- What the bytes at a place say, taken as well formed: the reading without its refusals.
 use Prim.Native.Nat.{ℕ, zero, suc, _+_, _*_}
 use mathlib.Core.List.{List, [], _∷_}
+use lib.ListN.{getD}
 use Rattle.ports.specs.declared.Form.{Form}
 use Rattle.ports.specs.declared.Form.the-variants.{Absent, Constant, References, Call}
 use Rattle.ports.specs.Kinds.{Kind, kindOf}
@@ -105,3 +106,10 @@ functionOf begin s k = functionAt s (functionPlace begin s k)
 unfoldable pub earlier : ℕ → List ℕ → ℕ → List Function
 earlier begin s zero = []
 earlier begin s (suc k) = functionOf begin s k ∷ earlier begin s k
+
+-- ---- the functions whose places an array has
+
+-- those at its first k places, the last first
+unfoldable pub known : List ℕ → List ℕ → ℕ → List Function
+known s starts zero = []
+known s starts (suc k) = functionAt s (getD starts k 0) ∷ known s starts k

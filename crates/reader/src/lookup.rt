@@ -3,9 +3,8 @@ ghost use mathlib.Core.Path.{_≡_};
 ghost use Prim.Native.Nat.{_+_, _*_, _<_, _≤_};
 ghost use Rattle.ports.specs.Ports.{portsOf};
 ghost use Rattle.base.specs.Limits.{functionLimit};
-ghost use Rattle.graph.specs.Format.{version1};
-ghost use Rattle.reader.specs.Layout.{kindAt, nodeEnd, nodesAt, nodePlace, nodesPlace, earlier};
-ghost use Rattle.reader.specs.Find.{ReadsNode, ReadsNodes, ReadsFunction, Started, nodeFound, functionFound};
+ghost use Rattle.reader.specs.Layout.{kindAt, nodeEnd, nodesAt, nodePlace, nodesPlace, known};
+ghost use Rattle.reader.specs.Find.{ReadsNode, ReadsNodes, ReadsFunction, ReadsStarts, nodeFound, functionFound};
 use super::Found;
 use super::nodes::reads_by;
 use base::FUNCTION_LIMIT;
@@ -69,10 +68,10 @@ pub fn node_place(s: &[u8], first: usize, count: usize, index: usize) -> usize
     at
 }
 
-// The function of the id among the first k, whose places `starts` has.
+// The function of the id among those at the first k places of `starts`.
 pub fn find_function(s: &[u8], starts: &[usize; FUNCTION_LIMIT], k: usize, id: usize) -> Found
-    requires { ⌜ Started (now s) (now starts) k × (k ≤ functionLimit) ⌝ }
-    ensures { λ r. ⌜ r ≡ functionFound id (earlier (version1 .header) (now (s .entry)) k) ⌝ }
+    requires { ⌜ ReadsStarts (now s) (now starts) k × (k ≤ functionLimit) ⌝ }
+    ensures { λ r. ⌜ r ≡ functionFound id (known (now (s .entry)) (now (starts .entry)) k) ⌝ }
 {
     let mut i = k;
     while 0 < i {

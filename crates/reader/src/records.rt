@@ -4,7 +4,7 @@ ghost use Prim.Native.Nat.{_+_, _*_, _<_};
 ghost use Rattle.ports.specs.Kinds.{kindOf};
 ghost use Rattle.ports.specs.Ports.{portsOf, formOf};
 ghost use Rattle.ports.specs.declared.Form as Forms;
-ghost use Rattle.graph.specs.Format.{version1};
+ghost use Rattle.graph.specs.Format.{formatOf};
 ghost use Rattle.graph.specs.Read.{inputs, outputs, inRange, payload, node, nodes, function, functions, parse};
 ghost use Rattle.reader.specs.Records.{recordAt, payloadRead, nodeRead, seen, next, behind};
 use super::HEADER;
@@ -205,9 +205,15 @@ pub fn read_outputs(s: &[u8], at: usize, n: usize) -> Next
     Next::At(p)
 }
 
-// The fields of a function's head are in their ranges.
-fn in_range(id: usize, input_count: usize, output_count: usize, node_count: usize) -> bool
-    ensures { λ r. ⌜ r ≡ inRange (version1 .nodeLimit) id «input_count» «output_count» «node_count» ⌝ }
+// The fields of a function's head are in their ranges; it has at most `limit` nodes.
+fn in_range(
+    id: usize,
+    input_count: usize,
+    output_count: usize,
+    node_count: usize,
+    limit: usize,
+) -> bool
+    ensures { λ r. ⌜ r ≡ inRange limit id «input_count» «output_count» «node_count» ⌝ }
 {
     if id < 1 {
         return false;
@@ -221,12 +227,12 @@ fn in_range(id: usize, input_count: usize, output_count: usize, node_count: usiz
     if PORT_LIMIT < output_count {
         return false;
     }
-    node_count <= NODE_LIMIT
+    node_count <= limit
 }
 
-// A function: where it ends.
-pub fn read_function(s: &[u8], at: usize) -> Next
-    ensures { λ r. ⌜ r ≡ next (function (version1 .nodeLimit) (now (s .entry)) at) ⌝ }
+// A function of at most `limit` nodes: where it ends.
+pub fn read_function(s: &[u8], at: usize, limit: usize) -> Next
+    ensures { λ r. ⌜ r ≡ next (function limit (now (s .entry)) at) ⌝ }
 {
     let Record::Ends(begin) = read_record(s, at, 6) else {
         return Next::Refused(5, at);
@@ -235,7 +241,7 @@ pub fn read_function(s: &[u8], at: usize) -> Next
     let input_count = s[at + 2] as usize;
     let output_count = s[at + 3] as usize;
     let node_count = u16_at(s, at + 4);
-    if !in_range(id, input_count, output_count, node_count) {
+    if !in_range(id, input_count, output_count, node_count, limit) {
         return Next::Refused(6, at);
     }
     let ins = read_inputs(s, begin, input_count);
@@ -250,13 +256,13 @@ pub fn read_function(s: &[u8], at: usize) -> Next
 }
 
 // n functions, one after another: where they end.
-pub fn read_functions(s: &[u8], at: usize, n: usize) -> Next
-    ensures { λ r. ⌜ r ≡ next (functions (version1 .nodeLimit) n (now (s .entry)) at) ⌝ }
+pub fn read_functions(s: &[u8], at: usize, n: usize, limit: usize) -> Next
+    ensures { λ r. ⌜ r ≡ next (functions limit n (now (s .entry)) at) ⌝ }
 {
     let mut p = at;
     let mut left = n;
     while 0 < left {
-        let read = read_function(s, p);
+        let read = read_function(s, p, limit);
         match read {
             Next::At(end) => {
                 p = end;
@@ -272,7 +278,7 @@ pub fn read_functions(s: &[u8], at: usize, n: usize) -> Next
 
 // The whole table: all of it was read, or the first of the faults 1 to 8.
 pub fn read_table(s: &[u8]) -> Seen
-    ensures { λ r. ⌜ r ≡ seen (parse version1 (now (s .entry))) ⌝ }
+    ensures { λ r. ⌜ r ≡ seen (parse (formatOf (now (s .entry))) (now (s .entry))) ⌝ }
 {
     if s.len() < HEADER {
         return Seen::Refused(1, 0);
@@ -299,7 +305,7 @@ pub fn read_table(s: &[u8]) -> Seen
     if FUNCTION_LIMIT < count {
         return Seen::Refused(6, 5);
     }
-    let read = read_functions(s, HEADER, count);
+    let read = read_functions(s, HEADER, count, NODE_LIMIT);
     match read {
         Next::At(end) => {
             if end == s.len() {

@@ -5,11 +5,11 @@ use mathlib.Core.List.{List, _∷_}
 use mathlib.Core.Logic.{⊎-elim}
 use native.Mathlib.Omega.{arith}
 use lib.ListN.{length}
-use Rattle.base.specs.Limits.{functionLimit, portLimit}
+use Rattle.base.specs.Limits.{functionLimit, nodeLimit, portLimit, tableLimit}
 use Rattle.base.specs.Outcome.{Outcome, ok, fault, _>>=_}
 use Rattle.base.specs.Bytes.{byte, u16, Bytes}
 use Rattle.graph.specs.Graph.{Function}
-use Rattle.graph.specs.Format.{version1}
+use Rattle.graph.specs.Format.{formatOf}
 use Rattle.graph.specs.Read.{functions, parse}
 use Rattle.graph.specs.Judge.{table, verdict}
 use Rattle.graph.specs.Sound.{AllSound}
@@ -17,11 +17,11 @@ use Rattle.base.proofs.Outcomes.{took, passed, ok-is}
 use Rattle.base.proofs.Numbers.{lt-or-eq}
 use Rattle.graph.proofs.Formed.{in-range, accepted}
 use Rattle.reader.specs.Layout.{inputCount, outputCount, functionPlace, earlier}
-use Rattle.reader.specs.Find.{ReadsFunction}
+use Rattle.reader.specs.Find.{ReadsFunction, ReadsFunctions}
 use Rattle.reader.specs.Records.{seen}
 use Rattle.reader.proofs.Standing.{table-read}
 use Rattle.reader.proofs.Passed.{length-earlier}
-use Rattle.checker.proofs.Whole.{Whole, whole, ReadsFrom, first-function, rest-functions}
+use Rattle.checker.proofs.Whole.{Whole, whole, first-function, rest-functions}
 use Rattle.sums.specs.Position.{placeOf, functionIn, before, AllRead, Accepted}
 
 -- ---- a refused table
@@ -47,7 +47,7 @@ module _ (s : List ℕ) (n : ℕ) (e : verdict s ≡ ok n) where
   count-is : n ≡ byte s 5
   count-is =
       let (fs, t, l) = judged in
-      sym l ∙ ap length (table-read s fs t) ∙ length-earlier (version1 .header) s (byte s 5)
+      sym l ∙ ap length (table-read s fs t) ∙ length-earlier (formatOf s .header) s (byte s 5)
 
   -- all functions, the last first
   pub functions-are : table s ≡ ok (before s n)
@@ -57,10 +57,10 @@ module _ (s : List ℕ) (n : ℕ) (e : verdict s ≡ ok n) where
 
   read : Bytes s → Whole s
   unfolding table
-  read small = let (gs, p, e0) = took (parse version1 s) _ (before s n) functions-are in whole s small (sym (ap seen p))
+  read small = let (gs, p, e0) = took (parse (formatOf s) s) _ (before s n) functions-are in whole s small (sym (ap seen p))
 
 -- each function was read where it stands
-at-places : (s : List ℕ) (n k : ℕ) → ReadsFrom n s (placeOf s k) → (j : ℕ) → j < n → ReadsFunction s (placeOf s (k + j))
+at-places : (s : List ℕ) (n k : ℕ) → ReadsFunctions n s (placeOf s k) → (j : ℕ) → j < n → ReadsFunction s (placeOf s (k + j))
 unfolding functionPlace
 at-places s zero k r j l = absurd (omega arith)
 at-places s (suc n) k r zero l =
@@ -69,7 +69,7 @@ at-places s (suc n) k r zero l =
 at-places s (suc n) k r (suc j) l =
     let m : suc n - 1 ≡ n = omega arith in
     let z : suc k + j ≡ k + suc j = omega arith in
-    let rest = subst (λ (i : ℕ). ReadsFrom i s (placeOf s (suc k))) m (rest-functions s (suc n) (placeOf s k) (omega arith) r) in
+    let rest = subst (λ (i : ℕ). ReadsFunctions i s (placeOf s (suc k))) m (rest-functions s (suc n) (placeOf s k) (omega arith) r) in
     subst (λ (i : ℕ). ReadsFunction s (placeOf s i)) z (at-places s n (suc k) rest j (omega arith))
 
 sound-at : (s : List ℕ) (n k : ℕ) → k < n → AllSound (before s n) → AllSound (before s (suc k))
@@ -106,7 +106,7 @@ module _ (s : List ℕ) (k : ℕ) (acc : Accepted s k) where
       let n = acc .functions in
       sound-at s n j (omega arith) (accepted s (acc .small) (before s n) (functions-are s n (acc .judged)))
 
-  pub short : length s < 65536
+  pub short : length s < tableLimit
   short = read s (acc .functions) (acc .judged) (acc .small) .short
 
 -- the functions before j
@@ -118,5 +118,5 @@ pub few-ports : (s : List ℕ) (at : ℕ) → ReadsFunction s at → (inputCount
 few-ports s at (x, e) =
     let (t, e1) = passed _ _ _ _ _ e in
     let (u, e2) = passed _ _ _ _ _ e1 in
-    let (id, ins, some, outs, nodes) = in-range (version1 .nodeLimit) (u16 s at) (inputCount s at) (outputCount s at) (u16 s (at + 4)) u in
+    let (id, ins, some, outs, nodes) = in-range nodeLimit (u16 s at) (inputCount s at) (outputCount s at) (u16 s (at + 4)) u in
     (ins, outs)

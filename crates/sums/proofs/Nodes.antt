@@ -13,7 +13,7 @@ use Rattle.ports.specs.declared.Ports.{Ports}
 use Rattle.ports.specs.Kinds.{Kind, kindOf}
 use Rattle.ports.specs.Ports.{portsOf, arity, formOf, constantIn, constantWords, calling}
 use Rattle.base.specs.Bytes.{byte, u16}
-use Rattle.graph.specs.Format.{version1}
+use Rattle.graph.specs.Format.{formatOf}
 use Rattle.graph.specs.Graph.{calls}
 use Rattle.graph.specs.Read.{references}
 use Rattle.reader.specs.Layout.{kindAt, payloadAt, payloadEnd, nodeAt, nodeEnd, functionEnd, functionPlace}
@@ -85,7 +85,7 @@ module _ (s : List ℕ) (n : ℕ) (starts₀ : List ℕ) where
     pub place : p ≡ placeOf s k
     pub starts-are : starts ≡ sets starts₀ 0 (tabulate (placeOf s) k)
 
-  pub start-none : Starting starts₀ (version1 .header) 0
+  pub start-none : Starting starts₀ (formatOf s .header) 0
   unfolding functionPlace
   start-none = record { index = omega arith; place = refl; starts-are = sym (tabulate-none (placeOf s) starts₀) }
 

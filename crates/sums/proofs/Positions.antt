@@ -11,7 +11,7 @@ use Rattle.base.specs.Limits.{functionLimit}
 use Rattle.base.specs.Bytes.{u16}
 use Rattle.graph.specs.Graph.{Function}
 use Rattle.graph.specs.Sums.{operationsOf, resultWordsOf}
-use Rattle.graph.specs.Format.{version1}
+use Rattle.graph.specs.Format.{formatOf}
 use Rattle.reader.specs.Layout.{functionAt, earlier}
 use Rattle.reader.specs.Find.{functionFound}
 use Rattle.reader.specs.declared.Found.the-variants.{At}
@@ -29,7 +29,7 @@ unfolding positionOf earlier functionAt
 position-more s m c = pickOne (eqb (u16 s (placeOf s m)) c)
   where
     pickOne : (b : Bool) → foundAt (cond b (At (length (before s m)) (placeOf s m)) (functionFound c (before s m))) ≡ cond b m (foundAt (functionFound c (before s m)))
-    pickOne true = length-earlier (version1 .header) s m
+    pickOne true = length-earlier (formatOf s .header) s m
     pickOne false = refl
 
 position-range : (s : List ℕ) (k c : ℕ) → (positionOf s k c < k) ⊎ (positionOf s k c ≡ functionLimit)

@@ -8,8 +8,11 @@ use lib.ListN.{length, getD, set, length-append}
 use lib.Seq.{sets, length-sets, getD-set-same, getD-set-other}
 use Rattle.base.proofs.Numbers.{lt-or-eq}
 use Rattle.base.specs.Limits.{functionLimit}
-use Rattle.reader.specs.Find.{Started}
-use Rattle.sums.specs.Position.{tabulate, placeOf, AllRead}
+use Rattle.graph.specs.Format.{formatOf}
+use Rattle.reader.specs.Layout.{known}
+use Rattle.reader.specs.Find.{ReadsFunction, ReadsStarts}
+use Rattle.reader.proofs.Passed.{known-earlier}
+use Rattle.sums.specs.Position.{tabulate, placeOf, before, AllRead, Started}
 use Rattle.sums.specs.Capped.{AllSummed, cappedOperations, cappedWords, cappedInstructions, cappedBytes}
 use Rattle.base.proofs.Stores.{sets-append}
 
@@ -55,6 +58,14 @@ starts-in s xs ys n e l reads = record { places = tabulated-in (placeOf s) xs ys
 -- the first of them
 pub fewer-starts : (s starts : List ℕ) (k j : ℕ) → Started s starts k → j ≤ k → Started s starts j
 fewer-starts s starts k j h l = record { places = λ i b. h .places i (omega arith); reads = λ i b. h .reads i (omega arith) }
+
+-- the functions that are found by them are the table's
+module _ {s starts : List ℕ} {k : ℕ} (h : Started s starts k) where
+  pub starts-read : ReadsStarts s starts k
+  starts-read j l = subst (ReadsFunction s) (sym (h .places j l)) (h .reads j l)
+
+  pub starts-known : known s starts k ≡ before s k
+  starts-known = known-earlier (formatOf s .header) s starts k (h .places)
 
 -- ---- the sums of the functions
 

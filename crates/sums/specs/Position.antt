@@ -2,10 +2,11 @@
 use Prim.Native.Nat.{ℕ, zero, suc, _≤_, _<_}
 use mathlib.Core.Path.{_≡_}
 use mathlib.Core.List.{List, [], _∷_, _++_}
+use lib.ListN.{getD}
 use Rattle.base.specs.Limits.{functionLimit}
 use Rattle.base.specs.Bytes.{Bytes}
 use Rattle.base.specs.Outcome.{ok}
-use Rattle.graph.specs.Format.{version1}
+use Rattle.graph.specs.Format.{formatOf}
 use Rattle.graph.specs.Graph.{Function}
 use Rattle.graph.specs.Judge.{verdict}
 use Rattle.reader.specs.Layout.{functionPlace, functionOf, earlier}
@@ -15,17 +16,22 @@ use Rattle.reader.specs.declared.Found.the-variants.{At, Nothing}
 
 -- where the function at a position stands; the function; those before it, the last first
 abbrev pub placeOf : List ℕ → ℕ → ℕ
-placeOf s k = functionPlace (version1 .header) s k
+placeOf s k = functionPlace (formatOf s .header) s k
 
 abbrev pub functionIn : List ℕ → ℕ → Function
-functionIn s k = functionOf (version1 .header) s k
+functionIn s k = functionOf (formatOf s .header) s k
 
 abbrev pub before : List ℕ → ℕ → List Function
-before s k = earlier (version1 .header) s k
+before s k = earlier (formatOf s .header) s k
 
 -- those before k were read
 abbrev pub AllRead : List ℕ → ℕ → Type 0
 AllRead s k = (j : ℕ) → j < k → ReadsFunction s (placeOf s j)
+
+-- `starts` has their places
+pub record Started (s starts : List ℕ) (k : ℕ) : Type 0 where
+  pub places : (j : ℕ) → j < k → getD starts j 0 ≡ placeOf s j
+  pub reads : AllRead s k
 
 -- the position at which a function was found; functionLimit where none was
 abbrev pub foundAt : Found → ℕ

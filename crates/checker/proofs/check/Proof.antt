@@ -4,16 +4,16 @@ use mathlib.Core.Path.{_≡_, refl, ap, sym, _∙_, subst}
 use mathlib.Core.List.{List, []}
 use native.Mathlib.Omega.{arith}
 use Rattle.base.specs.Bytes.{byte, Bytes}
-use Rattle.graph.specs.Format.{version1}
+use Rattle.graph.specs.Format.{formatOf}
 use Rattle.graph.specs.Read.{parse}
 use Rattle.reader.specs.declared.Seen.{Seen}
 use Rattle.graph.specs.Judge.{judgeAll, verdict}
 use Rattle.graph.proofs.Exactly.{verdict-iff}
 use Rattle.reader.specs.Layout.{functionsAt}
+use Rattle.reader.specs.Find.{ReadsFunctions}
 use Rattle.reader.specs.Records.{seen}
 use Rattle.checker.specs.declared.Verdict.{Verdict}
 use Rattle.checker.specs.Answers.{verdictOf, Judged}
-use Rattle.checker.specs.Slots.{ReadsFunctions}
 use Rattle.checker.proofs.Whole.{seen-good, seen-fault, unread, Whole, whole, refused, accepted}
 use Rattle.checker.proofs.check.Statement.{statement}
 use Rattle.checker.proofs.check.Tie as tie
@@ -38,14 +38,15 @@ returns c =
     (ap verdictOf (sym (unread s _ _ (sym (c .before .read .given .1) ∙ r .read-table .ensures))))
 
 -- the table was read
-read : (t : tie.After-enum-told) → Seen.Passed ≡ seen (parse version1 (start-of-told t .args .table .now))
+read : (t : tie.After-enum-told) → let s = start-of-told t .args .table .now in Seen.Passed ≡ seen (parse (formatOf s) s)
 read t = sym (t .enum-told .given .1) ∙ t .before .before .read-table .ensures
 
 judged : (j : tie.After-judge-all) → let s = start-of-told (j .before .before .before) .args .table .now in
-    j .judge-all .result ≡ seen (judgeAll [] (functionsAt (byte s 5) s (version1 .header)))
+    j .judge-all .result ≡ seen (judgeAll [] (functionsAt (byte s 5) s (formatOf s .header)))
+unfolding formatOf
 judged j =
     let s = start-of-told (j .before .before .before) .args .table .now in
-    j .judge-all .ensures ∙ ap (λ (n : ℕ). seen (judgeAll [] (functionsAt n s (version1 .header)))) (j .before .wide .ensures .0)
+    j .judge-all .ensures ∙ ap (λ (n : ℕ). seen (judgeAll [] (functionsAt n s (formatOf s .header)))) (j .before .wide .ensures .0)
 
 returns-2 : tie.Need-returns-2
 returns-2 c =
@@ -70,12 +71,13 @@ sound t =
     whole s (λ i. omega (arith, t .before .before .before .shared-slice-known .given i)) (read t)
 
 requires : tie.Need-judge-all-requires
+unfolding formatOf
 requires c κs =
     let t = c .before .before in
     let s = start-of-told t .args .table .now in
     let w = sound t in
     let e = c .wide .ensures .0 in
-    (subst (λ (n : ℕ). ReadsFunctions n s) (sym e) (w .reads), omega (arith, e, w .few), let l = w .short in omega arith)
+    (subst (λ (n : ℕ). ReadsFunctions n s (formatOf s .header)) (sym e) (w .reads), omega (arith, e, w .few), let l = w .short in omega arith)
 
 pub check-spec : {M : Type 1} → statement M
 check-spec =

@@ -8,9 +8,8 @@ use Rattle.base.specs.Outcome.{ok, each}
 use Rattle.base.specs.Bytes.{byte, u16, Bytes}
 use Rattle.graph.specs.Graph.{Node, Output, Function}
 use Rattle.graph.specs.Look.{findFunction}
-use Rattle.graph.specs.Format.{version1}
 use Rattle.graph.specs.Judge.{fresh, callOk}
-use Rattle.reader.specs.Layout.{nodesPlace, outputsAt, outputsPlace, functionAt, earlier}
+use Rattle.reader.specs.Layout.{nodesPlace, outputsAt, outputsPlace, functionAt, known}
 use Rattle.reader.specs.Find.{functionFound}
 use Rattle.reader.specs.Records.{seen}
 use Rattle.reader.proofs.Passed.{Holds, function-holds, found-function, no-function}
@@ -74,7 +73,7 @@ abbrev wide7 : tie.After-enum-told7 → tie.After-u16-at2
 wide7 t = wide5 (told5 t)
 
 abbrev early : tie.Start → List Function
-early b = earlier (version1 .header) (b .args .s .now) (b .args .k)
+early b = known (b .args .s .now) (b .args .starts .now) (b .args .k)
 
 abbrev fn : tie.Start → Function
 fn b = functionAt (b .args .s .now) (b .args .place)
@@ -92,14 +91,14 @@ unfolding functionAt
 returns c =
     let f = c .before .before in
     let b = start-of-find f in
-    told-fault refl (judged-twice (early b) (fn b) _ (found-function (version1 .header) (b .args .s .now) _ (b .args .k) _ _ (sym (told f) ∙ c .enum-told .given .1) .2))
+    told-fault refl (judged-twice (early b) (fn b) _ (found-function (b .args .s .now) (b .args .starts .now) _ (b .args .k) _ _ (sym (told f) ∙ c .enum-told .given .1) .2))
 
 new : (w : tie.After-u16-at2) → findFunction (fn (start w) .id) (early (start w)) ≡ none
 unfolding functionAt
 new w =
     let t = told2-of-wide (w .before .before .before) in
     let a = start w .args in
-    no-function (version1 .header) (a .s .now) (u16 (a .s .now) (a .place)) (a .k) (sym (told (t .before .before)) ∙ t .enum-told2 .given .1)
+    no-function (a .s .now) (a .starts .now) (u16 (a .s .now) (a .place)) (a .k) (sym (told (t .before .before)) ∙ t .enum-told2 .given .1)
 
 -- ---- where its parts stand
 
@@ -148,25 +147,25 @@ rows v = let w = wide7 (told7 v) in rows-are (scene w) (start w .args .targets .
 fresh-is : (c : tie.After-fresh-nodes) → c .fresh-nodes .result ≡ seen (fresh [] (fn (start (wide-of (places-of-fresh c))) .nodes))
 fresh-is c = c .fresh-nodes .ensures ∙ ap (λ (ns : List Node). seen (fresh [] ns)) (same-nodes (scene (wide-of (places-of-fresh c))))
 
-calls-is : (c : tie.After-calls-good) → let b = start (wide3 (told3-of-calls c)) in c .calls-good .result ≡ seen (callsChecked (b .args .s .now) (b .args .k) (fn b))
+calls-is : (c : tie.After-calls-good) → let b = start (wide3 (told3-of-calls c)) in c .calls-good .result ≡ seen (callsChecked (early b) (fn b))
 calls-is c =
     let w = wide3 (told3-of-calls c) in
     c .calls-good .ensures ∙ ap (λ (ns : List Node). seen (each (λ n. callOk (early (start w)) (n .place) (n .payload)) ns)) (same-nodes (scene w))
 
 outputs-is : (c : tie.After-outputs-good) → let b = start (wide5 (c .before)) in
-    c .outputs-good .result ≡ seen (outputsChecked (b .args .s .now) (b .args .k) (b .args .place) (fn b .outputs))
+    c .outputs-good .result ≡ seen (outputsChecked (b .args .s .now) (early b) (b .args .place) (fn b .outputs))
 outputs-is c =
     let w = wide5 (c .before) in
     let a = start w .args in
-    c .outputs-good .ensures ∙ ap (λ (os : List Output). seen (outputsChecked (a .s .now) (a .k) (a .place) os)) (outs w)
+    c .outputs-good .ensures ∙ ap (λ (os : List Output). seen (outputsChecked (a .s .now) (early (start w)) (a .place) os)) (outs w)
 
 fresh-ok : (t : tie.After-enum-told3) → fresh [] (fn (start (wide3 t)) .nodes) ≡ ok tt
 fresh-ok t = seen-good _ (sym (t .enum-told3 .given .1) ∙ fresh-is (t .before .before))
 
-calls-ok : (t : tie.After-enum-told5) → let b = start (wide5 t) in callsChecked (b .args .s .now) (b .args .k) (fn b) ≡ ok tt
+calls-ok : (t : tie.After-enum-told5) → let b = start (wide5 t) in callsChecked (early b) (fn b) ≡ ok tt
 calls-ok t = seen-good _ (sym (t .enum-told5 .given .1) ∙ calls-is (t .before .before))
 
-outputs-ok : (t : tie.After-enum-told7) → let b = start (wide7 t) in outputsChecked (b .args .s .now) (b .args .k) (b .args .place) (fn b .outputs) ≡ ok tt
+outputs-ok : (t : tie.After-enum-told7) → let b = start (wide7 t) in outputsChecked (b .args .s .now) (early b) (b .args .place) (fn b .outputs) ≡ ok tt
 outputs-ok t = seen-good _ (sym (t .enum-told7 .given .1) ∙ outputs-is (t .before .before))
 
 checked : (t : tie.After-enum-told9) → let b = start (wide7 (told7 (resolved (t .before .before)))) in Checked (early b) (fn b)
@@ -222,7 +221,7 @@ loop-free-requires c κs =
     let w = wide7 (told7 v) in
     let b = start w in
     let small : Bytes (b .args .s .now) = λ i. omega (arith, w .before .before .shared-slice-known3 .given i) in
-    ready (b .args .s .now) small (b .args .k) (head w) _ (b .pre .2) (first (w .before)) (w .u16-at2 .ensures .0) (checked (c .before)) (rows v)
+    ready (b .args .s .now) small (early b) (head w) _ (b .pre .2) (first (w .before)) (w .u16-at2 .ensures .0) (checked (c .before)) (rows v)
 
 returns-6 : tie.Need-returns-6
 returns-6 c =

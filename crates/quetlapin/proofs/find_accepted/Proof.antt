@@ -4,8 +4,7 @@ use mathlib.Core.Path.{_≡_, ap, _∙_}
 use native.Mathlib.Omega.{arith}
 use Rattle.base.specs.Bytes.{Bytes}
 use Rattle.base.specs.Limits.{functionLimit}
-use Rattle.reader.specs.Find.{Started}
-use Rattle.sums.specs.Position.{positionOf, Accepted}
+use Rattle.sums.specs.Position.{positionOf, Accepted, Started}
 use Rattle.sums.proofs.Accepted.{few-functions, all-read}
 use Rattle.sums.proofs.Tabulate.{fewer-starts}
 use Rattle.quetlapin.proofs.Choosing.{named-at, named-none}

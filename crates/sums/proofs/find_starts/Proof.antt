@@ -3,6 +3,7 @@ use mathlib.Core.Path.{sym, ap, _∙_, subst}
 use Prim.Native.Nat.{ℕ, _+_, _-_, _≤_}
 use native.Mathlib.Omega.{arith}
 use lib.ListN.{length}
+use Rattle.graph.specs.Format.{formatOf}
 use Rattle.reader.specs.Layout.{nodePlace, nodesPlace, functionEnd}
 use Rattle.reader.specs.Find.{ReadsNodes, ReadsFunction}
 use Rattle.reader.proofs.Passed.{function-fits, function-holds}
@@ -26,6 +27,7 @@ abbrev inside : tie.After-nodes-place Inv-loop μ-loop → tie.In-loop Inv-loop 
 inside c = c .before .before
 
 loop-holds : tie.Need-loop-holds Inv-loop μ-loop
+unfolding formatOf
 loop-holds c = let a = c .before .args in start-none (a .t .now) (a .n) (a .starts .now)
 
 -- the function at hand was read

@@ -12,9 +12,8 @@ use Rattle.base.specs.Outcome.{ok, need}
 use Rattle.base.specs.Bytes.{byte, u16}
 use Rattle.graph.specs.Look.{findFunction}
 use Rattle.graph.specs.Judge.{callOk}
-use Rattle.graph.specs.Format.{version1}
 use Rattle.reader.specs.declared.Reads.{Reads}
-use Rattle.reader.specs.Layout.{kindAt, payloadAt, nodeAt, functionAt, earlier}
+use Rattle.reader.specs.Layout.{kindAt, payloadAt, nodeAt, functionAt, known}
 use Rattle.reader.specs.Find.{ReadsFunction, functionFound}
 use Rattle.reader.proofs.Passed.{head-fits, function-fits, no-function, form-is}
 use Rattle.checker.proofs.Calls.{found-callee, no-call, call-none, call-some}
@@ -46,7 +45,7 @@ form : (d : tie.After-ports-of) (h : Form) → d .ports-of .result .form ≡ h �
 form d h e = let a = start d .args in form-is (a .s .now) (a .at) (d .ports-of .result) (d .ports-of .ensures) h e
 
 -- a node that is no call
-other : (d : tie.After-ports-of) (h : Form) → d .ports-of .result .form ≡ h → let a = start d .args in let early = earlier (version1 .header) (a .s .now) (a .k) in
+other : (d : tie.After-ports-of) (h : Form) → d .ports-of .result .form ≡ h → let a = start d .args in let early = known (a .s .now) (a .starts .now) (a .k) in
     callOk early (a .at) (payloadAt h (kindAt (a .s .now) (a .at)) (a .s .now) (a .at + 4)) ≡ ok tt → callOk early (a .at) (nodeAt (a .s .now) (a .at) .payload) ≡ need true 10 (a .at)
 other d h e q = let a = start d .args in no-call (a .s .now) (a .at) _ h (form d h e) q
 
@@ -55,15 +54,15 @@ calls c = form (c .before .before) _ (c .enum-told4 .given .1)
 
 -- what was found for the callee's id
 told : (f : tie.After-find-function) → let a = start-of-call (call-of-find f) .args in
-    f .find-function .result ≡ functionFound (u16 (a .s .now) (a .at + 4)) (earlier (version1 .header) (a .s .now) (a .k))
+    f .find-function .result ≡ functionFound (u16 (a .s .now) (a .at + 4)) (known (a .s .now) (a .starts .now) (a .k))
 told f =
     let a = start-of-call (call-of-find f) .args in
-    f .find-function .ensures ∙ ap (λ (i : ℕ). functionFound i (earlier (version1 .header) (a .s .now) (a .k))) (f .before .callee-at .ensures)
+    f .find-function .ensures ∙ ap (λ (i : ℕ). functionFound i (known (a .s .now) (a .starts .now) (a .k))) (f .before .callee-at .ensures)
 
 -- the function that was found
 callee : (d : tie.After-known-told) → let a = start-of-call (call-of-known d) .args in let p = d .before .found .given .0 .1 .0 in
-    ReadsFunction (a .s .now) p × (findFunction (u16 (a .s .now) (a .at + 4)) (earlier (version1 .header) (a .s .now) (a .k)) ≡ some (functionAt (a .s .now) p))
-callee d = let f = found-arguments d .before in found-callee (start-of-call (call-of-find f) .pre .1) _ _ _ (sym (told f) ∙ d .before .found .given .1)
+    ReadsFunction (a .s .now) p × (findFunction (u16 (a .s .now) (a .at + 4)) (known (a .s .now) (a .starts .now) (a .k)) ≡ some (functionAt (a .s .now) p))
+callee d = let f = found-arguments d .before in found-callee _ _ _ (start-of-call (call-of-find f) .pre .1) _ _ _ (sym (told f) ∙ d .before .found .given .1)
 
 callee-head : (d : tie.After-known-told) → d .before .found .given .0 .1 .0 + 6 ≤ length (start-of-call (call-of-known d) .args .s .now)
 callee-head d = function-fits (start-of-call (call-of-known d) .args .s .now) _ (callee d .0)
@@ -85,7 +84,7 @@ returns-5 c =
     let f = c .before .before .before in
     let e = call-of-find f in
     let a = start-of-call e .args in
-    call-none (a .s .now) (a .at) _ (calls e) (no-function (version1 .header) (a .s .now) (u16 (a .s .now) (a .at + 4)) (a .k) (sym (told f) ∙ c .enum-told5 .given .1))
+    call-none (a .s .now) (a .at) _ (calls e) (no-function (a .s .now) (a .starts .now) (u16 (a .s .now) (a .at + 4)) (a .k) (sym (told f) ∙ c .enum-told5 .given .1))
 
 pub call-good-spec : {M : Type 1} → statement M
 call-good-spec =

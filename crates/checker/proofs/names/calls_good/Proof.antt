@@ -6,8 +6,7 @@ use native.Mathlib.Omega.{arith}
 use Rattle.base.specs.Outcome.{Outcome, need, each}
 use Rattle.graph.specs.Graph.{Node}
 use Rattle.graph.specs.Judge.{callOk}
-use Rattle.graph.specs.Format.{version1}
-use Rattle.reader.specs.Layout.{nodeAt, nodesAt, nodePlace, earlier}
+use Rattle.reader.specs.Layout.{nodeAt, nodesAt, nodePlace, known}
 use Rattle.reader.specs.Find.{ReadsNode}
 use Rattle.reader.specs.Records.{seen}
 use Rattle.reader.proofs.Passed.{place-reads}
@@ -16,13 +15,13 @@ use Rattle.checker.proofs.names.calls_good.Statement.{statement}
 use Rattle.checker.proofs.names.calls_good.Tie as tie
 use Rattle.base.specs.Limits.{nodeLimit}
 
-abbrev test : List ℕ → ℕ → Node → Outcome (Unit {0})
-test s k n = callOk (earlier (version1 .header) s k) (n .place) (n .payload)
+abbrev test : List ℕ → List ℕ → ℕ → Node → Outcome (Unit {0})
+test s starts k n = callOk (known s starts k) (n .place) (n .payload)
 
 -- what is left says what the whole says
 abbrev Inv-loop : tie.InvT-loop
 Inv-loop s starts k f places j₀ j =
-    (j ≤ f .count) × (each (test s k) (nodesAt (f .count) s (f .first)) ≡ each (test s k) (nodesAt (f .count - j) s (nodePlace s (f .first) j)))
+    (j ≤ f .count) × (each (test s starts k) (nodesAt (f .count) s (f .first)) ≡ each (test s starts k) (nodesAt (f .count - j) s (nodePlace s (f .first) j)))
 
 abbrev μ-loop : tie.MeasureT-loop
 μ-loop s starts k f places j₀ j = f .count - j
@@ -53,19 +52,19 @@ here w =
 
 -- what was told of node j
 told : (g : tie.After-call-good Inv-loop μ-loop) → let l = at-loop (g .before) in let a = start l .args in
-    test (a .s .now) (a .k) (nodeAt (a .s .now) (nodePlace (a .s .now) (a .f .first) (l .loop .j))) ≡ need (g .call-good .result) 10 (g .before .wide32 .result)
+    test (a .s .now) (a .starts .now) (a .k) (nodeAt (a .s .now) (nodePlace (a .s .now) (a .f .first) (l .loop .j))) ≡ need (g .call-good .result) 10 (g .before .wide32 .result)
 unfolding nodeAt
 told g =
     let a = start (at-loop (g .before)) .args in
     let s = a .s .now in
-    subst (λ (p : ℕ). callOk (earlier (version1 .header) s (a .k)) p (nodeAt s p .payload) ≡ need (g .call-good .result) 10 (g .before .wide32 .result)) (place (g .before)) (g .call-good .ensures)
+    subst (λ (p : ℕ). callOk (known s (a .starts .now) (a .k)) p (nodeAt s p .payload) ≡ need (g .call-good .result) 10 (g .before .wide32 .result)) (place (g .before)) (g .call-good .ensures)
 
 loop-holds : tie.Need-loop-holds Inv-loop μ-loop
 unfolding nodePlace
 loop-holds c =
     let a = c .before .args in
     let z : a .f .count - 0 ≡ a .f .count = omega arith in
-    (omega arith, ap (λ (n : ℕ). each (test (a .s .now) (a .k)) (nodesAt n (a .s .now) (a .f .first))) (sym z))
+    (omega arith, ap (λ (n : ℕ). each (test (a .s .now) (a .starts .now) (a .k)) (nodesAt n (a .s .now) (a .f .first))) (sym z))
 
 loop-again : tie.Need-loop-again Inv-loop μ-loop
 loop-again c =
@@ -73,7 +72,7 @@ loop-again c =
     let l = d .before .before in
     let a = start l .args in (
       omega (arith, d .if1 .taken),
-      l .loop .inv .1 ∙ each-on (a .s .now) (a .f .first) (a .f .count) (l .loop .j) (d .if1 .taken) (test (a .s .now) (a .k)) (need-passed _ 10 _ (told (c .before)) (c .if2 .taken)),
+      l .loop .inv .1 ∙ each-on (a .s .now) (a .f .first) (a .f .count) (l .loop .j) (d .if1 .taken) (test (a .s .now) (a .starts .now) (a .k)) (need-passed _ 10 _ (told (c .before)) (c .if2 .taken)),
     )
 
 returns : tie.Need-returns Inv-loop μ-loop
@@ -84,13 +83,13 @@ returns c =
     ap seen
     (sym
     (l .loop .inv .1
-    ∙ each-fault (a .s .now) (a .f .first) (a .f .count) (l .loop .j) (d .if1 .taken) (test (a .s .now) (a .k)) (need-failed _ 10 _ (told (c .before)) (c .if2 .left))))
+    ∙ each-fault (a .s .now) (a .f .first) (a .f .count) (l .loop .j) (d .if1 .taken) (test (a .s .now) (a .starts .now) (a .k)) (need-failed _ 10 _ (told (c .before)) (c .if2 .left))))
 
 returns-2 : tie.Need-returns-2 Inv-loop μ-loop
 returns-2 c =
     let l = c .before .before in
     let a = start l .args in
-    ap seen (sym (l .loop .inv .1 ∙ each-none (test (a .s .now) (a .k)) (a .s .now) (a .f .count - l .loop .j) _ (omega (arith, c .if1 .left))))
+    ap seen (sym (l .loop .inv .1 ∙ each-none (test (a .s .now) (a .starts .now) (a .k)) (a .s .now) (a .f .count - l .loop .j) _ (omega (arith, c .if1 .left))))
 
 pub calls-good-spec : {M : Type 1} → statement M
 calls-good-spec =

@@ -1,7 +1,7 @@
 use borrow.Author.Needs.{needs}
 use Prim.Native.Nat.{ℕ, _+_, _≤_, _<_}
 use mathlib.Core.Path.{_≡_, refl, ap, sym, _∙_, subst}
-use mathlib.Core.List.{[]}
+use mathlib.Core.List.{List, []}
 use mathlib.Core.Option.{some}
 use native.Mathlib.Omega.{arith}
 use lib.ListN.{length}
@@ -9,13 +9,13 @@ use Rattle.ports.specs.declared.Form.{Form}
 use Rattle.ports.specs.Ports.{formOf, own, types}
 use Rattle.base.specs.Outcome.{ok}
 use Rattle.base.specs.Bytes.{byte, u16}
+use Rattle.graph.specs.Graph.{Function}
 use Rattle.graph.specs.Look.{findFunction, reads, readsOf}
-use Rattle.graph.specs.Format.{version1}
 use Rattle.graph.specs.Read.{references}
 use Rattle.graph.specs.Judge.{callOk}
 use Rattle.reader.specs.declared.Seen.{Seen}
 use Rattle.reader.specs.declared.Reads.{Reads}
-use Rattle.reader.specs.Layout.{kindAt, payloadAt, nodeAt, nodePlace, inputsAt, functionAt, earlier}
+use Rattle.reader.specs.Layout.{kindAt, payloadAt, nodeAt, nodePlace, inputsAt, functionAt, known}
 use Rattle.reader.specs.Find.{ReadsNode, ReadsOf, ReadsFunction, functionFound}
 use Rattle.reader.specs.Records.{seen, operandsAt}
 use Rattle.reader.proofs.Passed.{head-fits, place-reads, function-holds, no-function, form-is}
@@ -32,6 +32,9 @@ use Rattle.base.specs.Limits.{nodeLimit}
 
 abbrev start : tie.After-wide32 → tie.Start
 start w = w .before .before .before
+
+abbrev early : tie.After-wide32 → List Function
+early w = let a = start w .args in known (a .s .now) (a .starts .now) (a .k)
 
 abbrev place-of : tie.After-ports-of → tie.After-wide32
 place-of c = c .before .before
@@ -74,16 +77,16 @@ head w = head-fits (start w .args .s .now) (w .wide32 .result) (here w)
 
 -- its call passed 10
 good : (w : tie.After-wide32) → let a = start w .args in
-    callOk (earlier (version1 .header) (a .s .now) (a .k)) (w .wide32 .result) (nodeAt (a .s .now) (w .wide32 .result) .payload) ≡ ok tt
+    callOk (early w) (w .wide32 .result) (nodeAt (a .s .now) (w .wide32 .result) .payload) ≡ ok tt
 good w =
     let a = start w .args in
-    subst (λ (p : ℕ). callOk (earlier (version1 .header) (a .s .now) (a .k)) p (nodeAt (a .s .now) p .payload) ≡ ok tt) (sym (place w)) (start w .pre .4)
+    subst (λ (p : ℕ). callOk (early w) p (nodeAt (a .s .now) p .payload) ≡ ok tt) (sym (place w)) (start w .pre .4)
 
 -- an answer on the node at the place is one on node i
 answer : (w : tie.After-wide32) (r : Seen) → let a = start w .args in
-    r ≡ seen (nodeChecked (a .s .now) (a .k) (a .f .place) (nodeAt (a .s .now) (w .wide32 .result)))
-    → r ≡ seen (nodeChecked (a .s .now) (a .k) (a .f .place) (nodeAt (a .s .now) (nodePlace (a .s .now) (a .f .first) (a .i))))
-answer w r e = let a = start w .args in e ∙ ap (λ (p : ℕ). seen (nodeChecked (a .s .now) (a .k) (a .f .place) (nodeAt (a .s .now) p))) (place w)
+    r ≡ seen (nodeChecked (a .s .now) (early w) (a .f .place) (nodeAt (a .s .now) (w .wide32 .result)))
+    → r ≡ seen (nodeChecked (a .s .now) (early w) (a .f .place) (nodeAt (a .s .now) (nodePlace (a .s .now) (a .f .first) (a .i))))
+answer w r e = let a = start w .args in e ∙ ap (λ (p : ℕ). seen (nodeChecked (a .s .now) (early w) (a .f .place) (nodeAt (a .s .now) p))) (place w)
 
 -- its slots
 row : (w : tie.After-wide32) (r : Reads) → let a = start w .args in
@@ -101,11 +104,11 @@ form d h e = let w = d .before .before in form-is (start w .args .s .now) (w .wi
 -- ---- no references
 
 none : (d : tie.After-ports-of) (h : Form) → d .ports-of .result .form ≡ h → let w = d .before .before in let a = start w .args in let s = a .s .now in
-    readsOf (payloadAt h (kindAt s (w .wide32 .result)) s (w .wide32 .result + 4)) ≡ [] → Seen.Passed ≡ seen (nodeChecked s (a .k) (a .f .place) (nodeAt s (nodePlace s (a .f .first) (a .i))))
+    readsOf (payloadAt h (kindAt s (w .wide32 .result)) s (w .wide32 .result + 4)) ≡ [] → Seen.Passed ≡ seen (nodeChecked s (early w) (a .f .place) (nodeAt s (nodePlace s (a .f .first) (a .i))))
 none d h e q =
     let w = d .before .before in
     let a = start w .args in
-    answer w Seen.Passed (ap seen (sym (bare-node (a .s .now) (a .k) (a .f .place) (w .wide32 .result) h (form d h e) q)))
+    answer w Seen.Passed (ap seen (sym (bare-node (a .s .now) _ (a .f .place) (w .wide32 .result) h (form d h e) q)))
 
 -- ---- operands
 
@@ -128,8 +131,8 @@ returns-3 c =
     let s = a .s .now in
     let at = w .wide32 .result in
     let rowOf = d .ports-of .result in
-    let n = references-node s (a .k) (a .f .place) at rowOf (d .ports-of .ensures) (form d _ (t .enum-told3 .given .1)) in
-    let check : Reads → ℕ → ℕ → Seen = λ m x y. seen (referencesChecked s (a .k) (a .f .place) (types (m .count) x y) (references (m .count) s (m .first))) in
+    let n = references-node s _ (a .f .place) at rowOf (d .ports-of .ensures) (form d _ (t .enum-told3 .given .1)) in
+    let check : Reads → ℕ → ℕ → Seen = λ m x y. seen (referencesChecked s (early w) (a .f .place) (types (m .count) x y) (references (m .count) s (m .first))) in
     answer w _
     (c .references-good .ensures
     ∙ ap (λ (m : Reads). check m (o1 .own .result) (o2 .own2 .result)) (r .ensures .0)
@@ -143,15 +146,15 @@ calls : (t : tie.After-enum-told4) → formOf (kindAt (start (place-of-call t) .
 calls t = form (t .before .before .before) _ (t .enum-told4 .given .1)
 
 told : (f : tie.After-find-function) → let w = place-of-call (call-of-find f) in let a = start w .args in
-    f .find-function .result ≡ functionFound (u16 (a .s .now) (w .wide32 .result + 4)) (earlier (version1 .header) (a .s .now) (a .k))
+    f .find-function .result ≡ functionFound (u16 (a .s .now) (w .wide32 .result + 4)) (early w)
 told f =
-    let a = start (place-of-call (call-of-find f)) .args in
-    f .find-function .ensures ∙ ap (λ (i : ℕ). functionFound i (earlier (version1 .header) (a .s .now) (a .k))) (f .before .callee-at .ensures)
+    let w = place-of-call (call-of-find f) in
+    f .find-function .ensures ∙ ap (λ (i : ℕ). functionFound i (early w)) (f .before .callee-at .ensures)
 
 -- the function that was found
 callee : (d : tie.After-known-told) → let w = place-of-call (call-of-known d) in let a = start w .args in let p = d .before .found .given .0 .1 .0 in
-    ReadsFunction (a .s .now) p × (findFunction (u16 (a .s .now) (w .wide32 .result + 4)) (earlier (version1 .header) (a .s .now) (a .k)) ≡ some (functionAt (a .s .now) p))
-callee d = let f = found-arguments d .before in found-callee (start (place-of-call (call-of-find f)) .pre .0 .started) _ _ _ (sym (told f) ∙ d .before .found .given .1)
+    ReadsFunction (a .s .now) p × (findFunction (u16 (a .s .now) (w .wide32 .result + 4)) (early w) ≡ some (functionAt (a .s .now) p))
+callee d = let f = found-arguments d .before in found-callee _ _ _ (start (place-of-call (call-of-find f)) .pre .0 .started) _ _ _ (sym (told f) ∙ d .before .found .given .1)
 
 -- its inputs fit, and are as many as the arguments
 inputs : (d : tie.After-known-told) → let w = place-of-call (call-of-known d) in let s = start w .args .s .now in
@@ -161,7 +164,7 @@ inputs d =
     let w = place-of-call t in
     let a = start w .args in
     let h = function-holds (a .s .now) _ (callee d .0) .inputs in
-    let e = call-count (a .s .now) (a .k) (a .f .place) (w .wide32 .result) (calls t) (good w) _ (callee d .1) in
+    let e = call-count (a .s .now) _ (a .f .place) (w .wide32 .result) (calls t) (good w) _ (callee d .1) in
     omega (arith, h, e)
 
 fits-2 : tie.Need-references-good-requires-2
@@ -184,8 +187,8 @@ returns-4 c =
     let p = d .before .found .given .0 .1 .0 in
     answer w _
     (c .references-good2 .ensures
-    ∙ ap (λ (m : Reads). seen (referencesChecked s (a .k) (a .f .place) (inputsAt (m .count) s (p + 6)) (references (m .count) s (m .first)))) (found-arguments d .arguments-at .ensures .0)
-    ∙ ap seen (sym (call-node s (a .k) (a .f .place) at (calls t) (good w) p (callee d .1))))
+    ∙ ap (λ (m : Reads). seen (referencesChecked s (early w) (a .f .place) (inputsAt (m .count) s (p + 6)) (references (m .count) s (m .first)))) (found-arguments d .arguments-at .ensures .0)
+    ∙ ap seen (sym (call-node s _ (a .f .place) at (calls t) (good w) p (callee d .1))))
 
 returns-5 : tie.Need-returns-5
 returns-5 c =
@@ -194,8 +197,8 @@ returns-5 c =
     let w = place-of-call t in
     let a = start w .args in
     absurd
-    (call-found (a .s .now) (a .k) (a .f .place) (w .wide32 .result) (calls t) (good w)
-    (no-function (version1 .header) (a .s .now) (u16 (a .s .now) (w .wide32 .result + 4)) (a .k) (sym (told f) ∙ c .enum-told5 .given .1)))
+    (call-found (a .s .now) _ (a .f .place) (w .wide32 .result) (calls t) (good w)
+    (no-function (a .s .now) (a .starts .now) (u16 (a .s .now) (w .wide32 .result + 4)) (a .k) (sym (told f) ∙ c .enum-told5 .given .1)))
 
 pub node-good-spec : {M : Type 1} → statement M
 node-good-spec =

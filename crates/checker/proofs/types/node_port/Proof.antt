@@ -9,9 +9,8 @@ use Rattle.ports.specs.Ports.{formOf, gives, givesRow}
 use Rattle.ports.specs.Kinds.{kindOf}
 use Rattle.base.specs.Bytes.{byte}
 use Rattle.graph.specs.Look.{findFunction}
-use Rattle.graph.specs.Format.{version1}
 use Rattle.graph.specs.Types.{givesOf, outputsOf}
-use Rattle.reader.specs.Layout.{kindAt, payloadAt, nodeAt, earlier}
+use Rattle.reader.specs.Layout.{kindAt, payloadAt, nodeAt, known}
 use Rattle.reader.proofs.Passed.{head-fits, form-is}
 use Rattle.checker.specs.declared.PortType.{PortType}
 use Rattle.checker.specs.Answers.{portOf}
@@ -32,7 +31,7 @@ head b = head-fits (b .args .s .now) (b .args .at) (b .pre .0)
 
 -- a node that is no call
 other : {r : PortType} (d : tie.After-ports-of) (h : Form) → d .ports-of .result .form ≡ h → let a = start d .args in let s = a .s .now in let n = nodeAt s (a .at) in
-    let early = earlier (version1 .header) s (a .k) in
+    let early = known s (a .starts .now) (a .k) in
     givesOf early n (payloadAt h (kindAt s (a .at)) s (a .at + 4)) ≡ gives (kindOf (n .kind)) (n .type)
     → r ≡ portOf (getElem? (givesRow (d .ports-of .result) (byte s (a .at + 3))) (a .port)) → r ≡ portOf (getElem? (givesOf early n (n .payload)) (a .port))
 other d h e g q =
@@ -50,8 +49,8 @@ returns c =
     let a = start-of-call t .args in
     let s = a .s .now in
     c .callee-port .ensures
-    ∙ ap (λ (i : ℕ). portOf (getElem? (outputsOf (findFunction i (earlier (version1 .header) s (a .k)))) (a .port))) (c .before .callee-at .ensures)
-    ∙ ap (λ (ts : List ℕ). portOf (getElem? ts (a .port))) (sym (call-gives s (a .at) (earlier (version1 .header) s (a .k)) (calls t)))
+    ∙ ap (λ (i : ℕ). portOf (getElem? (outputsOf (findFunction i (known s (a .starts .now) (a .k)))) (a .port))) (c .before .callee-at .ensures)
+    ∙ ap (λ (ts : List ℕ). portOf (getElem? ts (a .port))) (sym (call-gives s (a .at) (known s (a .starts .now) (a .k)) (calls t)))
 
 pub node-port-spec : {M : Type 1} → statement M
 node-port-spec =

@@ -4,7 +4,7 @@ use mathlib.Core.Path.{_≡_, refl, ap, sym, _∙_}
 use native.Mathlib.Omega.{arith}
 use lib.ListN.{length}
 use Rattle.base.specs.Bytes.{byte}
-use Rattle.reader.specs.Layout.{outputsAt}
+use Rattle.reader.specs.Layout.{outputsAt, known}
 use Rattle.reader.specs.Records.{seen}
 use Rattle.checker.specs.Answers.{outputsChecked}
 use Rattle.checker.proofs.Wiring.{lost, mistyped, welltyped, outputs-fault, outputs-on}
@@ -14,7 +14,7 @@ use Rattle.checker.proofs.types.outputs_good.Tie as tie
 -- what is left says what the whole says
 abbrev Inv-loop : tie.InvT-loop
 Inv-loop s starts k f begin n at₀ left₀ at left =
-    (at + 4 * left ≤ length s) × (outputsChecked s k (f .place) (outputsAt n s begin) ≡ outputsChecked s k (f .place) (outputsAt left s at))
+    (at + 4 * left ≤ length s) × (outputsChecked s (known s starts k) (f .place) (outputsAt n s begin) ≡ outputsChecked s (known s starts k) (f .place) (outputsAt left s at))
 
 abbrev μ-loop : tie.MeasureT-loop
 μ-loop s starts k f begin n at₀ left₀ at left = left
@@ -39,8 +39,8 @@ returns c =
     ap seen
     (sym
     (l .inv .1
-    ∙ outputs-fault (a .s .now) (a .k) (a .f .place) (l .left) (l .at) 11 (l .at + 1) (i .loop-test .taken)
-    (lost (a .s .now) (a .k) (a .f .place) (l .at + 1) (byte (a .s .now) (l .at)) (sym (r .reference-port .ensures) ∙ c .enum-told .given .1))))
+    ∙ outputs-fault (a .s .now) _ (a .f .place) (l .left) (l .at) 11 (l .at + 1) (i .loop-test .taken)
+    (lost (a .s .now) _ (a .f .place) (l .at + 1) (byte (a .s .now) (l .at)) (sym (r .reference-port .ensures) ∙ c .enum-told .given .1))))
 
 returns-2 : tie.Need-returns-2 Inv-loop μ-loop
 returns-2 c =
@@ -52,8 +52,8 @@ returns-2 c =
     ap seen
     (sym
     (l .inv .1
-    ∙ outputs-fault (a .s .now) (a .k) (a .f .place) (l .left) (l .at) 12 (l .at + 1) (i .loop-test .taken)
-    (mistyped (a .s .now) (a .k) (a .f .place) (l .at + 1) _ (sym (r .reference-port .ensures) ∙ d .before .found .given .1) (byte (a .s .now) (l .at)) (c .if1 .taken))))
+    ∙ outputs-fault (a .s .now) _ (a .f .place) (l .left) (l .at) 12 (l .at + 1) (i .loop-test .taken)
+    (mistyped (a .s .now) _ (a .f .place) (l .at + 1) _ (sym (r .reference-port .ensures) ∙ d .before .found .given .1) (byte (a .s .now) (l .at)) (c .if1 .taken))))
 
 loop-again : tie.Need-loop-again Inv-loop μ-loop
 loop-again c =
@@ -64,8 +64,8 @@ loop-again c =
     let a = i .before .before .before .args in (
       omega (arith, l .inv .0, i .loop-test .taken),
       l .inv .1
-          ∙ outputs-on (a .s .now) (a .k) (a .f .place) (l .left) (l .at) (i .loop-test .taken)
-          (welltyped (a .s .now) (a .k) (a .f .place) (l .at + 1) _ (sym (r .reference-port .ensures) ∙ d .before .found .given .1) (byte (a .s .now) (l .at)) (c .if1 .left)),
+          ∙ outputs-on (a .s .now) _ (a .f .place) (l .left) (l .at) (i .loop-test .taken)
+          (welltyped (a .s .now) _ (a .f .place) (l .at + 1) _ (sym (r .reference-port .ensures) ∙ d .before .found .given .1) (byte (a .s .now) (l .at)) (c .if1 .left)),
     )
 
 returns-3 : tie.Need-returns-3 Inv-loop μ-loop

@@ -27,7 +27,7 @@ returns c =
     let t = c .before in
     let u = t .before .before in
     let a = start u .args in
-    c .input-port .ensures ∙ sym (input-typed (a .s .now) (a .k) (a .f .place) (a .at) (sym (u .u16-at .ensures .0) ∙ t .if1 .taken))
+    c .input-port .ensures ∙ sym (input-typed (a .s .now) _ (a .f .place) (a .at) (sym (u .u16-at .ensures .0) ∙ t .if1 .taken))
 
 -- the nodes that are looked through are the function's
 same : (b : tie.Start) → functionAt (b .args .s .now) (b .args .f .place) .nodes ≡ nodesAt (b .args .f .count) (b .args .s .now) (b .args .f .first)
@@ -61,7 +61,7 @@ returns-2 c =
     let a = b .args in
     c .node-port .ensures
     ∙ sym
-    (node-typed (a .s .now) (a .k) (a .f .place) (a .at) (d .before .found .given .0 .1 .0) (named f)
+    (node-typed (a .s .now) _ (a .f .place) (a .at) (d .before .found .given .0 .1 .0) (named f)
     (ap (findNode (u16 (a .s .now) (a .at))) (same b) ∙ found d .find))
 
 returns-3 : tie.Need-returns-3
@@ -70,7 +70,7 @@ returns-3 c =
     let b = start-of-find f in
     let a = b .args in
     sym
-    (none-typed (a .s .now) (a .k) (a .f .place) (a .at) (named f)
+    (none-typed (a .s .now) _ (a .f .place) (a .at) (named f)
     (ap (findNode (u16 (a .s .now) (a .at))) (same b) ∙ no-node (a .s .now) (u16 (a .s .now) (a .at)) (a .f .count) (a .f .first) 0 (sym (told f) ∙ c .enum-told .given .1)))
 
 pub reference-port-spec : {M : Type 1} → statement M

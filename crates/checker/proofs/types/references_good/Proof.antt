@@ -6,7 +6,7 @@ use native.Mathlib.Omega.{arith}
 use lib.ListN.{drop}
 use Rattle.graph.specs.Read.{reference, references}
 use Rattle.order.specs.Resolve.{target}
-use Rattle.reader.specs.Layout.{functionAt}
+use Rattle.reader.specs.Layout.{functionAt, known}
 use Rattle.reader.specs.Records.{seen}
 use Rattle.checker.specs.Answers.{wantsList, referencesChecked}
 use Rattle.checker.proofs.Wiring.{lost, mistyped, welltyped, references-fault, references-on, references-none}
@@ -18,8 +18,8 @@ use Rattle.base.specs.Limits.{slotLimit, operandLimit}
 abbrev Inv-loop : tie.InvT-loop
 Inv-loop s starts k f places targets want begin n i at₀ j₀ at j =
     (j ≤ n) × (at ≡ begin + 3 * j)
-    × (referencesChecked s k (f .place) (wantsList s n want) (references n s begin)
-    ≡ referencesChecked s k (f .place) (drop j (wantsList s n want)) (references (n - j) s at))
+    × (referencesChecked s (known s starts k) (f .place) (wantsList s n want) (references n s begin)
+    ≡ referencesChecked s (known s starts k) (f .place) (drop j (wantsList s n want)) (references (n - j) s at))
 
 abbrev μ-loop : tie.MeasureT-loop
 μ-loop s starts k f places targets want begin n i at₀ j₀ at j = n - j
@@ -45,7 +45,7 @@ loop-holds c =
     let z : a .n - 0 ≡ a .n = omega arith in (
       omega arith,
       omega arith,
-      ap (λ (m : ℕ). referencesChecked (a .s .now) (a .k) (a .f .place) (wantsList (a .s .now) (a .n) (a .want)) (references m (a .s .now) (a .begin))) (sym z),
+      ap (λ (m : ℕ). referencesChecked (a .s .now) (known (a .s .now) (a .starts .now) (a .k)) (a .f .place) (wantsList (a .s .now) (a .n) (a .want)) (references m (a .s .now) (a .begin))) (sym z),
     )
 
 slot-port-requires : tie.Need-slot-port-requires Inv-loop μ-loop
@@ -71,8 +71,8 @@ returns c =
     ap seen
     (sym
     (l .inv .2
-    ∙ references-fault (a .s .now) (a .k) (a .f .place) (a .n) (a .want) (l .at) (l .j) (d .loop-test .taken)
-    (lost (a .s .now) (a .k) (a .f .place) (l .at) _ (sym (r .slot-port .ensures) ∙ c .enum-told .given .1))))
+    ∙ references-fault (a .s .now) _ (a .f .place) (a .n) (a .want) (l .at) (l .j) (d .loop-test .taken)
+    (lost (a .s .now) _ (a .f .place) (l .at) _ (sym (r .slot-port .ensures) ∙ c .enum-told .given .1))))
 
 returns-2 : tie.Need-returns-2 Inv-loop μ-loop
 returns-2 c =
@@ -84,8 +84,8 @@ returns-2 c =
     ap seen
     (sym
     (l .inv .2
-    ∙ references-fault (a .s .now) (a .k) (a .f .place) (a .n) (a .want) (l .at) (l .j) (d .loop-test .taken)
-    (mistyped (a .s .now) (a .k) (a .f .place) (l .at) _ (sym (r .slot-port .ensures) ∙ w .before .before .found .given .1) _ (λ q. c .if1 .taken (q ∙ sym (w .want-at .ensures))))))
+    ∙ references-fault (a .s .now) _ (a .f .place) (a .n) (a .want) (l .at) (l .j) (d .loop-test .taken)
+    (mistyped (a .s .now) _ (a .f .place) (l .at) _ (sym (r .slot-port .ensures) ∙ w .before .before .found .given .1) _ (λ q. c .if1 .taken (q ∙ sym (w .want-at .ensures))))))
 
 loop-again : tie.Need-loop-again Inv-loop μ-loop
 loop-again c =
@@ -97,15 +97,15 @@ loop-again c =
       omega (arith, d .loop-test .taken),
       omega (arith, l .inv .1),
       l .inv .2
-          ∙ references-on (a .s .now) (a .k) (a .f .place) (a .n) (a .want) (l .at) (l .j) (d .loop-test .taken)
-          (welltyped (a .s .now) (a .k) (a .f .place) (l .at) _ (sym (r .slot-port .ensures) ∙ w .before .before .found .given .1) _ (c .if1 .left ∙ w .want-at .ensures)),
+          ∙ references-on (a .s .now) _ (a .f .place) (a .n) (a .want) (l .at) (l .j) (d .loop-test .taken)
+          (welltyped (a .s .now) _ (a .f .place) (l .at) _ (sym (r .slot-port .ensures) ∙ w .before .before .found .given .1) _ (c .if1 .left ∙ w .want-at .ensures)),
     )
 
 returns-3 : tie.Need-returns-3 Inv-loop μ-loop
 returns-3 c =
     let l = c .before .loop in
     let a = c .before .before .before .args in
-    ap seen (sym (l .inv .2 ∙ references-none (a .s .now) (a .k) (a .f .place) (a .n) (a .want) (l .at) (l .j) (omega arith)))
+    ap seen (sym (l .inv .2 ∙ references-none (a .s .now) _ (a .f .place) (a .n) (a .want) (l .at) (l .j) (omega arith)))
 
 pub references-good-spec : {M : Type 1} → statement M
 references-good-spec =

@@ -28,7 +28,7 @@ returns c =
     let t = c .before in
     let u = t .before .before in
     let a = start u .args in
-    c .input-port .ensures ∙ sym (input-typed (a .s .now) (a .k) (a .f .place) (a .at) (sym (u .u16-at .ensures .0) ∙ t .if1 .taken))
+    c .input-port .ensures ∙ sym (input-typed (a .s .now) _ (a .f .place) (a .at) (sym (u .u16-at .ensures .0) ∙ t .if1 .taken))
 
 -- the reference names no input
 named : (e : tie.Else1) → let a = start-of-else e .args in u16 (a .s .now) (a .at) ≡ 0 → ⊥
@@ -55,7 +55,7 @@ returns-2 c =
     let s = a .s .now in
     c .node-port .ensures
     ∙ sym
-    (node-typed s (a .k) (a .f .place) (a .at) (w .wide32 .result) (named e)
+    (node-typed s _ (a .f .place) (a .at) (w .wide32 .result) (named e)
     (slot-found (b .pre .0) (a .at) (a .i) (b .pre .3) (t .if2 .taken) ∙ ap (λ (x : ℕ). some (nodeAt s x)) (sym (place w))))
 
 returns-3 : tie.Need-returns-3
@@ -65,7 +65,7 @@ returns-3 c =
     let a = b .args in
     let s = a .s .now in
     sym
-    (none-typed s (a .k) (a .f .place) (a .at) (named e) (slot-lost (b .pre .0) (a .at) (a .i) (b .pre .3) (omega (arith, c .if2 .left))))
+    (none-typed s _ (a .f .place) (a .at) (named e) (slot-lost (b .pre .0) (a .at) (a .i) (b .pre .3) (omega (arith, c .if2 .left))))
 
 pub slot-port-spec : {M : Type 1} → statement M
 slot-port-spec =

@@ -2,8 +2,7 @@ use Prim.Native.Nat.{_-_, _≤_}
 use mathlib.Core.Path.{_≡_, refl, sym, _∙_}
 use native.Mathlib.Omega.{arith}
 use lib.ListN.{getD}
-use Rattle.graph.specs.Format.{version1}
-use Rattle.reader.specs.Layout.{functionPlace, earlier}
+use Rattle.reader.specs.Layout.{known}
 use Rattle.reader.specs.Find.{functionFound}
 use Rattle.reader.proofs.Passed.{function-fits, function-hit, function-miss}
 use Rattle.reader.proofs.lookup.find_function.Statement.{statement}
@@ -11,7 +10,7 @@ use Rattle.reader.proofs.lookup.find_function.Tie as tie
 
 -- none of those behind has the id
 abbrev Inv-loop : tie.InvT-loop
-Inv-loop s starts k id i₀ i = (i ≤ k) × (functionFound id (earlier (version1 .header) s k) ≡ functionFound id (earlier (version1 .header) s i))
+Inv-loop s starts k id i₀ i = (i ≤ k) × (functionFound id (known s starts k) ≡ functionFound id (known s starts i))
 
 abbrev μ-loop : tie.MeasureT-loop
 μ-loop s starts k id i₀ i = i
@@ -21,43 +20,32 @@ abbrev μ-loop : tie.MeasureT-loop
 abbrev start-of-at : tie.After-at Inv-loop μ-loop → tie.Start Inv-loop μ-loop
 start-of-at c = let k = c .before .before .before in k .before
 
--- the place of the function before
-place : (d : tie.After-at Inv-loop μ-loop) → let b = start-of-at d in
-    let i = d .before .before .loop .i in
-    getD (b .args .starts .now) (i - 1) 0 ≡ functionPlace (version1 .header) (b .args .s .now) (i - 1)
-place d =
-    let b = start-of-at d in
-    b .pre .0 .places (d .before .before .loop .i - 1) (omega arith)
-
 fits : tie.Need-u16-at-requires Inv-loop μ-loop
 fits c κs =
     let b = start-of-at c in
     let i = c .before .before .loop .i in
-    let s = b .args .s .now in
-    let h = function-fits s (functionPlace (version1 .header) s (i - 1)) (b .pre .0 .reads (i - 1) (omega arith)) in
-    omega (arith, h, place c)
+    let h = function-fits (b .args .s .now) (getD (b .args .starts .now) (i - 1) 0) (b .pre .0 (i - 1) (omega arith)) in
+    omega (arith, h)
 
 returns : tie.Need-returns Inv-loop μ-loop
 returns c =
     let d = c .before .before in
-    let b = start-of-at d in
+    let a = start-of-at d .args in
     let l = d .before .before .loop in
-    sym
-    (l .inv .1
-    ∙ function-hit (version1 .header) (b .args .s .now) (b .args .id) (l .i) _ (d .before .loop-test .taken) (place d) (sym (c .before .u16-at .ensures .0) ∙ c .if1 .taken))
+    sym (l .inv .1 ∙ function-hit (a .s .now) (a .starts .now) (a .id) (l .i) (d .before .loop-test .taken) (sym (c .before .u16-at .ensures .0) ∙ c .if1 .taken))
 
 loop-again : tie.Need-loop-again Inv-loop μ-loop
 loop-again c =
     let d = c .before .before in
-    let b = start-of-at d in
+    let a = start-of-at d .args in
     let l = d .before .before .loop in (
       omega arith,
       l .inv .1
-          ∙ function-miss (version1 .header) (b .args .s .now) (b .args .id) (l .i) _ (d .before .loop-test .taken) (place d) (λ w. c .if1 .left (c .before .u16-at .ensures .0 ∙ w)),
+          ∙ function-miss (a .s .now) (a .starts .now) (a .id) (l .i) (d .before .loop-test .taken) (λ w. c .if1 .left (c .before .u16-at .ensures .0 ∙ w)),
     )
 
 returns-2 : tie.Need-returns-2 Inv-loop μ-loop
-unfolding earlier
+unfolding known
 returns-2 c =
     let l = c .before .loop in
     let z : l .i ≡ 0 = omega arith in

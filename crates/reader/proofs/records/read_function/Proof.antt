@@ -5,7 +5,6 @@ use native.Mathlib.Omega.{arith}
 use lib.ListN.{length}
 use borrow.Author.Tests.{not-true, not-false}
 use Rattle.base.specs.Bytes.{byte, u16}
-use Rattle.graph.specs.Format.{version1}
 use Rattle.graph.specs.Read.{inRange, inputs, outputs}
 use Rattle.reader.specs.Layout.{outputsPlace, nodesPlace}
 use Rattle.reader.specs.Records.{next, behind}
@@ -40,24 +39,24 @@ returns : tie.Need-returns
 returns c =
     let r = c .before .before in
     let a = r .before .before .args in
-    ap next (sym (function-short (version1 .nodeLimit) (a .s .now) (a .at) (short (a .s .now) _ _ (r .read-record .ensures) (c .enum-told .given .1))))
+    ap next (sym (function-short (a .limit) (a .s .now) (a .at) (short (a .s .now) _ _ (r .read-record .ensures) (c .enum-told .given .1))))
 
 -- its fields as the definition has them
 range : (c : tie.After-in-range) → let a = start-of-range c .args in
-    c .in-range .result ≡ inRange (version1 .nodeLimit) (u16 (a .s .now) (a .at)) (byte (a .s .now) (a .at + 2)) (byte (a .s .now) (a .at + 3)) (u16 (a .s .now) (a .at + 4))
+    c .in-range .result ≡ inRange (a .limit) (u16 (a .s .now) (a .at)) (byte (a .s .now) (a .at + 2)) (byte (a .s .now) (a .at + 3)) (u16 (a .s .now) (a .at + 4))
 range c =
     let a = start-of-range c .args in
     c .in-range .ensures
-    ∙ ap (λ i. inRange (version1 .nodeLimit) i (byte (a .s .now) (a .at + 2)) (byte (a .s .now) (a .at + 3)) (c .before .u16-at2 .result)) (first-of-range c .u16-at .ensures .0)
-    ∙ ap (inRange (version1 .nodeLimit) (u16 (a .s .now) (a .at)) (byte (a .s .now) (a .at + 2)) (byte (a .s .now) (a .at + 3))) (c .before .u16-at2 .ensures .0)
+    ∙ ap (λ i. inRange (a .limit) i (byte (a .s .now) (a .at + 2)) (byte (a .s .now) (a .at + 3)) (c .before .u16-at2 .result)) (first-of-range c .u16-at .ensures .0)
+    ∙ ap (inRange (a .limit) (u16 (a .s .now) (a .at)) (byte (a .s .now) (a .at + 2)) (byte (a .s .now) (a .at + 3))) (c .before .u16-at2 .ensures .0)
 
 returns-2 : tie.Need-returns-2
 returns-2 c =
     let g = c .before in
     let a = start-of-range g .args in
-    ap next (sym (function-bad (version1 .nodeLimit) (a .s .now) (a .at) (head (first-of-range g .before) .0) (sym (range g) ∙ not-true _ (c .if1 .taken))))
+    ap next (sym (function-bad (a .limit) (a .s .now) (a .at) (head (first-of-range g .before) .0) (sym (range g) ∙ not-true _ (c .if1 .taken))))
 
-passed : (c : tie.After-read-inputs) → let a = start-of-inputs c .args in Head (version1 .nodeLimit) (a .s .now) (a .at)
+passed : (c : tie.After-read-inputs) → let a = start-of-inputs c .args in Head (a .limit) (a .s .now) (a .at)
 passed c =
     let g = c .before .before in
     record { fits = head (first-of-range g .before) .0; ranged = sym (range g) ∙ not-false _ (c .before .if1 .left) }

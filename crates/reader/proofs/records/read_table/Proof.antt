@@ -2,11 +2,12 @@ use borrow.Author.Needs.{needs}
 use mathlib.Core.Path.{_≡_, ap, sym, _∙_}
 use native.Mathlib.Omega.{arith}
 use borrow.Author.Tests.{le-leb, lt-leb, eq-eqb, ne-eqb}
+use Rattle.base.specs.Bytes.{byte}
 use Rattle.base.specs.Outcome.{_>>_, need}
 use Rattle.base.proofs.Outcomes.{passes, fails}
-use Rattle.graph.specs.Format.{version1}
-use Rattle.graph.specs.Read.{tableMarked, parse}
-use Rattle.reader.specs.Records.{seen}
+use Rattle.graph.specs.Format.{formatOf}
+use Rattle.graph.specs.Read.{functions, tableMarked, parse}
+use Rattle.reader.specs.Records.{seen, next}
 use Rattle.reader.proofs.Functions.{from-version, from-size, from-count, from-functions, functions-stop, functions-end, functions-over}
 use Rattle.reader.proofs.records.read_table.Statement.{statement}
 use Rattle.reader.proofs.records.read_table.Tie as tie
@@ -30,22 +31,24 @@ start-of-else-8 c = start-of-else-6 (c .before .before .before)
 
 -- ---- what is left to read once the tests have passed
 
-from-mark : (c : tie.Else1) → let s = start-of-else-1 c .args .s .now in parse version1 s ≡ (need (tableMarked s) 2 0 >> from-version s)
+from-mark : (c : tie.Else1) → let s = start-of-else-1 c .args .s .now in parse (formatOf s) s ≡ (need (tableMarked s) 2 0 >> from-version (formatOf s) s)
 from-mark c = passes _ 1 0 _ (le-leb _ _ (c .if1 .left))
 
-marked-at : (c : tie.Else4) → let s = start-of-else-4 c .args .s .now in parse version1 s ≡ from-version s
+marked-at : (c : tie.Else4) → let s = start-of-else-4 c .args .s .now in parse (formatOf s) s ≡ from-version (formatOf s) s
 marked-at c =
     let n = c .before .before in
     let m = n .before .before in
     from-mark (m .before .before) ∙ passes _ 2 0 _ (rw (eq-eqb _ _ (m .if2 .left), eq-eqb _ _ (n .if3 .left), eq-eqb _ _ (c .if4 .left)))
 
-versioned-at : (c : tie.Else5) → let s = start-of-else-5 c .args .s .now in parse version1 s ≡ from-size s
+versioned-at : (c : tie.Else5) → let s = start-of-else-5 c .args .s .now in parse (formatOf s) s ≡ from-size (formatOf s) s
+unfolding formatOf
 versioned-at c = marked-at (c .before .before) ∙ passes _ 3 3 _ (eq-eqb _ _ (sym (c .before .u16-at .ensures .0) ∙ c .if5 .left))
 
-sized-at : (c : tie.Else6) → let s = start-of-else-6 c .args .s .now in parse version1 s ≡ from-count s
+sized-at : (c : tie.Else6) → let s = start-of-else-6 c .args .s .now in parse (formatOf s) s ≡ from-count (formatOf s) s
+unfolding formatOf
 sized-at c = versioned-at (c .before .before) ∙ passes _ 4 6 _ (eq-eqb _ _ (sym (c .before .u16-at2 .ensures .0) ∙ c .if6 .left))
 
-counted-at : (c : tie.Else8) → let s = start-of-else-8 c .args .s .now in parse version1 s ≡ from-functions s
+counted-at : (c : tie.Else8) → let s = start-of-else-8 c .args .s .now in parse (formatOf s) s ≡ from-functions (formatOf s) s
 counted-at c = sized-at (c .before .before .before) ∙ passes _ 6 5 _ (rw (le-leb _ _ (c .before .if7 .left), le-leb _ _ (c .if8 .left)))
 
 -- ---- answers
@@ -68,9 +71,11 @@ returns-4 c =
     ap seen (sym (from-mark (m .before .before) ∙ fails _ 2 0 _ (rw (eq-eqb _ _ (m .if2 .left), eq-eqb _ _ (n .if3 .left), ne-eqb _ _ (c .if4 .taken)))))
 
 returns-5 : tie.Need-returns-5
+unfolding formatOf
 returns-5 c = let u = c .before in ap seen (sym (marked-at (u .before) ∙ fails _ 3 3 _ (ne-eqb _ _ (λ q. c .if5 .taken (u .u16-at .ensures .0 ∙ q)))))
 
 returns-6 : tie.Need-returns-6
+unfolding formatOf
 returns-6 c = let u = c .before in ap seen (sym (versioned-at (u .before) ∙ fails _ 4 6 _ (ne-eqb _ _ (λ q. c .if6 .taken (u .u16-at2 .ensures .0 ∙ q)))))
 
 returns-7 : tie.Need-returns-7
@@ -79,22 +84,31 @@ returns-7 c = ap seen (sym (sized-at (c .before .before) ∙ fails _ 6 5 _ (rw (
 returns-8 : tie.Need-returns-8
 returns-8 c = ap seen (sym (sized-at (c .before .before .before) ∙ fails _ 6 5 _ (rw (le-leb _ _ (c .before .if7 .left), lt-leb _ _ (c .if8 .taken)))))
 
+-- what the functions' reading gave
+read : (r : tie.After-read-functions) → let s = start-of-else-8 (r .before) .args .s .now in
+    r .read-functions .result ≡ next (functions (formatOf s .nodeLimit) (byte s 5) s (formatOf s .header))
+unfolding formatOf
+read r = r .read-functions .ensures
+
 returns-9 : tie.Need-returns-9
 returns-9 c =
     let m = c .before .before .before in
     let r = m .before in
-    sym (ap seen (counted-at (r .before)) ∙ functions-end (start-of-else-8 (r .before) .args .s .now) _ (sym (c .before .before .read .given .1) ∙ r .read-functions .ensures) (c .if9 .taken))
+    let s = start-of-else-8 (r .before) .args .s .now in
+    sym (ap seen (counted-at (r .before)) ∙ functions-end (formatOf s) s _ (sym (c .before .before .read .given .1) ∙ read r) (c .if9 .taken))
 
 returns-10 : tie.Need-returns-10
 returns-10 c =
     let m = c .before .before .before in
     let r = m .before in
-    ap seen (sym (counted-at (r .before) ∙ functions-over (start-of-else-8 (r .before) .args .s .now) _ (sym (c .before .before .read .given .1) ∙ r .read-functions .ensures) (c .if9 .left)))
+    let s = start-of-else-8 (r .before) .args .s .now in
+    ap seen (sym (counted-at (r .before) ∙ functions-over (formatOf s) s _ (sym (c .before .before .read .given .1) ∙ read r) (c .if9 .left)))
 
 returns-11 : tie.Need-returns-11
 returns-11 c =
     let r = c .before .before .before in
-    ap seen (sym (counted-at (r .before) ∙ functions-stop (start-of-else-8 (r .before) .args .s .now) _ _ (sym (c .before .read2 .given .1) ∙ r .read-functions .ensures)))
+    let s = start-of-else-8 (r .before) .args .s .now in
+    ap seen (sym (counted-at (r .before) ∙ functions-stop (formatOf s) s _ _ (sym (c .before .read2 .given .1) ∙ read r)))
 
 pub read-table-spec : {M : Type 1} → statement M
 read-table-spec =
