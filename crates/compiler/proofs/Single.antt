@@ -112,7 +112,8 @@ module _ (s locations : List ℕ) (k p c : ℕ) (ins : List ℕ) (first next : �
       × (length (reads (nodeAt s p)) ≡ r .count)
   operation-inlined r q =
       let (rs, x, l) = references-are s p n e r q in
-      let (a, b) = by-payload (refs rs) x in
-      (a ∙ ap (λ (m : ℕ). single (nodeAt s p .kind) (nodeAt s p .type) (addressesIn locations ins first c m) [] next) l
-      ∙ own-bytes (addressesIn locations ins first c (r .count)) [],
-      b ∙ l)
+      let (a, b) = by-payload (refs rs) x in (
+        a ∙ ap (λ (m : ℕ). single (nodeAt s p .kind) (nodeAt s p .type) (addressesIn locations ins first c m) [] next) l
+            ∙ own-bytes (addressesIn locations ins first c (r .count)) [],
+        b ∙ l,
+      )
