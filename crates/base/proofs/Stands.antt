@@ -1,7 +1,7 @@
 -- Bytes that stand in a list at a place, and the numbers that they are.
 use Prim.Native.Nat.{ℕ, zero, suc, _+_, _*_, _/_, _%_, _^_, _<_}
 use mathlib.Core.Path.{_≡_, refl, ap, sym, _∙_, subst}
-use mathlib.Core.List.{List, [], _∷_, _++_}
+use mathlib.Core.List.{List, [], _∷_, _++_, append-assoc}
 use native.Mathlib.Omega.{arith}
 use native.Mathlib.Nat.{pow-succ', mul-suc, add-zero, add-suc, suc-add}
 use native.Mathlib.Numerals.{add-one}
@@ -46,6 +46,12 @@ all-length n (x ∷ xs) =
 pub constants-length : (n : ℕ) (s : List ℕ) (at : ℕ) → length (constants n s at) ≡ n
 constants-length zero s at = refl
 constants-length (suc n) s at = ap suc (constants-length n s (at + 8))
+
+-- the bytes of two lists, one after the other
+pub all-append : (n : ℕ) (xs ys : List ℕ) → allBytes n (xs ++ ys) ≡ allBytes n xs ++ allBytes n ys
+all-append n [] ys = refl
+all-append n (x ∷ xs) ys =
+    ap (λ (zs : List ℕ). bytesOf n x ++ zs) (all-append n xs ys) ∙ sym (append-assoc (bytesOf n x) (allBytes n xs) (allBytes n ys))
 
 -- ---- numbers
 

@@ -1,12 +1,14 @@
 -- Runs of stores.
-use Prim.Native.Nat.{ℕ, zero, suc, _+_, _-_, _≤_, _<_}
+use Prim.Native.Nat.{ℕ, zero, suc, _+_, _-_, _/_, _%_, _^_, _≤_, _<_}
 use mathlib.Core.Path.{_≡_, refl, sym, ap, _∙_}
 use mathlib.Core.List.{List, [], _∷_, _++_}
 use native.Mathlib.Omega.{arith}
 use native.Mathlib.Nat.{add-zero, add-suc, suc-add}
+use native.Mathlib.Numerals.{add-one, add-two, add-three, add-four, add-five, add-six, add-seven}
 use lib.ListN.{length, getD, set, take, drop, length-set}
 use lib.Seq.{sets, length-sets, sets-eq, set-comm, take-at, getD-set-same, getD-set-other}
 use Rattle.base.specs.Lists.{wordsAt}
+use Rattle.base.specs.Bytes.{bytesOf}
 use Rattle.base.proofs.Stands.{cons}
 
 -- one after another
@@ -77,6 +79,21 @@ set-before (y ∷ ys) l i j x h =
 -- what was stored at the front is the front
 pub front : (xs ys : List ℕ) → length ys ≤ length xs → take (length ys) (sets xs 0 ys) ≡ ys
 front xs ys h = ap (take (length ys)) (sets-eq ys xs 0 (omega arith)) ∙ take-at ys (drop (0 + length ys) xs) (length ys) refl
+
+-- ---- a number of eight bytes, byte by byte
+
+pub word-stored : (l : List ℕ) (at x : ℕ)
+    → set (set (set (set (set (set (set (set l at (x % 256)) (at + 1) (x / 256 % 256)) (at + 2) (x / 256 ^ 2 % 256)) (at + 3) (x / 256 ^ 3 % 256))
+    (at + 4) (x / 256 ^ 4 % 256)) (at + 5) (x / 256 ^ 5 % 256)) (at + 6) (x / 256 ^ 6 % 256)) (at + 7) (x / 256 ^ 7 % 256)
+    ≡ sets l at (bytesOf 8 x)
+word-stored l at x =
+    let e2 : x / 256 ^ 2 ≡ x / 256 / 256 = omega arith in
+    let e3 : x / 256 ^ 3 ≡ x / 256 / 256 / 256 = omega arith in
+    let e4 : x / 256 ^ 4 ≡ x / 256 / 256 / 256 / 256 = omega arith in
+    let e5 : x / 256 ^ 5 ≡ x / 256 / 256 / 256 / 256 / 256 = omega arith in
+    let e6 : x / 256 ^ 6 ≡ x / 256 / 256 / 256 / 256 / 256 / 256 = omega arith in
+    let e7 : x / 256 ^ 7 ≡ x / 256 / 256 / 256 / 256 / 256 / 256 / 256 = omega arith in
+    rw (add-one, add-two, add-three, add-four, add-five, add-six, add-seven, e2, e3, e4, e5, e6, e7)
 
 -- ---- a run that a loop stores in parts
 

@@ -111,8 +111,6 @@ pub fn u64_at(s: &[u8], at: usize) -> u64
         + wide64(s[at + 7]) * 0x100_0000_0000_0000
 }
 
-// ---- reading anywhere: 0 past the end
-
 // ---- writing
 
 pub fn put16(s: &mut [u8], at: usize, x: u16)
@@ -121,4 +119,18 @@ pub fn put16(s: &mut [u8], at: usize, x: u16)
 {
     s[at] = (x % 256) as u8;
     s[at + 1] = (x / 256 % 256) as u8;
+}
+
+pub fn put64(s: &mut [u8], at: usize, x: u64)
+    requires { ⌜ at + 8 ≤ length (now s) ⌝ }
+    ensures { λ _. ⌜ now (s .exit) ≡ sets (now (s .entry)) at (bytesOf 8 x) ⌝ }
+{
+    s[at] = (x % 256) as u8;
+    s[at + 1] = (x / 0x100 % 256) as u8;
+    s[at + 2] = (x / 0x1_0000 % 256) as u8;
+    s[at + 3] = (x / 0x100_0000 % 256) as u8;
+    s[at + 4] = (x / 0x1_0000_0000 % 256) as u8;
+    s[at + 5] = (x / 0x100_0000_0000 % 256) as u8;
+    s[at + 6] = (x / 0x1_0000_0000_0000 % 256) as u8;
+    s[at + 7] = (x / 0x100_0000_0000_0000 % 256) as u8;
 }

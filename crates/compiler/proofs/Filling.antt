@@ -21,18 +21,12 @@ use Rattle.reader.specs.declared.Found.the-variants.{At, Nothing}
 use Rattle.order.specs.Indices.{slot}
 use Rattle.order.specs.Resolve.{indexFrom, indexOf, target}
 use Rattle.sums.specs.Answers.{typesBy}
-use Rattle.compiler.specs.Emit.{copied, addressOf, addressesIn}
+use Rattle.compiler.specs.Emit.{addressOf, addressesIn}
 use Rattle.compiler.specs.Locating.{Places, Slots, portCode, readCodes, rebasedCode, rebasedCodes, resultCodes, outputCodes}
 use Rattle.resolver.specs.Slots.{rowsOf, placesOf}
 use Rattle.resolver.proofs.Rows.{length-nodes, place-at, row-slot, rows-size}
 
--- ---- a run of stores
-
 -- ---- what is stored next, where j of n elements are stored
-
-pub copied-next : (s : List ℕ) (from : ℕ) {n j a : ℕ} → j < n → a ≡ byte s (from + j) → copied (n - j) s (from + j) ≡ a ∷ copied (n - (j + 1)) s (from + (j + 1))
-unfolding copied
-copied-next s from {n} {j} h e = let z : from + (j + 1) ≡ from + j + 1 = omega arith in rw (z, e) (ap (λ (m : ℕ). copied m s (from + j)) (one-less n j h))
 
 pub addresses-next : (locations ins : List ℕ) (first b : ℕ) {n j a : ℕ} → j < n → a ≡ addressOf ins first (getD locations (b + j) 0)
     → addressesIn locations ins first (b + j) (n - j) ≡ a ∷ addressesIn locations ins first (b + (j + 1)) (n - (j + 1))

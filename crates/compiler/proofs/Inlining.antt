@@ -32,7 +32,7 @@ Same xs ys = (p : ℕ) → getD xs p 0 ≡ getD ys p 0
 
 node-same : (go : Inline) (f g : Ref → ℕ) → ((r : Ref) → f r ≡ g r) → (next : ℕ) (n : Node) (p : Payload) → inlineNode go f next n p ≡ inlineNode go g next n p
 node-same go f g h next n (consts ws) = refl
-node-same go f g h next n (refs rs) = ap (λ (xs : List ℕ). single n xs [] next) (map-same f g h rs)
+node-same go f g h next n (refs rs) = ap (λ (xs : List ℕ). single (n .kind) (n .type) xs [] next) (map-same f g h rs)
 node-same go f g h next n (calls c rs) = ap (λ (xs : List ℕ). go c xs next) (map-same f g h rs)
 
 abbrev ported : List ℕ → Body → Inlined
@@ -78,7 +78,7 @@ padded n xs h p = ⊎-elim below above (lt-or-le p (length xs))
 
 pub open-with : (go : Inline) (from : Ref → ℕ) (next : ℕ) (n : Node) (p : Payload) (xs : List ℕ) → map from (readsOf p) ≡ xs → inlineNode go from next n p ≡ inlineWith go xs next n p
 open-with go from next n (consts ws) xs e = refl
-open-with go from next n (refs rs) xs e = ap (λ (ys : List ℕ). single n ys [] next) e
+open-with go from next n (refs rs) xs e = ap (λ (ys : List ℕ). single (n .kind) (n .type) ys [] next) e
 open-with go from next n (calls c rs) xs e = ap (λ (ys : List ℕ). go c ys next) e
 
 -- ---- the callee

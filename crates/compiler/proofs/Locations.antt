@@ -304,7 +304,7 @@ pub node-table : (go : Inline) (ins : List ℕ) (base : ℕ) (written : List Wri
     → inlineNode go (address ins written) next n p ≡ inlineNode go (λ r. addressAt ins base (table r)) next n p
 node-table go ins base written located m table next n (consts ws) h = refl
 node-table go ins base written located m table next n (refs rs) h =
-    ap (λ (xs : List ℕ). single n xs [] next) (addresses-table ins base written located m table rs h)
+    ap (λ (xs : List ℕ). single (n .kind) (n .type) xs [] next) (addresses-table ins base written located m table rs h)
 node-table go ins base written located m table next n (calls c rs) h =
     ap (λ (xs : List ℕ). go c xs next) (addresses-table ins base written located m table rs h)
 

@@ -1,19 +1,26 @@
 -- What a node that was read reads, and what it is as read.
 use Prim.Native.Nat.{ℕ, _+_, _≤_}
-use mathlib.Core.Path.{_≡_, refl, sym, ap, _∙_}
+use mathlib.Core.Path.{_≡_, refl, sym, ap, _∙_, subst}
 use mathlib.Core.Bool.{Bool, true, false}
 use mathlib.Core.List.{List}
 use native.Mathlib.Omega.{arith}
 use lib.ListN.{length}
 use Rattle.base.specs.Limits.{operandLimit}
-use Rattle.base.specs.Bytes.{byte, u16}
+use Rattle.base.specs.Bytes.{byte, u16, Bytes}
+use Rattle.base.specs.Outcome.{Part}
+use Rattle.ports.specs.Kinds.{Kind, kindOf}
 use Rattle.ports.specs.declared.Form.{Form}
 use Rattle.ports.specs.declared.Form.the-variants.{Absent, Constant, References, Call}
 use Rattle.ports.specs.Ports.{portsOf, arity, formOf, calling}
 use Rattle.value.specs.declared.Value.{Value}
+use Rattle.value.specs.Values.{wordsOf, valueOf}
+use Rattle.value.proofs.Laws.{words-of-value, each-finite}
+use Rattle.graph.specs.Graph as Graph
+use Rattle.graph.specs.Graph.{Ref, consts, refs, calls}
+use Rattle.graph.specs.Formed.{FormedPayload, FormedNode}
 use Rattle.graph.specs.Look.{reads}
 use Rattle.graph.specs.Read.{references}
-use Rattle.graph.proofs.Formed.{refs-length}
+use Rattle.graph.proofs.Formed.{refs-length, node-formed}
 use Rattle.reader.specs.declared.Node.{Node}
 use Rattle.reader.specs.declared.Payload.{Payload}
 use Rattle.reader.specs.declared.Payload as Payloads
@@ -21,6 +28,8 @@ use Rattle.reader.specs.declared.Reads.{Reads}
 use Rattle.reader.specs.Layout.{kindAt, payloadAt, nodeAt}
 use Rattle.reader.specs.Records.{payloadOf, argumentsAt, operandsAt, nodeOf}
 use Rattle.reader.specs.Find.{ReadsNode, ReadsOf}
+use Rattle.reader.proofs.Standing.{node-read}
+use Rattle.reader.proofs.Rows.{constant-width}
 use Rattle.reader.proofs.AsRead.{calling-call, call-calling, call-reads, other-reads}
 
 -- ---- how many
@@ -42,14 +51,6 @@ few-reads s p h = pickOne (calling (formOf (kindAt s p))) refl
 -- ---- the node as read
 
 module _ (s : List ℕ) (p : ℕ) (n : Node) (e : n ≡ nodeOf (nodeAt s p)) where
-  pub kind-is : n .kind ≡ byte s (p + 2)
-  unfolding nodeAt
-  kind-is = ap (λ (m : Node). m .kind) e
-
-  pub type-is : n .ty ≡ byte s (p + 3)
-  unfolding nodeAt
-  type-is = ap (λ (m : Node). m .ty) e
-
   abbrev payloadBy : Form → Payload
   payloadBy f = payloadOf (kindAt s p) (p + 4) (payloadAt f (kindAt s p) s (p + 4))
 
@@ -57,24 +58,36 @@ module _ (s : List ℕ) (p : ℕ) (n : Node) (e : n ≡ nodeOf (nodeAt s p)) whe
   unfolding nodeAt
   payload-is = ap (λ (m : Node). m .payload) e
 
-  -- constants and references are no call's
-  pub constant-plain : (v : Value) → n .payload ≡ Payloads.Payload.Constant v → calling (formOf (kindAt s p)) ≡ false
-  constant-plain v q = pickOne (formOf (kindAt s p)) (sym q ∙ payload-is)
-    where
-      pickOne : (f : Form) → Payloads.Payload.Constant v ≡ payloadBy f → calling f ≡ false
-      pickOne Absent z = refl
-      pickOne Constant z = refl
-      pickOne References z = refl
-      pickOne Call z = let y : _≡_ {A = ℕ} 0 1 = cc in absurd (omega arith)
+  abbrev kind : Kind
+  kind = kindOf (nodeAt s p .kind)
 
-  pub references-plain : (r : Reads) → n .payload ≡ Payloads.Payload.References r → calling (formOf (kindAt s p)) ≡ false
-  references-plain r q = pickOne (formOf (kindAt s p)) (sym q ∙ payload-is)
+  payload-kept : n .payload ≡ payloadOf kind (nodeAt s p .place + 4) (nodeAt s p .payload)
+  payload-kept = ap (λ (m : Node). m .payload) e
+
+  -- a constant: its words are those of its value, since all of them are finite
+  pub constant-is : Bytes s → ReadsNode s p → (v : Value) → n .payload ≡ Payloads.Payload.Constant v → nodeAt s p .payload ≡ consts (wordsOf v)
+  constant-is small (x, ex) v q =
+      pickOne (nodeAt s p .payload)
+      (subst (λ (y : Part Graph.Node). FormedNode (y .it)) (node-read s p x ex) (node-formed s small p x ex .0) .payload)
+      (sym q ∙ payload-kept)
     where
-      pickOne : (f : Form) → Payloads.Payload.References r ≡ payloadBy f → calling f ≡ false
-      pickOne Absent z = refl
-      pickOne Constant z = refl
-      pickOne References z = refl
-      pickOne Call z = let y : _≡_ {A = ℕ} 0 1 = cc in absurd (omega arith)
+      pickOne : (y : Graph.Payload) → FormedPayload kind y → Payloads.Payload.Constant v ≡ payloadOf kind (nodeAt s p .place + 4) y → y ≡ consts (wordsOf v)
+      pickOne (consts ws) (f, l, t, h) z =
+          let a : v ≡ valueOf (portsOf kind .result) ws = cc in
+          ap consts (sym (ap wordsOf a ∙ words-of-value (portsOf kind .result) ws (each-finite ws t h) (l ∙ constant-width (nodeAt s p .kind) f)))
+      pickOne (refs rs) h z = let y : _≡_ {A = ℕ} 0 1 = cc in absurd (omega arith)
+      pickOne (calls c rs) h z = let y : _≡_ {A = ℕ} 0 1 = cc in absurd (omega arith)
+
+  -- references: how many there are
+  pub references-are : (r : Reads) → n .payload ≡ Payloads.Payload.References r → (rs : List Ref) × (nodeAt s p .payload ≡ refs rs) × (length rs ≡ r .count)
+  references-are r q = pickOne (nodeAt s p .payload) (sym q ∙ payload-kept)
+    where
+      pickOne : (y : Graph.Payload) → Payloads.Payload.References r ≡ payloadOf kind (nodeAt s p .place + 4) y → (rs : List Ref) × (y ≡ refs rs) × (length rs ≡ r .count)
+      pickOne (consts ws) z = let y : _≡_ {A = ℕ} 0 1 = cc in absurd (omega arith)
+      pickOne (refs rs) z =
+          let a : record { first = nodeAt s p .place + 4; count = length rs } ≡ r = cc in
+          (rs, refl, ap (λ (x : Reads). x .count) a)
+      pickOne (calls c rs) z = let y : _≡_ {A = ℕ} 0 1 = cc in absurd (omega arith)
 
   -- a call: its callee, and how many arguments it has
   pub call-is : (c : ℕ) (r : Reads) → n .payload ≡ Payloads.Payload.Call c r → (calling (formOf (kindAt s p)) ≡ true) × (c ≡ u16 s (p + 4)) × (r .count ≡ byte s (p + 4 + 2))

@@ -7,7 +7,6 @@ use lib.Dec.{ltb}
 use lib.ListN.{length, getD}
 use lib.Seq.{sets}
 use Rattle.base.specs.Limits.{nodeLimit, portLimit, referenceLimit, wordLimit, addressLimit}
-use Rattle.base.specs.Bytes.{byte}
 use Rattle.graph.specs.Graph.{Ref, Payload, consts, refs, calls, Node}
 use Rattle.graph.specs.Look.{reads}
 use Rattle.graph.specs.Schedule.{schedule}
@@ -18,11 +17,6 @@ use Rattle.bytecode.specs.Code.{instructionsCode}
 use Rattle.compiler.specs.declared.Reached.{Reached}
 use Rattle.compiler.specs.Static.{Location, nowhere, input, offset, locationOf, Summary, functionSummary, summary, allocate, Agrees}
 use Rattle.sums.specs.Position.{placeOf, functionIn, before}
-
--- n bytes from a place on
-unfoldable pub copied : ℕ → List ℕ → ℕ → List ℕ
-copied zero s at = []
-copied (suc n) s at = byte s at ∷ copied n s (at + 1)
 
 -- ---- locations as numbers: below the port limit an input, from it on an offset
 
@@ -44,8 +38,8 @@ addressesIn locations ins first c (suc n) = addressOf ins first (getD locations 
 
 -- a node whose references have these addresses
 abbrev pub inlineWith : Inline → List ℕ → ℕ → Node → Payload → Inlined
-inlineWith go xs next n (consts ws) = single n [] ws next
-inlineWith go xs next n (refs rs) = single n xs [] next
+inlineWith go xs next n (consts ws) = single (n .kind) (n .type) [] ws next
+inlineWith go xs next n (refs rs) = single (n .kind) (n .type) xs [] next
 inlineWith go xs next n (calls c rs) = go c xs next
 
 -- the node at p of the function at position k, whose locations stand from c on

@@ -1,19 +1,21 @@
 // The instructions of a function, each call opened where it stands.
 ghost use mathlib.Core.Path.{_≡_};
-ghost use mathlib.Core.Bool.{false};
+ghost use mathlib.Core.List.{[]};
 ghost use Prim.Native.Nat.{suc, _+_, _*_, _<_, _≤_};
 ghost use lib.ListN.{length};
 ghost use lib.Seq.{sets};
 ghost use Rattle.base.specs.Limits.{functionLimit, portLimit, referenceLimit, wordLimit, addressLimit};
-ghost use Rattle.ports.specs.Ports.{formOf, calling};
-ghost use Rattle.base.specs.Bytes.{byte, allBytes};
+ghost use Rattle.base.specs.Bytes.{allBytes};
+ghost use Rattle.value.specs.Values.{wordsOf};
 ghost use Rattle.graph.specs.Look.{reads};
-ghost use Rattle.reader.specs.Layout.{kindAt, nodeAt};
+ghost use Rattle.reader.specs.Layout.{nodeAt};
 ghost use Rattle.reader.specs.Find.{ReadsNode};
 ghost use Rattle.sums.specs.Position.{Started};
-ghost use Rattle.compiler.specs.Emit.{copied, addressOf, addressesIn, nodeInlined, functionInlined, CodeRoom, Emits, AllAllocated};
+ghost use Rattle.lowering.specs.Compile.{single};
+ghost use Rattle.compiler.specs.Emit.{addressOf, addressesIn, nodeInlined, functionInlined, CodeRoom, Emits, AllAllocated};
 use super::ORDER_LIMIT;
 use super::Reached;
+use super::constants::put_constant;
 use base::ADDRESS_LIMIT;
 use base::FUNCTION_LIMIT;
 use base::NODE_LIMIT;
@@ -21,9 +23,9 @@ use base::PORT_LIMIT;
 use base::REFERENCE_LIMIT;
 use base::put16;
 use base::u16_at;
-use base::wide;
 use base::wide16;
 use reader::Payload;
+use value::Value;
 
 // The address of a location.
 pub fn address(ins: &[u16; PORT_LIMIT], first: usize, e: usize) -> u16
@@ -77,26 +79,37 @@ fn arguments(
     }
 }
 
-// n bytes of the table.
-fn copy(table: &[u8], from: usize, n: usize, code: &mut [u8], at: usize)
-    requires { ⌜ (from + n ≤ length (now table)) × (at + n ≤ length (now code)) ⌝ }
-    ensures { λ _. ⌜ now (code .exit) ≡ sets (now (code .entry)) at (copied n (now (table .entry)) from) ⌝ }
+// The instruction of a constant.
+fn emit_constant(
+    kind: u8,
+    ty: u8,
+    v: Value,
+    cell: usize,
+    code: &mut [u8],
+    at: usize,
+    next: usize,
+) -> Reached
+    requires { ⌜ CodeRoom (now code) at (single kind ty [] (wordsOf v) next) ⌝ }
+    ensures { λ r. ⌜ Emits (now (code .entry)) (now (code .exit)) at (single kind ty [] (wordsOf v) next) r ⌝ }
+    ensures { λ r. ⌜ r .cell ≡ cell ⌝ }
 {
-    let mut j = 0;
-    while j < n {
-        code[at + j] = table[from + j];
-        j += 1;
+    let w = ports::result_words(ports::ports_of(kind), ty);
+    code[at] = kind;
+    code[at + 1] = ty;
+    let end = put_constant(code, at + 2, v);
+    Reached {
+        at: end,
+        next: next + w,
+        cell,
     }
 }
 
-// The node at p, which is no call, by its kind and type.
-fn emit_single(
-    table: &[u8],
+// The instruction of a node that reads n values, whose locations stand from `cell` on.
+fn emit_operation(
     locations: &[u16; REFERENCE_LIMIT],
-    k: usize,
-    p: usize,
     kind: u8,
     ty: u8,
+    n: usize,
     cell: usize,
     ins: &[u16; PORT_LIMIT],
     first: usize,
@@ -104,23 +117,18 @@ fn emit_single(
     at: usize,
     next: usize,
 ) -> Reached
-    requires { ⌜ ReadsNode (now table) p × (kind ≡ byte (now table) (p + 2)) × (ty ≡ byte (now table) (p + 3)) × (calling (formOf (kindAt (now table) p)) ≡ false) ⌝ }
-    requires { ⌜ (first ≤ wordLimit) × (cell + length (reads (nodeAt (now table) p)) ≤ referenceLimit) ⌝ }
-    requires { ⌜ CodeRoom (now code) at (nodeInlined (now table) (now locations) k p cell (now ins) first next) ⌝ }
+    requires { ⌜ (first ≤ wordLimit) × (cell + n ≤ referenceLimit) ⌝ }
+    requires { ⌜ CodeRoom (now code) at (single kind ty (addressesIn (now locations) (now ins) first cell n) [] next) ⌝ }
     ensures { λ r. ⌜ Emits (now (code .entry)) (now (code .exit)) at
-        (nodeInlined (now (table .entry)) (now (locations .entry)) k p cell (now (ins .entry)) first next) r ⌝ }
-    ensures { λ r. ⌜ r .cell ≡ cell + length (reads (nodeAt (now (table .entry)) p)) ⌝ }
+        (single kind ty (addressesIn (now (locations .entry)) (now (ins .entry)) first cell n) [] next) r ⌝ }
+    ensures { λ r. ⌜ r .cell ≡ cell + n ⌝ }
 {
-    let row = ports::ports_of(kind);
-    let n = wide(row.operands);
-    let m = 8 * ports::constant_words(row);
-    let w = ports::result_words(row, ty);
+    let w = ports::result_words(ports::ports_of(kind), ty);
     code[at] = kind;
     code[at + 1] = ty;
     operands(locations, cell, n, ins, first, code, at + 2);
-    copy(table, p + 4, m, code, at + 2 + 2 * n);
     Reached {
-        at: at + 2 + 2 * n + m,
+        at: at + 2 + 2 * n,
         next: next + w,
         cell: cell + n,
     }
@@ -153,27 +161,12 @@ fn emit_node(
     let node = reader::node_at(table, p);
     let payload = node.payload;
     match payload {
-        Payload::Constant(_) => emit_single(
-            table,
+        Payload::Constant(v) => emit_constant(node.kind, node.ty, v, cell, code, at, next),
+        Payload::References(reads) => emit_operation(
             locations,
-            k,
-            p,
             node.kind,
             node.ty,
-            cell,
-            ins,
-            first,
-            code,
-            at,
-            next,
-        ),
-        Payload::References(_) => emit_single(
-            table,
-            locations,
-            k,
-            p,
-            node.kind,
-            node.ty,
+            reads.count,
             cell,
             ins,
             first,

@@ -23,6 +23,7 @@ use sums::Sizes;
 
 mod allocate;
 mod assemble;
+mod constants;
 mod emit;
 
 // ---- sizes of arrays; `specs/Sizes.antt` has the same

@@ -152,7 +152,7 @@ module _ (s : List ℕ) (small : Bytes s) where
       × PayloadAt (at + 4) (p .it .payload)
       × ShortNode (p .it)
 
-  node-formed : (at : ℕ) (p : Part Node) → node s at ≡ ok p → NodeRead at p
+  pub node-formed : (at : ℕ) (p : Part Node) → node s at ≡ ok p → NodeRead at p
   node-formed at p e =
       let (a, e1) = passed _ _ _ _ _ e in
       let (b, e2) = passed _ _ _ _ _ e1 in

@@ -120,19 +120,19 @@ plain-single k t rs l (s, n) =
 
 -- an instruction of its own
 single-served :
-    (n : Node) (operands constants : List ℕ) (next : ℕ) (m : List ℕ) (vs : List Value) (means : Option (List Value))
-    → Single (kindOf (n .kind)) (n .type) constants → Below next (takes (kindOf (n .kind)) (n .type)) operands
-    → valuesAt m (takes (kindOf (n .kind)) (n .type)) operands ≡ vs → Typed (takes (kindOf (n .kind)) (n .type)) vs
-    → next + widths (gives (kindOf (n .kind)) (n .type)) ≤ length m → means ≡ some (results (kindOf (n .kind)) constants vs)
-    → Served m next (single n operands constants next) (gives (kindOf (n .kind)) (n .type)) means
+    (kind type : ℕ) (operands constants : List ℕ) (next : ℕ) (m : List ℕ) (vs : List Value) (means : Option (List Value))
+    → Single (kindOf kind) type constants → Below next (takes (kindOf kind) type) operands
+    → valuesAt m (takes (kindOf kind) type) operands ≡ vs → Typed (takes (kindOf kind) type) vs
+    → next + widths (gives (kindOf kind) type) ≤ length m → means ≡ some (results (kindOf kind) constants vs)
+    → Served m next (single kind type operands constants next) (gives (kindOf kind) type) means
 unfolding execute
-single-served n operands constants next m vs means own below e h l q =
-    let k = kindOf (n .kind) in
-    let out = gives k (n .type) in
+single-served kind type operands constants next m vs means own below e h l q =
+    let k = kindOf kind in
+    let out = gives k type in
     let rs = results k constants vs in
-    let typed : Typed out rs = results-typed k (n .type) constants vs h in
+    let typed : Typed out rs = results-typed k type constants vs h in
     let size : length (allWords rs) ≡ widths out = typed-widths out rs typed in
-    let after : sets m next (allWords (results k constants (valuesAt m (takes k (n .type)) operands))) ≡ sets m next (allWords rs) =
+    let after : sets m next (allWords (results k constants (valuesAt m (takes k type) operands))) ≡ sets m next (allWords rs) =
     ap (λ (us : List Value). sets m next (allWords (results k constants us))) e in
     let hi = next + widths out in
     record {
@@ -252,10 +252,10 @@ module _ (early : List Function) (f : Function) (args : List Value) (ins : List 
           → nodeMeans (meaningOf early) (f .nodes) args (suc k) (n .id) ≡ payloadMeans (meaningOf early) (n .kind) p vs)
           → inlineNode (inlined early) (address ins ws) next n p .next ≤ length m → NodeServed n p
       payload-served n (consts cs) legal formed shape wired e q l =
-          single-served n [] cs next m [] _ (constant-single (kindOf (n .kind)) (n .type) cs legal formed) (rw shape tt) (no-values m (takes (kindOf (n .kind)) (n .type))) (rw shape tt) l (q [] refl)
+          single-served (n .kind) (n .type) [] cs next m [] _ (constant-single (kindOf (n .kind)) (n .type) cs legal formed) (rw shape tt) (no-values m (takes (kindOf (n .kind)) (n .type))) (rw shape tt) l (q [] refl)
       payload-served n (refs rs) legal formed shape wired e q l =
           let (vs, p, t, s) = refs-known k m next ws inputs stood known (takes (kindOf (n .kind)) (n .type)) rs e wired in
-          single-served n (map (address ins ws) rs) [] next m vs _ (plain-single (kindOf (n .kind)) (n .type) rs legal formed)
+          single-served (n .kind) (n .type) (map (address ins ws) rs) [] next m vs _ (plain-single (kindOf (n .kind)) (n .type) rs legal formed)
           (stand-below m next (takes (kindOf (n .kind)) (n .type)) (map (address ins ws) rs) vs t s) (values-at m next (takes (kindOf (n .kind)) (n .type)) (map (address ins ws) rs) vs t s) t l (q vs p)
       payload-served n (calls c rs) legal formed (g, found) wired e q l =
           let wired′ : Wired (refType early f) (g .inputs) rs = rw found at wired in

@@ -163,7 +163,7 @@ module _ (s : List ℕ) (c : ℕ) (functions : List Function) (x : Chosen) (w : 
           let b = listOf x in
           let formed = sound .0 .resolved .formed in
           let args = valuesOf (f .inputs) arguments in
-          let same : allWords args ≡ arguments = words-of-values (f .inputs) arguments (formed .inputTypes) (l .finite) (l .count) in
+          let same : allWords args ≡ arguments = words-of-values (f .inputs) arguments (l .finite) (l .count) in
           let size : b .words ≡ functionWords early f = words-are in
           let room : b .words ≤ length work = let a = l .work-fits in omega arith in
           let r = runs early f sound args (values-typed (f .inputs) arguments (formed .inputTypes)) work room in

@@ -38,19 +38,19 @@ pub record Inlined : Type 0 where
 abbrev pub Inline : Type 0
 Inline = ℕ → List ℕ → ℕ → Inlined
 
-abbrev pub single : Node → List ℕ → List ℕ → ℕ → Inlined
-single n operands constants next =
-    let out = gives (kindOf (n .kind)) (n .type) in
+abbrev pub single : ℕ → ℕ → List ℕ → List ℕ → ℕ → Inlined
+single kind type operands constants next =
+    let out = gives (kindOf kind) type in
     record {
-      code = record { kind = n .kind; type = n .type; operands = operands; constants = constants; result = next } ∷ [];
+      code = record { kind = kind; type = type; operands = operands; constants = constants; result = next } ∷ [];
       next = next + widths out;
       ports = places next out;
     }
 
 -- a node, by the addresses of what it reads
 abbrev pub inlineNode : Inline → (Ref → ℕ) → ℕ → Node → Payload → Inlined
-inlineNode go from next n (consts ws) = single n [] ws next
-inlineNode go from next n (refs rs) = single n (map from rs) [] next
+inlineNode go from next n (consts ws) = single (n .kind) (n .type) [] ws next
+inlineNode go from next n (refs rs) = single (n .kind) (n .type) (map from rs) [] next
 inlineNode go from next n (calls c rs) = go c (map from rs) next
 
 pub record Body : Type 0 where

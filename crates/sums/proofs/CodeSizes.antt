@@ -126,9 +126,9 @@ code-lengths = record {
 }
 
 -- the bytes of a node's own instruction, by its operands and constants
-single-length : (n : Node) (operands constants : List ℕ) (next : ℕ) → instructionBytes (single n operands constants next .code) ≡ 2 + 2 * length operands + 8 * length constants
-single-length n operands constants next =
-    let i : Instruction = record { kind = n .kind; type = n .type; operands = operands; constants = constants; result = next } in
+pub single-length : (kind type : ℕ) (operands constants : List ℕ) (next : ℕ) → instructionBytes (single kind type operands constants next .code) ≡ 2 + 2 * length operands + 8 * length constants
+single-length kind type operands constants next =
+    let i : Instruction = record { kind = kind; type = type; operands = operands; constants = constants; result = next } in
     let a : length (instructionCode i ++ []) ≡ length (instructionCode i) + 0 = length-append (instructionCode i) [] in
     let b : length (instructionCode i) ≡ 2 + 2 * length operands + 8 * length constants = instruction-length i in
     omega arith
@@ -142,13 +142,13 @@ node-bytes early go callee h from next n (consts ws) (form, l, t, u) shape =
     let a : length (takes k (n .type)) ≡ arity k = length-takes k (n .type) in
     let b : length (takes k (n .type)) ≡ 0 = ap length shape in
     let c : length ws ≡ constantWords k = l in
-    single-length n [] ws next ∙ omega arith
+    single-length (n .kind) (n .type) [] ws next ∙ omega arith
 node-bytes early go callee h from next n (refs rs) (form, l) shape =
     let k = kindOf (n .kind) in
     let a : length (map from rs) ≡ length rs = length-map rs from in
     let b : length rs ≡ arity k = l in
     let c : constantWords k ≡ 0 = rw form refl in
-    single-length n (map from rs) [] next ∙ omega arith
+    single-length (n .kind) (n .type) (map from rs) [] next ∙ omega arith
 node-bytes early go callee h from next n (calls c rs) formed shape = h c (map from rs) next
 
 -- the bytes of a function over those before it

@@ -1,24 +1,23 @@
--- A node as the code meets it: its references and the place behind it; the functions in turn.
-use Prim.Native.Nat.{ℕ, suc, _+_, _*_, _≤_, _<_}
+-- A node as the code meets it: the row of its kind, and the payload of a call; the functions in turn.
+use Prim.Native.Nat.{ℕ, suc, _+_, _≤_, _<_}
 use mathlib.Core.Path.{_≡_, refl, sym, ap, _∙_, subst}
 use mathlib.Core.Bool.{true, false}
 use mathlib.Core.List.{List}
 use native.Mathlib.Omega.{arith}
 use lib.ListN.{set}
 use lib.Seq.{sets}
-use borrow.Author.Tests.{eqb-true}
 use Rattle.ports.specs.declared.Form.{Form}
 use Rattle.ports.specs.declared.Form.the-variants.{Absent, Constant, References, Call}
 use Rattle.ports.specs.declared.Ports.{Ports}
-use Rattle.ports.specs.Kinds.{Kind, kindOf}
-use Rattle.ports.specs.Ports.{portsOf, arity, formOf, constantIn, constantWords, calling}
+use Rattle.ports.specs.Kinds.{kindOf}
+use Rattle.ports.specs.Ports.{portsOf, formOf, calling}
 use Rattle.base.specs.Bytes.{byte, u16}
 use Rattle.graph.specs.Format.{formatOf}
 use Rattle.graph.specs.Graph.{calls}
 use Rattle.graph.specs.Read.{references}
-use Rattle.reader.specs.Layout.{kindAt, payloadAt, payloadEnd, nodeAt, nodeEnd, functionEnd, functionPlace}
+use Rattle.reader.specs.Layout.{kindAt, payloadAt, nodeAt, functionEnd, functionPlace}
 use Rattle.sums.specs.Position.{tabulate, placeOf}
-use Rattle.sums.proofs.Rows.{operandsBy, Narrow, narrow}
+use Rattle.sums.proofs.Rows.{Narrow, narrow}
 use Rattle.sums.proofs.Tabulate.{tabulate-none, tabulate-more}
 
 pub call-form : (f : Form) → calling f ≡ true → f ≡ Call
@@ -26,19 +25,6 @@ call-form Absent e = let z : _≡_ {A = ℕ} 0 1 = cc in absurd (omega arith)
 call-form Constant e = let z : _≡_ {A = ℕ} 0 1 = cc in absurd (omega arith)
 call-form References e = let z : _≡_ {A = ℕ} 0 1 = cc in absurd (omega arith)
 call-form Call e = refl
-
--- ---- a payload that is no call's
-
-module _ (s : List ℕ) (at : ℕ) (k : Kind) where
-  payload-end : (f : Form) → formOf k ≡ f → calling f ≡ false → operandsBy f (arity k) ≡ true
-      → payloadEnd f k s at ≡ at + 3 * arity k + 8 * constantIn f (portsOf k .words)
-  payload-end Absent q c e = let z : arity k ≡ 0 = eqb-true (arity k) 0 e in omega arith
-  payload-end Constant q c e =
-      let z : arity k ≡ 0 = eqb-true (arity k) 0 e in
-      let w : constantWords k ≡ portsOf k .words = ap (λ (g : Form). constantIn g (portsOf k .words)) q in
-      omega arith
-  payload-end References q c e = omega arith
-  payload-end Call q c e = let z : _≡_ {A = ℕ} 0 1 = cc in absurd (omega arith)
 
 -- ---- the node at p, whose kind has this row
 
@@ -52,9 +38,6 @@ module _ (s : List ℕ) (p kind : ℕ) (row : Ports) (ek : kind ≡ byte s (p + 
   pub form-is : row .form ≡ formOf (kindAt s p)
   form-is = ap (λ (r : Ports). r .form) row-is
 
-  pub operands-are : row .operands ≡ arity (kindAt s p)
-  operands-are = ap (λ (r : Ports). r .operands) row-is
-
   module _ (c : calling (row .form) ≡ true) where
     pub called : formOf (kindAt s p) ≡ Call
     called = sym form-is ∙ call-form (row .form) c
@@ -63,19 +46,8 @@ module _ (s : List ℕ) (p kind : ℕ) (row : Ports) (ek : kind ≡ byte s (p + 
     unfolding nodeAt
     call-payload = ap (λ (f : Form). payloadAt f (kindAt s p) s (p + 4)) called
 
-  module _ (c : calling (row .form) ≡ false) where
-    pub plain-form : calling (formOf (kindAt s p)) ≡ false
-    plain-form = ap calling (sym form-is) ∙ c
-
-    pub by-form : operandsBy (formOf (kindAt s p)) (arity (kindAt s p)) ≡ true
-    by-form = subst (λ (r : Ports). operandsBy (r .form) (r .operands) ≡ true) row-is (row-narrow .by-form)
-
-    pub plain-end : (n w : ℕ) → n ≡ row .operands → w ≡ constantIn (row .form) (row .words) → p + 4 + 3 * n + 8 * w ≡ nodeEnd s p
-    unfolding nodeEnd
-    plain-end n w en ew =
-        let a : n ≡ arity (kindAt s p) = en ∙ operands-are in
-        let b : w ≡ constantIn (formOf (kindAt s p)) (portsOf (kindAt s p) .words) = ew ∙ ap (λ (r : Ports). constantIn (r .form) (r .words)) row-is in
-        rw (a, b) (sym (payload-end s (p + 4) (kindAt s p) (formOf (kindAt s p)) refl plain-form by-form))
+  pub plain-form : calling (row .form) ≡ false → calling (formOf (kindAt s p)) ≡ false
+  plain-form c = ap calling (sym form-is) ∙ c
 
 -- ---- functions in turn
 

@@ -198,13 +198,21 @@ type-cases t (a, b) = pickOne (eqb t 1) (eqb t 2) refl refl
         let v : t ≡ 2 → ⊥ = eqb-false t 2 q in
         inr (inr (omega arith))
 
-pub read-words : (t : ℕ) (ws : List ℕ) → TypeCode t → wordsOf (valueOf t ws) ≡ map again (wordsAt ws 0 (width t))
-read-words t ws h = pickOne (type-cases t h)
+-- by type: on 1, on 2, and on every other number
+pub by-type : (P : ℕ → Type 0) → P 1 → P 2 → ((t : ℕ) → eqb t 1 ≡ false → eqb t 2 ≡ false → P t) → (t : ℕ) → P t
+by-type P one two more t = pick (eqb t 1) (eqb t 2) refl refl
   where
-    pickOne : (t ≡ 1) ⊎ ((t ≡ 2) ⊎ (t ≡ 3)) → wordsOf (valueOf t ws) ≡ map again (wordsAt ws 0 (width t))
-    pickOne (inl e) = rw e refl
-    pickOne (inr (inl e)) = rw e refl
-    pickOne (inr (inr e)) = rw e refl
+    pick : (x y : Bool) → eqb t 1 ≡ x → eqb t 2 ≡ y → P t
+    pick true y p q = subst P (sym (eqb-true t 1 p)) one
+    pick false true p q = subst P (sym (eqb-true t 2 q)) two
+    pick false false p q = more t p q
+
+read-words : (t : ℕ) (ws : List ℕ) → wordsOf (valueOf t ws) ≡ map again (wordsAt ws 0 (width t))
+read-words t ws = by-type (λ t. wordsOf (valueOf t ws) ≡ map again (wordsAt ws 0 (width t))) refl refl (λ t p q. rw (p, q)) t
+
+-- finite words are those of the value that they stand for
+pub words-of-value : (t : ℕ) (ws : List ℕ) → Each Finite ws → length ws ≡ width t → wordsOf (valueOf t ws) ≡ ws
+words-of-value t ws f l = read-words t ws ∙ ap (λ (n : ℕ). map again (wordsAt ws 0 n)) (sym l) ∙ ap (map again) (whole ws) ∙ same-words ws f
 
 pub value-of : (t : ℕ) (ws : List ℕ) → TypeCode t → Of t (valueOf t ws)
 value-of t ws h = pickOne (type-cases t h)
@@ -228,29 +236,18 @@ each-drop zero ws h = h
 each-drop (suc n) [] h = tt
 each-drop (suc n) (w ∷ ws) (f, h) = each-drop n ws h
 
--- finite words are those of the values that they stand for
-pub words-of-values : (ts ws : List ℕ) → Each TypeCode ts → Each Finite ws → length ws ≡ widths ts → allWords (valuesOf ts ws) ≡ ws
-words-of-values [] [] c f l = refl
-words-of-values [] (w ∷ ws) c f l = absurd (omega arith)
-words-of-values (t ∷ ts) ws (c, cs) f l =
+pub words-of-values : (ts ws : List ℕ) → Each Finite ws → length ws ≡ widths ts → allWords (valuesOf ts ws) ≡ ws
+words-of-values [] [] f l = refl
+words-of-values [] (w ∷ ws) f l = absurd (omega arith)
+words-of-values (t ∷ ts) ws f l =
     let front = take (width t) ws in
     let size : length front ≡ width t = length-take-le (width t) ws (omega arith) in
-    let a : wordsOf (valueOf t front) ≡ front =
-    read-words t front c ∙ ap (λ (n : ℕ). map again (wordsAt front 0 n)) (sym size) ∙ ap (map again) (whole front) ∙ same-words front (each-take (width t) ws f) in
+    let a : wordsOf (valueOf t front) ≡ front = words-of-value t front (each-take (width t) ws f) size in
     let b : allWords (valuesOf ts (drop (width t) ws)) ≡ drop (width t) ws =
-    words-of-values ts (drop (width t) ws) cs (each-drop (width t) ws f) (simp length-drop (omega arith)) in
+    words-of-values ts (drop (width t) ws) (each-drop (width t) ws f) (simp length-drop (omega arith)) in
     ap₂ (λ (x y : List ℕ). x ++ y) a b ∙ take-append-drop (width t) ws
 
 -- ---- values at an address
-
--- by type: on 1, on 2, and on every other number
-pub by-type : (P : ℕ → Type 0) → P 1 → P 2 → ((t : ℕ) → eqb t 1 ≡ false → eqb t 2 ≡ false → P t) → (t : ℕ) → P t
-by-type P one two more t = pick (eqb t 1) (eqb t 2) refl refl
-  where
-    pick : (x y : Bool) → eqb t 1 ≡ x → eqb t 2 ≡ y → P t
-    pick true y p q = subst P (sym (eqb-true t 1 p)) one
-    pick false true p q = subst P (sym (eqb-true t 2 q)) two
-    pick false false p q = more t p q
 
 scalar-at-address : (m : List ℕ) (a : ℕ) → valueAt m 1 a ≡ valueOf 1 (wordsAt m a 1)
 scalar-at-address m a = refl

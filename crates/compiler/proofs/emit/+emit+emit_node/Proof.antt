@@ -1,20 +1,23 @@
 use Prim.Native.Nat.{ℕ, _+_, _-_, _*_, _≤_, _<_}
-use mathlib.Core.Path.{_≡_, refl, sym, ap, _∙_, subst}
+use mathlib.Core.Path.{_≡_, refl, sym, ap, _∙_}
 use borrow.Author.Needs.{needs}
 use native.Mathlib.Omega.{arith}
 use lib.ListN.{length, getD}
 use mathlib.Core.Bool.{true}
+use mathlib.Core.List.{[]}
 use Rattle.ports.specs.Ports.{formOf, calling}
 use Rattle.base.specs.Bytes.{byte, u16}
 use Rattle.graph.specs.Look.{reads}
 use Rattle.reader.specs.Layout.{kindAt, nodeAt}
 use Rattle.reader.proofs.Passed.{callee-fits, function-fits}
-use Rattle.lowering.specs.Compile.{Inlined}
-use Rattle.compiler.specs.Emit.{CodeRoom, Emits, nodeInlined, functionInlined}
+use Rattle.value.specs.Values.{wordsOf}
+use Rattle.lowering.specs.Compile.{single}
+use Rattle.compiler.specs.Emit.{addressesIn, nodeInlined, functionInlined}
 use Rattle.sums.specs.Position.{placeOf}
 use Rattle.sums.proofs.Nodes.{call-form}
 use Rattle.sums.proofs.Tabulate.{fewer-starts}
-use Rattle.compiler.proofs.References.{kind-is, type-is, constant-plain, references-plain, call-is}
+use Rattle.compiler.proofs.References.{call-is}
+use Rattle.compiler.proofs.Single.{same-room, same-emits, constant-inlined, operation-inlined}
 use Rattle.compiler.proofs.Inlining.{count-is, callee-is, nothing}
 use Rattle.compiler.proofs.Emission.{State, words-fit, start, node-ready, advance, same-size, few-nodes, finished}
 use borrow.Fn.Kinds.{In}
@@ -26,7 +29,8 @@ use Rattle.compiler.proofs.emit.emit_node.Reads as emit-node
 use Rattle.compiler.proofs.emit.emit_node.Kinds as emit-node-kinds
 use Rattle.compiler.proofs.emit.+emit+emit_node.Lts-emit_node as emit-node-lts
 use Rattle.compiler.proofs.emit.arguments.Reads as arguments-reads
-use Rattle.compiler.proofs.emit.emit_single.Reads as emit-single-reads
+use Rattle.compiler.proofs.emit.emit_constant.Reads as emit-constant-reads
+use Rattle.compiler.proofs.emit.emit_operation.Reads as emit-operation-reads
 use Rattle.sums.proofs.position_of.Reads as position-of-reads
 use Rattle.base.proofs.u16_at.Reads as u16-at-reads
 use Rattle.base.proofs.wide16.Reads as wide16-reads
@@ -58,7 +62,7 @@ abbrev KE : ℕ → emit-lts.Claims
 KE t = (u16-at-reads.Asked, u16-at-reads.Learnt, wide16-reads.Asked, wide16-reads.Learnt, emit-node-below t, emit-node.Post)
 
 abbrev KN : ℕ → emit-node-lts.Claims
-KN t = (node-at-reads.Asked, node-at-reads.Learnt, emit-single-reads.Asked, emit-single-reads.Learnt, arguments-reads.Asked, arguments-reads.Learnt, position-of-reads.Asked, position-of-reads.Learnt, emit-below t, emit.Post)
+KN t = (node-at-reads.Asked, node-at-reads.Learnt, emit-constant-reads.Asked, emit-constant-reads.Learnt, emit-operation-reads.Asked, emit-operation-reads.Learnt, arguments-reads.Asked, arguments-reads.Learnt, position-of-reads.Asked, position-of-reads.Learnt, emit-below t, emit.Post)
 
 abbrev emit-Inv-loop : emit-lts.InvT-loop
 emit-Inv-loop table starts begins order locations k ins code₀ at next n cell₀ here₀ word₀ i₀ code cell here word i =
@@ -165,7 +169,7 @@ module _ (t : ℕ) where
   NodeRead = emit-node-lts.After-node-at (KN t) (emit-node-at t) emit-node.Post
 
   abbrev Call : Type 0
-  Call = emit-node-lts.After-known-told (KN t) (emit-node-at t) emit-node.Post
+  Call = emit-node-lts.After-known-told3 (KN t) (emit-node-at t) emit-node.Post
 
   abbrev Found : Type 0
   Found = emit-node-lts.After-position-of (KN t) (emit-node-at t) emit-node.Post
@@ -194,48 +198,88 @@ module _ (t : ℕ) where
   abbrev emit-of-return : emit-node-lts.After-slice-known4 (KN t) (emit-node-at t) emit-node.Post → Called
   emit-of-return c = c .before .before .before
 
-  -- ---- no call
+  -- ---- a constant
 
-  abbrev node-of-constant : emit-node-lts.After-enum-told (KN t) (emit-node-at t) emit-node.Post → NodeRead
-  node-of-constant c = c .before .before
+  abbrev Constant : Type 0
+  Constant = emit-node-lts.After-known-told (KN t) (emit-node-at t) emit-node.Post
 
-  abbrev node-of-references : emit-node-lts.After-enum-told2 (KN t) (emit-node-at t) emit-node.Post → NodeRead
-  node-of-references c = c .before .before
+  abbrev node-of-constant : Constant → NodeRead
+  node-of-constant c = c .before .before .before
 
-  emit-node-emit-single-requires : emit-node-lts.Need-emit-single-requires (KN t) (emit-node-at t) emit-node.Post
-  emit-node-emit-single-requires c κs =
-      let r = node-of-constant (c .before) in
+  abbrev constant-of-return : emit-node-lts.After-slice-known2 (KN t) (emit-node-at t) emit-node.Post → Constant
+  constant-of-return c = let d = c .before .before in d .before .before
+
+  constant : (c : Constant) →
+      let r = node-of-constant c in
+      let a = entry-of-node r .args in
+      let n = r .node-at .result in
+      (nodeInlined (a .table .now) (a .locations .now) (a .k) (a .p) (a .cell) (a .ins .now) (a .first) (a .next) ≡ single (n .kind) (n .ty) [] (wordsOf (c .before .payload .given .0 .0)) (a .next))
+      × (length (reads (nodeAt (a .table .now) (a .p))) ≡ 0)
+  constant c =
+      let r = node-of-constant c in
       let e = entry-of-node r in
       let a = e .args in
-      let n = r .node-at in (
-        (e .pre .1 .0 .2, kind-is (a .table .now) (a .p) (n .result) (n .ensures), type-is (a .table .now) (a .p) (n .result) (n .ensures), constant-plain (a .table .now) (a .p) (n .result) (n .ensures) _ (c .before .enum-told .given .1)),
-        (e .pre .1 .1 .0, e .pre .1 .1 .1 .1),
-      )
+      constant-inlined (a .table .now) (a .locations .now) (a .k) (a .p) (a .cell) (a .ins .now) (a .first) (a .next) (r .node-at .result) (r .node-at .ensures)
+      (λ q. omega (arith, r .before .before .shared-slice-known .given q)) (e .pre .1 .0 .2) _ (c .before .payload .given .1)
 
-  emit-node-emit-single-requires-2 : emit-node-lts.Need-emit-single-requires-2 (KN t) (emit-node-at t) emit-node.Post
-  emit-node-emit-single-requires-2 c κs =
-      let r = node-of-references (c .before) in
-      let e = entry-of-node r in
-      let a = e .args in
-      let n = r .node-at in (
-        (e .pre .1 .0 .2, kind-is (a .table .now) (a .p) (n .result) (n .ensures), type-is (a .table .now) (a .p) (n .result) (n .ensures), references-plain (a .table .now) (a .p) (n .result) (n .ensures) _ (c .before .enum-told2 .given .1)),
-        (e .pre .1 .1 .0, e .pre .1 .1 .1 .1),
-      )
+  emit-node-emit-constant-requires : emit-node-lts.Need-emit-constant-requires (KN t) (emit-node-at t) emit-node.Post
+  emit-node-emit-constant-requires c κs = same-room (constant (c .before) .0) (entry-of-node (node-of-constant (c .before)) .pre .1 .1 .1 .1)
+
+  emit-node-returns : emit-node-lts.Need-returns (KN t) (emit-node-at t) emit-node.Post
+  emit-node-returns c =
+      let v = c .before .before .emit-constant in
+      let (o, l) = constant (constant-of-return c) in
+      (same-emits o (v .ensures .0), v .ensures .1 ∙ omega (arith, l))
+
+  -- ---- an operation
+
+  abbrev Operation : Type 0
+  Operation = emit-node-lts.After-known-told2 (KN t) (emit-node-at t) emit-node.Post
+
+  abbrev node-of-operation : Operation → NodeRead
+  node-of-operation c = c .before .before .before
+
+  abbrev operation-of-return : emit-node-lts.After-slice-known3 (KN t) (emit-node-at t) emit-node.Post → Operation
+  operation-of-return c = let d = c .before .before in d .before .before
+
+  operation : (c : Operation) →
+      let r = node-of-operation c in
+      let a = entry-of-node r .args in
+      let n = r .node-at .result in
+      let m = c .before .payload2 .given .0 .0 .count in
+      (nodeInlined (a .table .now) (a .locations .now) (a .k) (a .p) (a .cell) (a .ins .now) (a .first) (a .next) ≡ single (n .kind) (n .ty) (addressesIn (a .locations .now) (a .ins .now) (a .first) (a .cell) m) [] (a .next))
+      × (length (reads (nodeAt (a .table .now) (a .p))) ≡ m)
+  operation c =
+      let r = node-of-operation c in
+      let a = entry-of-node r .args in
+      operation-inlined (a .table .now) (a .locations .now) (a .k) (a .p) (a .cell) (a .ins .now) (a .first) (a .next) (r .node-at .result) (r .node-at .ensures) _ (c .before .payload2 .given .1)
+
+  emit-node-emit-operation-requires : emit-node-lts.Need-emit-operation-requires (KN t) (emit-node-at t) emit-node.Post
+  emit-node-emit-operation-requires c κs =
+      let (o, l) = operation (c .before) in
+      let (first, cells) = entry-of-node (node-of-operation (c .before)) .pre .1 .1 .0 in
+      ((first, omega arith), same-room o (entry-of-node (node-of-operation (c .before)) .pre .1 .1 .1 .1))
+
+  emit-node-returns-2 : emit-node-lts.Need-returns-2 (KN t) (emit-node-at t) emit-node.Post
+  emit-node-returns-2 c =
+      let v = c .before .before .emit-operation in
+      let (o, l) = operation (operation-of-return c) in
+      (same-emits o (v .ensures .0), v .ensures .1 ∙ omega (arith, l))
 
   -- ---- a call
 
   -- the callee's id, and how many arguments it has
   abbrev id : Call → ℕ
-  id c = c .before .payload .given .0 .0
+  id c = c .before .payload3 .given .0 .0
 
   abbrev arity : Call → ℕ
-  arity c = c .before .payload .given .0 .1 .0 .count
+  arity c = c .before .payload3 .given .0 .1 .0 .count
 
   is-call : (c : Call) → let a = entry-of-call c .args in (calling (formOf (kindAt (a .table .now) (a .p))) ≡ true) × (id c ≡ u16 (a .table .now) (a .p + 4)) × (arity c ≡ byte (a .table .now) (a .p + 4 + 2))
   is-call c =
       let a = entry-of-call c .args in
       let n = node-of-call c .node-at in
-      call-is (a .table .now) (a .p) (n .result) (n .ensures) _ _ (c .before .payload .given .1)
+      call-is (a .table .now) (a .p) (n .result) (n .ensures) _ _ (c .before .payload3 .given .1)
 
   -- the call's references
   count : (c : Call) → let a = entry-of-call c .args in (length (reads (nodeAt (a .table .now) (a .p))) ≡ arity c) × (arity c ≤ 8)
@@ -277,7 +321,7 @@ module _ (t : ℕ) where
         omega arith,
         (
           (omega arith, fewer-starts _ _ _ _ starts (omega arith)),
-          ((λ j lt. e .pre .1 .1 .1 .0 j (omega arith)), subst (λ (o : Inlined). CodeRoom (e .args .code .now) (e .args .at) o) (callee d .0 g) (e .pre .1 .1 .1 .1)),
+          ((λ j lt. e .pre .1 .1 .1 .0 j (omega arith)), same-room (callee d .0 g) (e .pre .1 .1 .1 .1)),
         ),
       )
 
@@ -295,7 +339,7 @@ module _ (t : ℕ) where
       let a = entry-of-position d .args in
       let v = c .before .before .emit in
       let g = r .before .before .if1 .taken in
-      let x = subst (λ (o : Inlined). Emits (a .code .now) (v .last .1 .1 .1 .1 .1 .1 .1 .0) (a .at) o (v .result)) (sym (callee d .0 g)) (v .ensures) in
+      let x = same-emits (callee d .0 g) (v .ensures) in
       (record { written = x .written; end = x .end; words = x .words }, cell-is (call-of-position d))
 
   emit-node-returns-4 : emit-node-lts.Need-returns-4 (KN t) (emit-node-at t) emit-node.Post
@@ -307,9 +351,9 @@ pub +emit+emit-node-spec : {M : Type 1} → statement M
     (λ t. emit-lts.spec (KE t) (emit-at t) emit.Post emit-Inv-loop emit-μ-loop (λ c. search needs) (λ c. search needs) (λ c. omega (arith, count-there t (entry-of-element t c))) (λ c κs. omega (arith, count-there t (entry-of-element t c)))
     (λ c. search needs) (λ c. search needs) (λ c κs. search needs) (emit-loop-holds t) (λ c. search needs) (λ c. let l = next-node t c in omega arith) (λ c. search needs) (λ c. let l = next-node t c in omega arith)
     (λ c κs. search needs) (emit-emit-node-requires t) (emit-add-i t) (λ c. search needs) (emit-loop-again t) (λ c. same-size (c .before .loop .inv)) (λ c. finished (c .before .loop .inv) (c .loop-test .left)))
-    (λ t. emit-node-lts.spec (KN t) (emit-node-at t) emit-node.Post (λ c κs. c .before .before .pre .1 .0 .2) (λ c. search needs) (emit-node-emit-single-requires t) (λ c. search needs) (emit-node-emit-single-requires-2 t)
+    (λ t. emit-node-lts.spec (KN t) (emit-node-at t) emit-node.Post (λ c κs. c .before .before .pre .1 .0 .2) (λ c. search needs) (emit-node-emit-constant-requires t) (λ c. search needs) (emit-node-emit-operation-requires t)
     (λ c. search needs) (emit-node-arguments-requires t) (emit-node-position-of-requires t) (emit-node-emit-requires t)
     (λ c. let l = cell-fits t (call-of-position t (position-of-emit t (emit-of-return t c))) in omega arith) (λ c. let l = cell-fits t (call-of-position t (c .before)) in omega arith)
-    (λ c. c .before .before .emit-single .kept .1 .1 .1 .1 .1 .1 .1 .1 .1 .0) (λ c. c .before .before .emit-single .ensures)
-    (λ c. c .before .before .emit-single2 .kept .1 .1 .1 .1 .1 .1 .1 .1 .1 .0) (λ c. c .before .before .emit-single2 .ensures)
+    (λ c. c .before .before .emit-constant .kept .1 .1 .1 .1 .0) (emit-node-returns t)
+    (λ c. c .before .before .emit-operation .kept .1 .1 .1 .1 .1 .1 .1 .0) (emit-node-returns-2 t)
     (λ c. c .before .before .emit .kept .1 .1 .1 .1 .1 .1 .1 .0) (emit-node-returns-3 t) (emit-node-returns-4 t))
