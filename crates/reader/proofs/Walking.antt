@@ -3,10 +3,9 @@ use Prim.Native.Nat.{ℕ, suc, _+_, _-_, _≤_, _<_}
 use mathlib.Core.Path.{_≡_, sym, ap, _∙_, subst}
 use mathlib.Core.List.{List, [], _∷_}
 use native.Mathlib.Omega.{arith}
-use lib.ListN.{length, getD}
+use lib.ListN.{length}
 use Rattle.base.specs.Limits.{kindLimit}
-use Rattle.ports.specs.declared.Ports.{Ports}
-use Rattle.ports.specs.Ports.{absent, portsOf, rows, portsAt}
+use Rattle.ports.specs.Ports.{portsOf, portsAt}
 use Rattle.ports.proofs.Laws.{row-of}
 use Rattle.base.specs.Bytes.{byte}
 use Rattle.reader.specs.Layout.{kindAt, nodeAt, nodeEnd, nodesAt}
@@ -23,8 +22,8 @@ pub node-here : (s : List ℕ) (at : ℕ) → ReadsNode s at → Here s at
 node-here s at r = record { reads = r; head = head-fits s at r; kind = kind-below s at r }
 
 -- the row of its kind, from the table
-pub row-here : (s : List ℕ) (at : ℕ) {k : ℕ} {rs : List Ports} → k ≡ byte s (at + 2) → rs ≡ rows → getD rs k absent ≡ portsOf (kindAt s at)
-row-here s at {k} e q = ap (λ (l : List Ports). getD l k absent) q ∙ ap portsAt e ∙ row-of (byte s (at + 2))
+pub row-here : (s : List ℕ) (at : ℕ) {k : ℕ} → k ≡ byte s (at + 2) → portsAt k ≡ portsOf (kindAt s at)
+row-here s at e = ap portsAt e ∙ row-of (byte s (at + 2))
 
 pub record Passed (s : List ℕ) (count at i : ℕ) : Type 0 where
   pub index : i ≤ count

@@ -3,18 +3,19 @@ use Prim.Native.Nat.{ℕ, zero, suc, _+_, _-_, _≤_, _<_}
 use mathlib.Core.Path.{_≡_, refl, sym, ap, _∙_}
 use mathlib.Core.List.{List, [], _∷_, _++_, append-nil, append-assoc}
 use native.Mathlib.Omega.{arith}
-use lib.ListN.{length, length-append, length-map}
+use lib.ListN.{length, getD, length-append, length-map}
 use lib.Seq.{sets}
 use Rattle.base.specs.Bytes.{u16}
-use Rattle.graph.specs.Graph.{Ref}
+use Rattle.graph.specs.Graph.{Ref, Node}
 use Rattle.graph.specs.Look.{reads}
 use Rattle.graph.specs.Read.{references}
 use Rattle.graph.proofs.Formed.{refs-length}
-use Rattle.reader.specs.Layout.{nodeAt, nodeEnd, nodesAt, nodePlace}
-use Rattle.reader.proofs.Passed.{place-next}
+use Rattle.reader.specs.Layout.{nodeAt}
 use Rattle.reader.specs.declared.Reads.{Reads}
 use Rattle.reader.specs.Find.{ReadsOf}
+use Rattle.resolver.specs.Slots.{nodesBy}
 use Rattle.resolver.specs.Groups.{idsOf, named, Gathered}
+use Rattle.resolver.proofs.ByPlaces.{by-last}
 use Rattle.base.proofs.Stores.{sets-append}
 use Rattle.base.specs.Limits.{nodeLimit, operandLimit}
 
@@ -31,65 +32,70 @@ ids-none s n j q h = let z : n - j ≡ 0 = omega arith in ap (λ (m : ℕ). idsO
 
 -- ---- the nodes in turn
 
-named-last : (n : ℕ) (s : List ℕ) (at : ℕ) → named (nodesAt (suc n) s at) ≡ named (nodesAt n s at) ++ idsOf (reads (nodeAt s (nodePlace s at n)))
-unfolding named nodesAt nodePlace
-named-last zero s at = append-nil (idsOf (reads (nodeAt s at)))
-named-last (suc n) s at =
-    ap (λ (xs : List ℕ). idsOf (reads (nodeAt s at)) ++ xs) (named-last n s (nodeEnd s at))
-    ∙ sym (append-assoc (idsOf (reads (nodeAt s at))) (named (nodesAt n s (nodeEnd s at))) (idsOf (reads (nodeAt s (nodePlace s (nodeEnd s at) n)))))
+named-append : (xs ys : List Node) → named (xs ++ ys) ≡ named xs ++ named ys
+unfolding named
+named-append [] ys = refl
+named-append (x ∷ xs) ys = ap (λ (zs : List ℕ). idsOf (reads x) ++ zs) (named-append xs ys) ∙ sym (append-assoc (idsOf (reads x)) (named xs) (named ys))
 
-some-nodes : (s : List ℕ) (at n m : ℕ) → m ≡ length (named (nodesAt n s at)) → 0 < m → 0 < n
-unfolding named nodesAt
-some-nodes s at zero m e h = absurd (omega (arith, e, h))
-some-nodes s at (suc n) m e h = omega arith
+named-one : (x : Node) → named (x ∷ []) ≡ idsOf (reads x)
+unfolding named
+named-one x = append-nil (idsOf (reads x))
+
+some-nodes : (s ps : List ℕ) (i n m : ℕ) → m ≡ length (named (nodesBy s ps i n)) → 0 < m → 0 < n
+unfolding named nodesBy
+some-nodes s ps i zero m e h = absurd (omega (arith, e, h))
+some-nodes s ps i (suc n) m e h = omega arith
+
+-- the references of a node that was read
+pub ids-length : (s : List ℕ) (p : ℕ) (r : Reads) → ReadsOf s p r → length (reads (nodeAt s p)) ≡ r .count
+ids-length s p r h = ap length (h .refs) ∙ refs-length (r .count) s (r .first)
 
 -- n nodes are passed, which name m ids
-pub record Gathering (s : List ℕ) (at left : ℕ) (wanted₀ wanted : List ℕ) (p n m : ℕ) : Type 0 where
+pub record Gathering (s ps : List ℕ) (i left : ℕ) (wanted₀ wanted : List ℕ) (n m : ℕ) : Type 0 where
   pub most : n ≤ left
-  pub here : p ≡ nodePlace s at n
   pub fits : m ≤ nodeLimit
-  pub size : m ≡ length (named (nodesAt n s at))
-  pub ids : wanted ≡ sets wanted₀ 0 (named (nodesAt n s at))
+  pub size : m ≡ length (named (nodesBy s ps i n))
+  pub ids : wanted ≡ sets wanted₀ 0 (named (nodesBy s ps i n))
 
-module _ {s : List ℕ} {at left : ℕ} {wanted₀ : List ℕ} where
-  pub gather-start : Gathering s at left wanted₀ wanted₀ at 0 0
-  unfolding named nodesAt nodePlace
-  gather-start = record { most = omega arith; here = refl; fits = omega arith; size = refl; ids = refl }
+module _ {s ps : List ℕ} {i left : ℕ} {wanted₀ : List ℕ} where
+  pub gather-start : Gathering s ps i left wanted₀ wanted₀ 0 0
+  unfolding named nodesBy
+  gather-start = record { most = omega arith; fits = omega arith; size = refl; ids = refl }
 
-  pub gather-step : {wanted wanted' : List ℕ} {p p' n m : ℕ} {r : Reads} → Gathering s at left wanted₀ wanted p n m → n < left → m ≤ nodeLimit - operandLimit → ReadsOf s p r
-      → wanted' ≡ sets wanted m (idsOf (references (r .count) s (r .first))) → p' ≡ nodeEnd s p → Gathering s at left wanted₀ wanted' p' (n + 1) (m + r .count)
-  gather-step {n = n} {m = m} {r = r} h l f reads-are ew ep =
-      let few = reads-are .few in
-      let a : length ids ≡ r .count = length-map (references (r .count) s (r .first)) (λ (x : Ref). x .node) ∙ refs-length (r .count) s (r .first) in
-      let b : length (named (nodesAt (n + 1) s at)) ≡ length old + length ids = ap length whole ∙ length-append old ids in
-      record {
-        most = omega arith;
-        here = ep ∙ ap (nodeEnd s) (h .here) ∙ sym (place-next s n at);
-        fits = omega arith;
-        size = let c = h .size in omega (arith, a, b, c);
-        ids =
-            ew ∙ ap (λ (w : List ℕ). sets w m ids) (h .ids) ∙ ap (λ (k : ℕ). sets (sets wanted₀ 0 old) k ids) start
-            ∙ sym (sets-append old ids wanted₀ 0) ∙ ap (sets wanted₀ 0) (sym whole);
-      }
-    where
-      ids : List ℕ
-      ids = idsOf (references (r .count) s (r .first))
+  module _ {wanted : List ℕ} {n m : ℕ} (h : Gathering s ps i left wanted₀ wanted n m) where
+    pub gather-step : {wanted' : List ℕ} {p : ℕ} {r : Reads} → n < left → m ≤ nodeLimit - operandLimit → p ≡ getD ps (i + n) 0 → ReadsOf s p r
+        → wanted' ≡ sets wanted m (idsOf (references (r .count) s (r .first))) → Gathering s ps i left wanted₀ wanted' (n + 1) (m + r .count)
+    gather-step {p = p} {r = r} l f ep reads-are ew =
+        let few = reads-are .few in
+        let a : length ids ≡ r .count = length-map (references (r .count) s (r .first)) (λ (x : Ref). x .node) ∙ refs-length (r .count) s (r .first) in
+        let b : length (named (nodesBy s ps i (n + 1))) ≡ length old + length ids = ap length whole ∙ length-append old ids in
+        let c = h .size in
+        record {
+          most = omega arith;
+          fits = omega arith;
+          size = omega (arith, a, b, c);
+          ids =
+              ew ∙ ap (λ (w : List ℕ). sets w m ids) (h .ids) ∙ ap (λ (k : ℕ). sets (sets wanted₀ 0 old) k ids) start
+              ∙ sym (sets-append old ids wanted₀ 0) ∙ ap (sets wanted₀ 0) (sym whole);
+        }
+      where
+        ids : List ℕ
+        ids = idsOf (references (r .count) s (r .first))
 
-      old : List ℕ
-      old = named (nodesAt n s at)
+        old : List ℕ
+        old = named (nodesBy s ps i n)
 
-      start : m ≡ 0 + length old
-      start = let c = h .size in omega (arith, c)
+        start : m ≡ 0 + length old
+        start = let c = h .size in omega (arith, c)
 
-      whole : named (nodesAt (n + 1) s at) ≡ old ++ ids
-      whole =
-          let z : n + 1 ≡ suc n = omega arith in
-          ap (λ (k : ℕ). named (nodesAt k s at)) z ∙ named-last n s at
-          ∙ ap (λ (q : ℕ). old ++ idsOf (reads (nodeAt s q))) (sym (h .here)) ∙ ap (λ (rs : List Ref). old ++ idsOf rs) (reads-are .refs)
+        whole : named (nodesBy s ps i (n + 1)) ≡ old ++ ids
+        whole =
+            ap named (by-last s ps i n) ∙ named-append (nodesBy s ps i n) (nodeAt s (getD ps (i + n) 0) ∷ [])
+            ∙ ap (λ (xs : List ℕ). old ++ xs) (named-one (nodeAt s (getD ps (i + n) 0)))
+            ∙ ap (λ (q : ℕ). old ++ idsOf (reads (nodeAt s q))) (sym ep) ∙ ap (λ (rs : List Ref). old ++ idsOf rs) (reads-are .refs)
 
-  module _ {wanted : List ℕ} {p n m : ℕ} (h : Gathering s at left wanted₀ wanted p n m) where
-    pub gather-full : 0 < m → Gathered s at left wanted₀ wanted (record { nodes = n; refs = m })
-    gather-full l = record { some = some-nodes s at n m (h .size) l; most = h .most; fits = h .fits; size = h .size; ids = h .ids }
+    pub gather-full : 0 < m → Gathered s ps i left wanted₀ wanted (record { nodes = n; refs = m })
+    gather-full l = record { some = some-nodes s ps i n m (h .size) l; most = h .most; fits = h .fits; size = h .size; ids = h .ids }
 
-    pub gather-done : 0 < left → left ≤ n → Gathered s at left wanted₀ wanted (record { nodes = n; refs = m })
+    pub gather-done : 0 < left → left ≤ n → Gathered s ps i left wanted₀ wanted (record { nodes = n; refs = m })
     gather-done l e = record { some = omega arith; most = h .most; fits = h .fits; size = h .size; ids = h .ids }

@@ -1,4 +1,5 @@
 -- The laws of the resolver.
+pub mod ByPlaces
 pub mod Rows
 pub mod Gathering
 pub mod Matching

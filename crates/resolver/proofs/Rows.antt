@@ -19,7 +19,7 @@ use Rattle.base.specs.Limits.{noNode, operandLimit, nodeLimit, slotLimit}
 
 -- ---- a row
 
-length-padded : (n : ℕ) (xs : List ℕ) → length (padded n xs) ≡ n
+pub length-padded : (n : ℕ) (xs : List ℕ) → length (padded n xs) ≡ n
 unfolding padded
 length-padded zero xs = refl
 length-padded (suc n) [] = ap suc (length-padded n [])

@@ -4,27 +4,24 @@ use mathlib.Core.Path.{_≡_, refl, sym, ap, _∙_, subst}
 use mathlib.Core.List.{List, [], _∷_, _++_, map, append-assoc}
 use mathlib.Core.Option.{some}
 use native.Mathlib.Omega.{arith}
-use native.Mathlib.Nat.{add-zero, zero-add, suc-add}
+use native.Mathlib.Nat.{add-zero, zero-add}
 use lib.ListN.{length, getD, length-append, length-map}
 use lib.Seq.{sets}
-use Rattle.graph.specs.Graph.{Ref, Node}
-use Rattle.graph.specs.Look.{reads}
-use Rattle.graph.proofs.Formed.{refs-length}
-use Rattle.reader.specs.Layout.{nodeAt, nodeEnd, nodesAt, nodePlace}
-use Rattle.reader.proofs.Passed.{place-next}
-use Rattle.order.specs.Resolve.{indexOf, target}
-use Rattle.reader.specs.declared.Reads.{Reads}
-use Rattle.resolver.specs.declared.Group.{Group}
-use Rattle.resolver.specs.declared.Frontier.{Frontier}
-use Rattle.reader.specs.Find.{ReadsOf}
-use Rattle.resolver.specs.Slots.{padded, rowOf, rowsOf}
-use Rattle.resolver.specs.Groups.{idsOf, named, entries, Gathered, FoundAll, Found, GroupDone}
-use Rattle.base.proofs.Stores.{sets-in}
-use Rattle.base.proofs.Stores.{Run, run-start, run-more, run-done}
-use Rattle.resolver.proofs.Rows.{length-row, length-rows, length-nodes, rows-next, rows-none}
-use Rattle.reader.proofs.Walking.{Passed, pass-step, left-next, left-none, left-all}
 use Rattle.base.specs.Limits.{nodeLimit, operandLimit}
 use Rattle.base.proofs.Stands.{cons-head, cons-tail}
+use Rattle.base.proofs.Stores.{sets-in, Run, run-start, run-more, run-done}
+use Rattle.graph.specs.Graph.{Ref, Node}
+use Rattle.graph.specs.Look.{reads}
+use Rattle.reader.specs.declared.Reads.{Reads}
+use Rattle.reader.specs.Layout.{nodeAt}
+use Rattle.reader.specs.Find.{ReadsOf}
+use Rattle.order.specs.Resolve.{indexOf, target}
+use Rattle.resolver.specs.declared.Group.{Group}
+use Rattle.resolver.specs.Slots.{padded, rowOf, rowsOf, nodesBy}
+use Rattle.resolver.specs.Groups.{idsOf, named, entries, rowsFrom, Gathered, FoundAll, GroupDone}
+use Rattle.resolver.proofs.ByPlaces.{by-all, by-next, by-none, length-by, by-split}
+use Rattle.resolver.proofs.Rows.{length-padded, length-rows, rows-none}
+use Rattle.resolver.proofs.Gathering.{ids-length}
 
 -- ---- entries of an array
 
@@ -48,20 +45,33 @@ entries-split g (x ∷ xs) ys found m h =
 
 -- ---- from what was gathered and found
 
-pub found-start : {ns : List Node} {s : List ℕ} {at left : ℕ} {wanted₀ wanted found : List ℕ} {r : Group} → length wanted₀ ≡ nodeLimit → Gathered s at left wanted₀ wanted r
-    → FoundAll ns wanted (r .refs) found → Found ns s at (r .nodes) found 0
-found-start {ns} {s} {at} {left} {wanted₀} {wanted} {found} {r} e h f =
-    record {
-      fits = let a = h .size in let b = h .fits in omega (arith, a, b);
-      holds = entries-are (λ w. indexOf w ns) ids found 0 (λ q l.
-          let a = h .size in
-          let b = h .fits in
-          let z : 0 + q ≡ q = zero-add q in
-          ap (λ (k : ℕ). getD found k 0) z ∙ f q (omega (arith, l, a)) ∙ ap (λ (w : ℕ). indexOf w ns) (stands q l));
-    }
+targets-are : (ns : List Node) (rs : List Ref) → map (λ w. indexOf w ns) (idsOf rs) ≡ map (λ r. target ns (some r)) rs
+targets-are ns [] = refl
+targets-are ns (r ∷ rs) = ap (λ (xs : List ℕ). target ns (some r) ∷ xs) (targets-are ns rs)
+
+-- the rows, where the entries are the indices of the ids
+rows-found : (ns xs : List Node) (found : List ℕ) (m : ℕ) → entries (length (named xs)) found m ≡ map (λ w. indexOf w ns) (named xs) → rowsFrom found m xs ≡ rowsOf ns xs
+unfolding named rowsFrom rowOf rowsOf
+rows-found ns [] found m e = refl
+rows-found ns (x ∷ xs) found m e =
+    let c : length (idsOf (reads x)) ≡ length (reads x) = length-map (reads x) (λ (r : Ref). r .node) in
+    let (a, b) = entries-split (λ w. indexOf w ns) (idsOf (reads x)) (named xs) found m e in
+    let row : padded operandLimit (entries (length (reads x)) found m) ≡ padded operandLimit (map (λ r. target ns (some r)) (reads x)) =
+    ap (padded operandLimit) (ap (λ (k : ℕ). entries k found m) (sym c) ∙ a ∙ targets-are ns (reads x)) in
+    let rest = rows-found ns xs found (m + length (reads x)) (ap (λ (k : ℕ). entries (length (named xs)) found (m + k)) (sym c) ∙ b) in
+    ap (λ (r : List ℕ). r ++ rowsFrom found (m + length (reads x)) xs) row
+    ∙ ap (λ (r : List ℕ). padded operandLimit (map (λ r. target ns (some r)) (reads x)) ++ r) rest
+
+pub found-rows : (ns : List Node) (found : List ℕ) {s ps : List ℕ} {i left : ℕ} {wanted₀ wanted : List ℕ} {r : Group} → length wanted₀ ≡ nodeLimit → Gathered s ps i left wanted₀ wanted r
+    → FoundAll ns wanted (r .refs) found → rowsFrom found 0 (nodesBy s ps i (r .nodes)) ≡ rowsOf ns (nodesBy s ps i (r .nodes))
+found-rows ns found {s} {ps} {i} {left} {wanted₀} {wanted} {r} e h f =
+    rows-found ns (nodesBy s ps i (r .nodes)) found 0
+    (entries-are (λ w. indexOf w ns) ids found 0 (λ q l.
+    let a = h .size in
+    ap (λ (k : ℕ). getD found k 0) (zero-add q) ∙ f q (omega (arith, l, a)) ∙ ap (λ (w : ℕ). indexOf w ns) (stands q l)))
   where
     ids : List ℕ
-    ids = named (nodesAt (r .nodes) s at)
+    ids = named (nodesBy s ps i (r .nodes))
 
     stands : (q : ℕ) → q < length ids → getD wanted q 0 ≡ getD ids q 0
     stands q l =
@@ -69,143 +79,101 @@ found-start {ns} {s} {at} {left} {wanted₀} {wanted} {found} {r} e h f =
         let b = h .fits in
         ap (λ (w : List ℕ). getD w q 0) (h .ids) ∙ ap (λ (k : ℕ). getD (sets wanted₀ 0 ids) k 0) (sym (zero-add q)) ∙ sets-in ids wanted₀ 0 q l (omega (arith, a, b, e))
 
--- ---- the nodes of a group in turn
+-- ---- the nodes of a group in turn: n are passed, which have m references
 
-targets-are : (ns : List Node) (rs : List Ref) → map (λ w. indexOf w ns) (idsOf rs) ≡ map (λ r. target ns (some r)) rs
-targets-are ns [] = refl
-targets-are ns (r ∷ rs) = ap (λ (xs : List ℕ). target ns (some r) ∷ xs) (targets-are ns rs)
-
-ids-length : (s : List ℕ) (p : ℕ) (r : Reads) → ReadsOf s p r → length (idsOf (reads (nodeAt s p))) ≡ r .count
-ids-length s p r h = length-map (reads (nodeAt s p)) (λ (x : Ref). x .node) ∙ ap length (h .refs) ∙ refs-length (r .count) s (r .first)
-
-row-is : (ns : List Node) (x : Node) (xs : List ℕ) → xs ≡ map (λ w. indexOf w ns) (idsOf (reads x)) → padded operandLimit xs ≡ rowOf ns x
-unfolding rowOf
-row-is ns x xs e = ap (padded operandLimit) (e ∙ targets-are ns (reads x))
-
-module _ (ns : List Node) (s found : List ℕ) where
-  -- what the first node has, and what the others have
-  abbrev Split : ℕ → ℕ → ℕ → ℕ → Reads → Type 0
-  Split n p p' m r =
-      (padded operandLimit (entries (r .count) found m) ≡ rowOf ns (nodeAt s p)) × (m + r .count ≤ nodeLimit) × Found ns s p' n found (m + r .count)
-
-  pub found-next : (count n p p' m : ℕ) (r : Reads) → Found ns s p (count - n) found m → n < count → ReadsOf s p r → p' ≡ nodeEnd s p → Split (count - (n + 1)) p p' m r
-  unfolding named
-  found-next count n p p' m r h l f e =
-      let whole : named (nodesAt (count - n) s p) ≡ here ++ rest = ap named (left-next s count p p' n l e) in
-      let c = ids-length s p r f in
-      let b : length (named (nodesAt (count - n) s p)) ≡ length here + length rest = ap length whole ∙ length-append here rest in
-      let (x, y) = entries-split (λ w. indexOf w ns) here rest found m (subst (λ (xs : List ℕ). entries (length xs) found m ≡ map (λ w. indexOf w ns) xs) whole (h .holds)) in
-      let d = h .fits in (
-        row-is ns (nodeAt s p) (entries (r .count) found m) (ap (λ (k : ℕ). entries k found m) (sym c) ∙ x),
-        omega (arith, b, c, d),
-        record {
-          fits = omega (arith, b, c, d);
-          holds = ap (λ (k : ℕ). entries (length rest) found (m + k)) (sym c) ∙ y;
-        },
-      )
-    where
-      here : List ℕ
-      here = idsOf (reads (nodeAt s p))
-
-      rest : List ℕ
-      rest = named (nodesAt (count - (n + 1)) s p')
-
--- n nodes are passed, which have m references
-pub record Scattering (ns : List Node) (s : List ℕ) (left at nodes : ℕ) (found targets₀ : List ℕ) (i : ℕ) (targets : List ℕ) (p n m : ℕ) : Type 0 where
+pub record Scattering (s ps found targets₀ : List ℕ) (i nodes : ℕ) (targets : List ℕ) (n m : ℕ) : Type 0 where
   pub index : n ≤ nodes
-  pub pass : Passed s left p n
-  pub here : p ≡ nodePlace s at n
-  pub finds : Found ns s p (nodes - n) found m
-  pub run : Run (rowsOf ns (nodesAt nodes s at)) targets₀ (operandLimit * i) targets (operandLimit * (i + n)) (rowsOf ns (nodesAt (nodes - n) s p))
+  pub size : m + length (named (nodesBy s ps (i + n) (nodes - n))) ≡ length (named (nodesBy s ps i nodes))
+  pub run : Run (rowsFrom found 0 (nodesBy s ps i nodes)) targets₀ (operandLimit * i) targets (operandLimit * (i + n)) (rowsFrom found m (nodesBy s ps (i + n) (nodes - n)))
 
-module _ {ns : List Node} {s : List ℕ} {left at nodes : ℕ} {found targets₀ : List ℕ} {i : ℕ} where
-  pub scatter-start : Passed s left at 0 → Found ns s at nodes found 0 → Scattering ns s left at nodes found targets₀ i targets₀ at 0 0
-  unfolding nodePlace
-  scatter-start p f =
-      let z : nodes ≡ nodes - 0 = omega arith in
+module _ {s ps found targets₀ : List ℕ} {i nodes : ℕ} where
+  pub scatter-start : Scattering s ps found targets₀ i nodes targets₀ 0 0
+  scatter-start =
       record {
         index = omega arith;
-        pass = p;
-        here = refl;
-        finds = subst (λ (n : ℕ). Found ns s at n found 0) z f;
-        run = run-start (omega arith) (sym (ap (rowsOf ns) (left-all s nodes at)));
+        size = zero-add (length (named (nodesBy s ps (i + 0) (nodes - 0)))) ∙ ap (λ (ns : List Node). length (named ns)) (sym (by-all s ps i nodes));
+        run = run-start (omega arith) (ap (rowsFrom found 0) (sym (by-all s ps i nodes)));
       }
 
-  module _ {targets : List ℕ} {p n m : ℕ} (h : Scattering ns s left at nodes found targets₀ i targets p n m) where
-    pub scatter-step : {targets' : List ℕ} {p' : ℕ} {r : Reads} → n < nodes → nodes ≤ left → ReadsOf s p r → p' ≡ nodeEnd s p
-        → targets' ≡ sets targets (operandLimit * (i + n)) (padded operandLimit (entries (r .count) found m)) → Scattering ns s left at nodes found targets₀ i targets' p' (n + 1) (m + r .count)
-    scatter-step {p' = p'} {r = r} l few f e et =
-        let (row, fit, on) = found-next ns s found nodes n p p' m r (h .finds) l f e in
-        let z = length-row ns (nodeAt s p) in
+  module _ {targets : List ℕ} {n m : ℕ} (h : Scattering s ps found targets₀ i nodes targets n m) (l : n < nodes) {p : ℕ} {r : Reads} (ep : p ≡ getD ps (i + n) 0) (f : ReadsOf s p r) where
+    rest : List Node
+    rest = nodesBy s ps (i + (n + 1)) (nodes - (n + 1))
+
+    left-is : nodesBy s ps (i + n) (nodes - n) ≡ nodeAt s p ∷ rest
+    unfolding rest
+    left-is = by-next s ps i nodes n l ∙ ap (λ (q : ℕ). nodeAt s q ∷ nodesBy s ps (i + (n + 1)) (nodes - (n + 1))) (sym ep)
+
+    size-is : m + r .count + length (named rest) ≡ length (named (nodesBy s ps i nodes))
+    unfolding named
+    size-is =
+        let a : length (named (nodesBy s ps (i + n) (nodes - n))) ≡ length (idsOf (reads (nodeAt s p))) + length (named rest) =
+        ap (λ (ns : List Node). length (named ns)) left-is ∙ length-append (idsOf (reads (nodeAt s p))) (named rest) in
+        let b : length (idsOf (reads (nodeAt s p))) ≡ r .count = length-map (reads (nodeAt s p)) (λ (x : Ref). x .node) ∙ ids-length s p r f in
+        let c = h .size in
+        omega (arith, a, b, c)
+
+    -- the node's own entries are there
+    pub scatter-fits : length (named (nodesBy s ps i nodes)) ≤ nodeLimit → m + r .count ≤ nodeLimit
+    scatter-fits few = let a = size-is in omega (arith, a, few)
+
+    pub scatter-step : {targets' : List ℕ} → targets' ≡ sets targets (operandLimit * (i + n)) (padded operandLimit (entries (r .count) found m))
+        → Scattering s ps found targets₀ i nodes targets' (n + 1) (m + r .count)
+    unfolding rest rowsFrom
+    scatter-step e =
+        let row = padded operandLimit (entries (r .count) found m) in
+        let z = length-padded operandLimit (entries (r .count) found m) in
+        let rows : rowsFrom found m (nodesBy s ps (i + n) (nodes - n)) ≡ row ++ rowsFrom found (m + r .count) rest =
+        ap (rowsFrom found m) left-is ∙ ap (λ (c : ℕ). padded operandLimit (entries c found m) ++ rowsFrom found (m + c) rest) (ids-length s p r f) in
         record {
           index = omega arith;
-          pass = pass-step (h .pass) (omega arith) e;
-          here = e ∙ ap (nodeEnd s) (h .here) ∙ sym (place-next s n at);
-          finds = on;
-          run = run-more (h .run) (rowOf ns (nodeAt s p)) (rows-next ns (left-next s nodes p p' n l e)) (et ∙ ap (sets targets (operandLimit * (i + n))) row) (omega (arith, z));
+          size = size-is;
+          run = run-more (h .run) row rows e (omega (arith, z));
         }
 
-    pub scatter-done : nodes ≤ n → (p ≡ nodePlace s at nodes) × (targets ≡ sets targets₀ (operandLimit * i) (rowsOf ns (nodesAt nodes s at)))
-    scatter-done l =
-        let j = h .index in
-        let z : n ≡ nodes = omega arith in
-        (h .here ∙ ap (nodePlace s at) z, run-done (h .run) (rows-none ns (left-none s nodes p n l)))
+  pub scatter-done : {targets : List ℕ} {n m : ℕ} → Scattering s ps found targets₀ i nodes targets n m → nodes ≤ n → targets ≡ sets targets₀ (operandLimit * i) (rowsFrom found 0 (nodesBy s ps i nodes))
+  unfolding rowsFrom
+  scatter-done {n = n} {m = m} h l = run-done (h .run) (ap (rowsFrom found m) (by-none s ps (i + n) nodes n l))
 
--- ---- the groups in turn
+-- ---- the groups in turn: the rows of the nodes before i are done
 
-rows-split : (ns : List Node) (s : List ℕ) (a b at : ℕ) → rowsOf ns (nodesAt (a + b) s at) ≡ rowsOf ns (nodesAt a s at) ++ rowsOf ns (nodesAt b s (nodePlace s at a))
-unfolding rowsOf nodesAt nodePlace
-rows-split ns s zero b at = ap (λ (k : ℕ). rowsOf ns (nodesAt k s at)) (zero-add b)
-rows-split ns s (suc a) b at =
-    ap (λ (k : ℕ). rowsOf ns (nodesAt k s at)) (suc-add a b)
-    ∙ ap (λ (xs : List ℕ). rowOf ns (nodeAt s at) ++ xs) (rows-split ns s a b (nodeEnd s at))
-    ∙ sym (append-assoc (rowOf ns (nodeAt s at)) (rowsOf ns (nodesAt a s (nodeEnd s at))) (rowsOf ns (nodesAt b s (nodePlace s (nodeEnd s at) a))))
+pub record Resolving (s ps : List ℕ) (count : ℕ) (targets₀ targets : List ℕ) (i : ℕ) : Type 0 where
+  pub index : i ≤ count
+  pub run : let ns = nodesBy s ps 0 count in Run (rowsOf ns ns) targets₀ 0 targets (operandLimit * i) (rowsOf ns (nodesBy s ps i (count - i)))
 
-pass-many : (s : List ℕ) (count at i k : ℕ) → Passed s count at i → i + k ≤ count → Passed s count (nodePlace s at k) (i + k)
-unfolding nodePlace
-pass-many s count at i zero h l = rw add-zero h
-pass-many s count at i (suc k) h l =
-    let z : i + 1 + k ≡ i + suc k = omega arith in
-    subst (Passed s count (nodePlace s (nodeEnd s at) k)) z (pass-many s count (nodeEnd s at) (i + 1) k (pass-step h (omega arith) refl) (omega arith))
+rows-append : (ns xs ys : List Node) → rowsOf ns (xs ++ ys) ≡ rowsOf ns xs ++ rowsOf ns ys
+unfolding rowsOf
+rows-append ns [] ys = refl
+rows-append ns (x ∷ xs) ys = ap (λ (r : List ℕ). rowOf ns x ++ r) (rows-append ns xs ys) ∙ sym (append-assoc (rowOf ns x) (rowsOf ns xs) (rowsOf ns ys))
 
--- the rows of the nodes before i are done
-pub record Resolving (s : List ℕ) (first count : ℕ) (targets₀ targets : List ℕ) (at i : ℕ) : Type 0 where
-  pub pass : Passed s count at i
-  pub run : Run (rowsOf (nodesAt count s first) (nodesAt count s first)) targets₀ 0 targets (operandLimit * i) (rowsOf (nodesAt count s first) (nodesAt (count - i) s at))
+module _ {s ps : List ℕ} {count : ℕ} {targets₀ : List ℕ} where
+  pub resolve-start : Resolving s ps count targets₀ targets₀ 0
+  resolve-start = record { index = omega arith; run = run-start refl (ap (rowsOf (nodesBy s ps 0 count)) (let z : count - 0 ≡ count = omega arith in ap (nodesBy s ps 0) z)) }
 
-module _ {s : List ℕ} {first count : ℕ} {targets₀ : List ℕ} where
-  pub resolve-start : Passed s count first 0 → Resolving s first count targets₀ targets₀ first 0
-  resolve-start p = record { pass = p; run = run-start refl (sym (ap (rowsOf (nodesAt count s first)) (left-all s count first))) }
-
-  module _ {targets : List ℕ} {at i : ℕ} (h : Resolving s first count targets₀ targets at i) where
-    pub resolve-step : {targets' : List ℕ} {r : Frontier} → GroupDone s first count at i targets targets' r → Resolving s first count targets₀ targets' (r .at) (r .index)
+  module _ {targets : List ℕ} {i : ℕ} (h : Resolving s ps count targets₀ targets i) where
+    pub resolve-step : {targets' : List ℕ} {r : ℕ} → GroupDone s ps count i targets targets' r → Resolving s ps count targets₀ targets' r
     resolve-step {r = r} d =
-        let ns = nodesAt count s first in
-        let k = r .index - i in
+        let ns = nodesBy s ps 0 count in
+        let k = r - i in
         let o = d .on in
         let most = d .most in
-        let whole : i + k ≡ r .index = omega arith in
-        let size : length (rowsOf ns (nodesAt k s at)) ≡ operandLimit * k = length-rows ns (nodesAt k s at) ∙ ap (λ (n : ℕ). operandLimit * n) (length-nodes k s at) in
-        let z : count - i ≡ k + (count - r .index) = omega (arith, whole, most) in
-        let rows : rowsOf ns (nodesAt (count - i) s at) ≡ rowsOf ns (nodesAt k s at) ++ rowsOf ns (nodesAt (count - r .index) s (r .at)) =
-        ap (λ (n : ℕ). rowsOf ns (nodesAt n s at)) z ∙ rows-split ns s k (count - r .index) at
-        ∙ ap (λ (p : ℕ). rowsOf ns (nodesAt k s at) ++ rowsOf ns (nodesAt (count - r .index) s p)) (sym (d .place)) in
-        record {
-          pass = subst (λ (p : ℕ). Passed s count p (r .index)) (sym (d .place)) (subst (Passed s count (nodePlace s at k)) whole (pass-many s count at i k (h .pass) (omega (arith, whole, most))));
-          run = run-more (h .run) (rowsOf ns (nodesAt k s at)) rows (d .rows) (omega (arith, whole, size));
-        }
+        let whole : i + k ≡ r = omega arith in
+        let size : length (rowsOf ns (nodesBy s ps i k)) ≡ operandLimit * k = length-rows ns (nodesBy s ps i k) ∙ ap (λ (n : ℕ). operandLimit * n) (length-by s ps i k) in
+        let z : count - i ≡ k + (count - r) = omega (arith, whole, most) in
+        let rows : rowsOf ns (nodesBy s ps i (count - i)) ≡ rowsOf ns (nodesBy s ps i k) ++ rowsOf ns (nodesBy s ps r (count - r)) =
+        ap (λ (n : ℕ). rowsOf ns (nodesBy s ps i n)) z ∙ ap (rowsOf ns) (by-split s ps i k (count - r)) ∙ rows-append ns (nodesBy s ps i k) (nodesBy s ps (i + k) (count - r))
+        ∙ ap (λ (j : ℕ). rowsOf ns (nodesBy s ps i k) ++ rowsOf ns (nodesBy s ps j (count - r))) whole in
+        record { index = most; run = run-more (h .run) (rowsOf ns (nodesBy s ps i k)) rows (d .rows) (omega (arith, whole, size)) }
 
-    pub resolve-done : count ≤ i → targets ≡ sets targets₀ 0 (rowsOf (nodesAt count s first) (nodesAt count s first))
-    resolve-done l = run-done (h .run) (rows-none (nodesAt count s first) (left-none s count at i l))
+    pub resolve-done : count ≤ i → let ns = nodesBy s ps 0 count in targets ≡ sets targets₀ 0 (rowsOf ns ns)
+    resolve-done l = run-done (h .run) (rows-none (nodesBy s ps 0 count) (by-none s ps i count i l))
 
 -- the group's answer
-pub group-done : (s : List ℕ) (first count at i : ℕ) (p q : List ℕ) (nodes end : ℕ) → 0 < nodes → nodes ≤ count - i → i < count → end ≡ nodePlace s at nodes
-    → q ≡ sets p (operandLimit * i) (rowsOf (nodesAt count s first) (nodesAt nodes s at)) → GroupDone s first count at i p q (record { at = end; index = i + nodes })
-group-done s first count at i p q nodes end a b c e f =
+pub group-done : (s ps : List ℕ) (count i : ℕ) (p q : List ℕ) (nodes : ℕ) → 0 < nodes → nodes ≤ count - i → i < count
+    → q ≡ sets p (operandLimit * i) (rowsOf (nodesBy s ps 0 count) (nodesBy s ps i nodes)) → GroupDone s ps count i p q (i + nodes)
+group-done s ps count i p q nodes a b c f =
     let z : nodes ≡ i + nodes - i = omega arith in
     record {
       on = omega arith;
       most = omega arith;
-      place = e ∙ ap (nodePlace s at) z;
-      rows = f ∙ ap (λ (n : ℕ). sets p (operandLimit * i) (rowsOf (nodesAt count s first) (nodesAt n s at))) z;
+      rows = f ∙ ap (λ (n : ℕ). sets p (operandLimit * i) (rowsOf (nodesBy s ps 0 count) (nodesBy s ps i n))) z;
     }

@@ -13,7 +13,7 @@ ghost use Rattle.graph.specs.Read.{references};
 ghost use Rattle.reader.specs.Layout.{nodesAt};
 ghost use Rattle.reader.specs.Find.{ReadsNodes};
 ghost use Rattle.resolver.specs.Slots.{padded, rowsOf, placesOf, nodesBy, PlacesRead};
-ghost use Rattle.resolver.specs.Groups.{idsOf, named, entries, rowsFrom, Gathered, Marked, FoundAll, GroupDone};
+ghost use Rattle.resolver.specs.Groups.{idsOf, named, entries, rowsFrom, Gathered, Unfound, Marked, FoundAll, GroupDone};
 use base::NO_NODE;
 use base::NODE_LIMIT;
 use base::OPERAND_LIMIT;
@@ -102,8 +102,7 @@ fn amount(wanted: u16, id: u16, by: u16) -> u16
 // i is found for each of the m ids that is `id`, for which nothing was found before. So `NO_NODE` goes down to i, which
 // takes fewer instructions than to choose between the two.
 fn mark(wanted: &[u16; NODE_LIMIT], found: &mut [u16; NODE_LIMIT], m: usize, id: u16, i: u16)
-    requires { ⌜ (m ≤ nodeLimit) × (length (now found) ≡ nodeLimit) ⌝ }
-    requires { ⌜ ((r : ℕ) → r < m → getD (now wanted) r 0 ≡ id → getD (now found) r 0 ≡ noNode) ⌝ }
+    requires { ⌜ (m ≤ nodeLimit) × (length (now found) ≡ nodeLimit) × Unfound (now wanted) m id (now found) ⌝ }
     ensures { λ _. ⌜ Marked (now (wanted .entry)) m id i (now (found .entry)) (now (found .exit)) ⌝ }
 {
     let by = NO_NODE - i;
