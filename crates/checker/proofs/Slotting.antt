@@ -18,9 +18,10 @@ use Rattle.reader.specs.Layout.{nodeAt, nodesAt, nodePlace, nodeCount, nodesPla
 use Rattle.reader.specs.Find.{ReadsNodes}
 use Rattle.reader.proofs.Passed.{function-holds}
 use Rattle.checker.specs.declared.Head.{Head}
-use Rattle.resolver.specs.Slots.{rowsOf, placesOf}
+use Rattle.resolver.specs.Slots.{rowsOf, placesOf, PlacesAre, nodesBy, PlacesRead}
+use Rattle.resolver.proofs.ByPlaces.{all-by, all-read}
 use Rattle.resolver.proofs.Rows.{row-slot, rows-size, place-at, places-size}
-use Rattle.checker.specs.Slots.{Scene, PlacesAre, RowIs, RowsAre}
+use Rattle.checker.specs.Slots.{Scene, PlacesHeld, RowIs, RowsAre}
 use Rattle.checker.proofs.Wiring.{nodes-of}
 use Rattle.checker.proofs.Whole.{nodes-count, node-of, stands-at}
 use Rattle.base.specs.Limits.{nodeLimit, slotLimit, operandLimit}
@@ -45,13 +46,21 @@ module _ {s starts : List ℕ} {k : ℕ} {f : Head} (h : Scene s starts k f) whe
       ∙ ap (nodesAt (nodeCount s (f .place)) s) (h .first)
       ∙ sym (nodes-of s (f .place))
 
+  -- the nodes by their places
+  module _ (ps : List ℕ) (p : PlacesHeld s f ps) where
+    pub by-read : PlacesRead s ps 0 (f .count)
+    by-read = all-read s ps (f .count) (f .first) p nodes-read
+
+    pub same-by : nodesBy s ps 0 (f .count) ≡ functionAt s (f .place) .nodes
+    same-by = all-by s ps (f .count) (f .first) p ∙ same-nodes
+
   -- what the resolver fills
   pub rows-are :
-      (ts us : List ℕ) → us ≡ sets ts 0 (rowsOf (nodesAt (f .count) s (f .first)) (nodesAt (f .count) s (f .first))) → length ts ≡ slotLimit
+      (ps : List ℕ) → PlacesHeld s f ps → (ts us : List ℕ) → us ≡ sets ts 0 (rowsOf (nodesBy s ps 0 (f .count)) (nodesBy s ps 0 (f .count))) → length ts ≡ slotLimit
       → RowsAre s (f .place) (f .count) us
-  rows-are ts us e size =
+  rows-are ps p ts us e size =
       let q : us ≡ sets ts 0 (rowsOf (functionAt s (f .place) .nodes) (functionAt s (f .place) .nodes)) =
-      e ∙ ap (λ (ns : List Node). sets ts 0 (rowsOf ns ns)) same-nodes in
+      e ∙ ap (λ (ns : List Node). sets ts 0 (rowsOf ns ns)) (same-by ps p) in
       let c = nodes-count s (f .place) in
       let n = h .count in
       let few = few-nodes in

@@ -10,6 +10,7 @@ use Rattle.graph.specs.Read.{reference}
 use Rattle.base.specs.Lists.{Is}
 use Rattle.order.specs.Indices.{slot}
 use Rattle.order.specs.Resolve.{target, Resolves}
+use Rattle.resolver.specs.Slots.{PlacesAre}
 use Rattle.reader.specs.Layout.{nodeAt, nodePlace, nodeCount, nodesPlace, functionAt}
 use Rattle.reader.specs.Find.{ReadsFunction, ReadsStarts}
 use Rattle.checker.specs.declared.Head.{Head}
@@ -25,10 +26,7 @@ pub record Scene (s starts : List ℕ) (k : ℕ) (f : Head) : Type 0 where
 
 -- ---- the places and the slots of its nodes
 
--- `ps` has the places of the n nodes from `first` on
-abbrev pub PlacesAre : List ℕ → ℕ → ℕ → List ℕ → Type 0
-PlacesAre s first n ps = (i : ℕ) → i < n → getD ps i 0 ≡ nodePlace s first i
-
+-- `ps` has their places
 abbrev pub PlacesHeld : List ℕ → Head → List ℕ → Type 0
 PlacesHeld s f ps = PlacesAre s (f .first) (f .count) ps
 

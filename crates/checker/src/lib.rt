@@ -10,7 +10,8 @@ ghost use Rattle.reader.specs.Find.{ReadsFunction, ReadsFunctions, ReadsStarts}
 ghost use Rattle.reader.specs.Records.{seen};
 ghost use Rattle.reader.specs.declared.Seen.{Seen};
 ghost use Rattle.checker.specs.Answers.{verdictOf, Judged};
-ghost use Rattle.checker.specs.Slots.{PlacesAre, SlotsReady, Filled};
+ghost use Rattle.resolver.specs.Slots.{PlacesAre};
+ghost use Rattle.checker.specs.Slots.{SlotsReady, Filled};
 use base::FUNCTION_LIMIT;
 use base::NODE_LIMIT;
 use base::SLOT_LIMIT;

@@ -39,7 +39,8 @@ use Rattle.reader.specs.Find.{ReadsNode, ReadsOf}
 use Rattle.reader.proofs.Passed.{head-fits, place-reads, nodes-named, Holds, function-holds}
 use Rattle.compiler.specs.Static.{Location, nowhere, input, offset, Located, locationOf, Summary, Callee, nodeSummary, summary, allocate, Allocation, Agrees}
 use Rattle.sums.specs.Position.{placeOf, functionIn, before, positionOf, Accepted}
-use Rattle.compiler.specs.Locating.{Places, Slots, readCodes, nodeCodes, Codes, PortsCoded, AllOuts, PortsKnown, readCount, NodesAllocated}
+use Rattle.resolver.specs.Slots.{PlacesAre}
+use Rattle.compiler.specs.Locating.{Slots, readCodes, nodeCodes, Codes, PortsCoded, AllOuts, PortsKnown, readCount, NodesAllocated}
 use Rattle.sums.specs.declared.Sums.{Sums}
 use Rattle.sums.specs.Capped.{resultWordsAt, addsWords}
 use Rattle.compiler.specs.Emit.{Stands, locationTable, Coded, Placed, summaryAt}
@@ -115,7 +116,7 @@ pub record Lent (s : List ℕ) (k c : ℕ) (outs ts places : List ℕ) : Type 0 
   pub limit : resultWordsAt s k ≤ wordLimit
   pub room : c + readCount s k ≤ referenceLimit
   pub slots : Slots s (nodesPlace s (placeOf s k)) (nodeCount s (placeOf s k)) ts
-  pub held : Places s (nodesPlace s (placeOf s k)) places (nodeCount s (placeOf s k))
+  pub held : PlacesAre s (nodesPlace s (placeOf s k)) (nodeCount s (placeOf s k)) places
   pub all : AllOuts s outs k
 
 module _ (s : List ℕ) (k c : ℕ) (acc : Accepted s (suc k)) (outs ts places index order₀ locations₀ : List ℕ) where

@@ -22,8 +22,9 @@ use Rattle.order.specs.Indices.{slot}
 use Rattle.order.specs.Resolve.{indexFrom, indexOf, target}
 use Rattle.sums.specs.Answers.{typesBy}
 use Rattle.compiler.specs.Emit.{addressOf, addressesIn}
-use Rattle.compiler.specs.Locating.{Places, Slots, portCode, readCodes, rebasedCode, rebasedCodes, resultCodes, outputCodes}
-use Rattle.resolver.specs.Slots.{rowsOf, placesOf}
+use Rattle.compiler.specs.Locating.{Slots, portCode, readCodes, rebasedCode, rebasedCodes, resultCodes, outputCodes}
+use Rattle.resolver.specs.Slots.{rowsOf, placesOf, PlacesAre, nodesBy}
+use Rattle.resolver.proofs.ByPlaces.{all-by}
 use Rattle.resolver.proofs.Rows.{length-nodes, place-at, row-slot, rows-size}
 
 -- ---- what is stored next, where j of n elements are stored
@@ -91,17 +92,17 @@ none-index id ns e = subst (Indexed (indexOf id ns) (0 + length ns)) (sym e) (in
 
 -- ---- what the resolver gives
 
-module _ (s : List ℕ) {at at' n : ℕ} (few : n ≤ nodeLimit) (e : at ≡ at') where
-  pub places-are : {ps : List ℕ} → ps ≡ sets (replicate nodeLimit 0) 0 (placesOf (nodesAt n s at)) → Places s at' ps n
-  places-are {ps} h = subst (λ (q : ℕ). Places s q ps n) e (λ i il. ap (λ (xs : List ℕ). getD xs i 0) h ∙ place-at s at n _ i il (rw length-replicate (omega arith)))
+module _ (s : List ℕ) (at n : ℕ) (few : n ≤ nodeLimit) (ps : List ℕ) (h : ps ≡ sets (replicate nodeLimit 0) 0 (placesOf (nodesAt n s at))) where
+  pub places-are : PlacesAre s at n ps
+  places-are i l = ap (λ (xs : List ℕ). getD xs i 0) h ∙ place-at s at n _ i l (rw length-replicate (omega arith))
 
-  pub slots-are : {ts : List ℕ} → ts ≡ sets (replicate slotLimit 0) 0 (rowsOf (nodesAt n s at) (nodesAt n s at)) → Slots s at' n ts
-  slots-are {ts} h =
+  pub slots-are : {ts : List ℕ} → ts ≡ sets (replicate slotLimit 0) 0 (rowsOf (nodesBy s ps 0 n) (nodesBy s ps 0 n)) → Slots s at n ts
+  slots-are {ts} e =
       let ns = nodesAt n s at in
       let z = length-nodes n s at in
       let l = length-replicate {A = ℕ} slotLimit 0 in
-      subst (λ (q : ℕ). Slots s q n ts) e
-      (record {
-        size = ap length h ∙ rows-size ns (replicate slotLimit 0) ∙ l;
-        slots = λ i j x g jl. ap (λ (xs : List ℕ). slot xs i j) h ∙ row-slot ns (replicate slotLimit 0) i j x g jl (omega arith) l;
-      })
+      let f : ts ≡ sets (replicate slotLimit 0) 0 (rowsOf ns ns) = e ∙ ap (λ (xs : List Node). sets (replicate slotLimit 0) 0 (rowsOf xs xs)) (all-by s ps n at places-are) in
+      record {
+        size = ap length f ∙ rows-size ns (replicate slotLimit 0) ∙ l;
+        slots = λ i j x g jl. ap (λ (xs : List ℕ). slot xs i j) f ∙ row-slot ns (replicate slotLimit 0) i j x g jl (omega arith) l;
+      }

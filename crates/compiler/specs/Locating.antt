@@ -25,10 +25,6 @@ use Rattle.compiler.specs.Emit.{locationTable, Placed, summaryAt, AllAll
 
 -- ---- arrays that are read
 
--- the places of n nodes from `at` on
-abbrev pub Places : List ℕ → ℕ → List ℕ → ℕ → Type 0
-Places s at places n = (i : ℕ) → i < n → getD places i 0 ≡ nodePlace s at i
-
 -- the slots of the n nodes from `at` on
 pub record Slots (s : List ℕ) (at n : ℕ) (ts : List ℕ) : Type 0 where
   pub size : length ts ≡ slotLimit

@@ -11,7 +11,8 @@ ghost use Rattle.graph.specs.Read.{reference};
 ghost use Rattle.order.specs.Resolve as Resolve;
 ghost use Rattle.reader.specs.Find.{ReadsNode, ReadsNodes, ReadsFunction};
 ghost use Rattle.order.specs.Indices.{indexOrder};
-ghost use Rattle.compiler.specs.Locating.{NodesAllocated, FunctionAllocated, AllocatedTo, readCount, outputCodes, Places, Slots, portCode, readCodes, rebasedCode, rebasedCodes, resultCodes, nodeCodes, AllOuts};
+ghost use Rattle.resolver.specs.Slots.{PlacesAre};
+ghost use Rattle.compiler.specs.Locating.{NodesAllocated, FunctionAllocated, AllocatedTo, readCount, outputCodes, Slots, portCode, readCodes, rebasedCode, rebasedCodes, resultCodes, nodeCodes, AllOuts};
 ghost use Rattle.reader.specs.Layout.{outputCount, outputsPlace, nodeAt, nodesAt, nodesPlace, nodeCount};
 ghost use Rattle.sums.specs.Position.{placeOf, Accepted, Started};
 ghost use Rattle.sums.specs.Capped.{resultWordsAt, addsWords, WordsHeld};
@@ -205,7 +206,7 @@ fn allocate_nodes(
 ) -> usize
     requires { ⌜ Accepted (now table) (suc k) × (n ≡ nodeCount (now table) (placeOf (now table) k)) × (resultWordsAt (now table) k ≤ wordLimit) × (cell + readCount (now table) k ≤ referenceLimit) ⌝ }
     requires { ⌜ Started (now table) (now starts) k × WordsHeld (now table) (now words) k × AllOuts (now table) (now outs) k ⌝ }
-    requires { ⌜ Slots (now table) (nodesPlace (now table) (placeOf (now table) k)) n (now targets) × Places (now table) (nodesPlace (now table) (placeOf (now table) k)) (now places) n
+    requires { ⌜ Slots (now table) (nodesPlace (now table) (placeOf (now table) k)) n (now targets) × PlacesAre (now table) (nodesPlace (now table) (placeOf (now table) k)) n (now places)
         × (now index ≡ sets (replicate nodeLimit 0) 0 (indexOrder (now targets) n)) ⌝ }
     requires { ⌜ (length (now order) ≡ orderLimit) × (length (now locations) ≡ referenceLimit) × (length (now allocated) ≡ nodePortLimit) ⌝ }
     ensures { λ r. ⌜ NodesAllocated (now (table .entry)) k cell (now (order .entry)) (now (order .exit)) (now (locations .entry)) (now (locations .exit)) (now (allocated .exit)) r ⌝ }

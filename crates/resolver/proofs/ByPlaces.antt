@@ -1,13 +1,15 @@
 -- The nodes at the places that an array has.
 use Prim.Native.Nat.{ℕ, zero, suc, _+_, _-_, _≤_, _<_}
-use mathlib.Core.Path.{_≡_, refl, sym, ap, _∙_}
+use mathlib.Core.Path.{_≡_, refl, sym, ap, _∙_, subst}
 use mathlib.Core.List.{List, [], _∷_, _++_}
 use native.Mathlib.Omega.{arith}
 use native.Mathlib.Nat.{add-zero, zero-add, suc-add}
 use lib.ListN.{length, getD}
 use Rattle.graph.specs.Graph.{Node}
 use Rattle.reader.specs.Layout.{nodeAt, nodeEnd, nodesAt, nodePlace}
-use Rattle.resolver.specs.Slots.{nodesBy}
+use Rattle.reader.specs.Find.{ReadsNode, ReadsNodes}
+use Rattle.reader.proofs.Passed.{place-reads}
+use Rattle.resolver.specs.Slots.{PlacesAre, nodesBy, PlacesRead}
 
 module _ (s ps : List ℕ) where
   -- n of them are passed
@@ -45,11 +47,21 @@ module _ (s ps : List ℕ) where
   unfolding nodesBy
   by-last i n = by-split i n 1
 
--- they are those of a run of records whose places the array has
-pub by-places : (s ps : List ℕ) (i n at : ℕ) → ((j : ℕ) → j < n → getD ps (i + j) 0 ≡ nodePlace s at j) → nodesBy s ps i n ≡ nodesAt n s at
+by-places : (s ps : List ℕ) (i n at : ℕ) → ((j : ℕ) → j < n → getD ps (i + j) 0 ≡ nodePlace s at j) → nodesBy s ps i n ≡ nodesAt n s at
 unfolding nodesBy nodesAt nodePlace
 by-places s ps i zero at h = refl
 by-places s ps i (suc n) at h =
     ap (λ (p : ℕ). nodeAt s p ∷ nodesBy s ps (i + 1) n) (ap (λ (j : ℕ). getD ps j 0) (sym (add-zero i)) ∙ h 0 (omega arith))
     ∙ ap (λ (ns : List Node). nodeAt s at ∷ ns)
     (by-places s ps (i + 1) n (nodeEnd s at) (λ j l. let z : i + 1 + j ≡ i + suc j = omega arith in ap (λ (k : ℕ). getD ps k 0) z ∙ h (suc j) (omega arith)))
+
+-- an array that has the places of some nodes has these nodes
+module _ (s ps : List ℕ) (n first : ℕ) (h : PlacesAre s first n ps) where
+  place-of : (j : ℕ) → j < n → getD ps (0 + j) 0 ≡ nodePlace s first j
+  place-of j l = ap (λ (k : ℕ). getD ps k 0) (zero-add j) ∙ h j l
+
+  pub all-by : nodesBy s ps 0 n ≡ nodesAt n s first
+  all-by = by-places s ps 0 n first place-of
+
+  pub all-read : ReadsNodes n s first → PlacesRead s ps 0 n
+  all-read r j l = subst (ReadsNode s) (sym (place-of j l)) (place-reads s n j first l r)

@@ -1,11 +1,12 @@
 -- What the slots of a function's nodes hold, `operandLimit` for each node.
 use Prim.Native.Nat.{ℕ, zero, suc, _+_, _<_}
+use mathlib.Core.Path.{_≡_}
 use mathlib.Core.List.{List, [], _∷_, _++_, map}
 use mathlib.Core.Option.{some}
 use lib.ListN.{getD}
 use Rattle.graph.specs.Graph.{Node}
 use Rattle.graph.specs.Look.{reads}
-use Rattle.reader.specs.Layout.{nodeAt}
+use Rattle.reader.specs.Layout.{nodeAt, nodePlace}
 use Rattle.reader.specs.Find.{ReadsNode}
 use Rattle.order.specs.Resolve.{target}
 use Rattle.base.specs.Limits.{operandLimit, noNode}
@@ -28,6 +29,10 @@ rowsOf ns (n ∷ rest) = rowOf ns n ++ rowsOf ns rest
 -- the places of some nodes
 abbrev pub placesOf : List Node → List ℕ
 placesOf ns = map (λ n. n .place) ns
+
+-- `ps` has the places of the n nodes from `first` on
+abbrev pub PlacesAre : List ℕ → ℕ → ℕ → List ℕ → Type 0
+PlacesAre s first n ps = (i : ℕ) → i < n → getD ps i 0 ≡ nodePlace s first i
 
 -- the nodes at the n places that an array has from i on
 unfoldable pub nodesBy : List ℕ → List ℕ → ℕ → ℕ → List Node

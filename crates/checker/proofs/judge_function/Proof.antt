@@ -15,8 +15,9 @@ use Rattle.reader.specs.Records.{seen}
 use Rattle.reader.proofs.Passed.{Holds, function-holds, found-function, no-function}
 use Rattle.checker.specs.declared.Head.{Head}
 use Rattle.checker.specs.Answers.{callsChecked, outputsChecked}
-use Rattle.checker.specs.Slots.{Scene, PlacesAre, RowsAre}
-use Rattle.checker.proofs.Slotting.{few-nodes, nodes-read, same-nodes, rows-are, places-length, places-are}
+use Rattle.resolver.specs.Slots.{PlacesAre}
+use Rattle.checker.specs.Slots.{Scene, RowsAre}
+use Rattle.checker.proofs.Slotting.{few-nodes, nodes-read, same-nodes, by-read, same-by, rows-are, places-length, places-are}
 use Rattle.checker.proofs.Whole.{seen-good, seen-fault, told-fault, Checked, judged-twice, judged-fresh, judged-calls, judged-outputs, judged-nodes, judged-loops, ready}
 use Rattle.checker.proofs.judge_function.Statement.{statement}
 use Rattle.checker.proofs.judge_function.Tie as tie
@@ -54,7 +55,7 @@ abbrev resolved : tie.After-nodes-good → tie.After-resolve
 resolved r = r .before .before .before
 
 abbrev told7 : tie.After-resolve → tie.After-enum-told7
-told7 v = v .before .before
+told7 v = v .before .before .before
 
 -- where the head was read, from each check that passed
 abbrev wide-of : tie.After-places → tie.After-u16-at2
@@ -140,7 +141,11 @@ placed p =
     places-are (start w .args .s .now) (begin w) (w .u16-at2 .result) (start w .args .places .now) (filled p) (p .places .ensures) (start w .pre .4) (few-nodes (scene w))
 
 rows : (v : tie.After-resolve) → let w = wide7 (told7 v) in RowsAre (start w .args .s .now) (start w .args .place) (w .u16-at2 .result) (v .resolve .last .1 .1 .1 .0)
-rows v = let w = wide7 (told7 v) in rows-are (scene w) (start w .args .targets .now) (v .resolve .last .1 .1 .1 .0) (v .resolve .ensures) (start w .pre .5)
+rows v =
+    let t = told7 v in
+    let w = wide7 t in
+    let p = places-of (told3 (told5 t)) in
+    rows-are (scene w) (filled p) (placed p) (start w .args .targets .now) (v .resolve .last .1 .1 .1 .0) (v .resolve .ensures) (start w .pre .5)
 
 -- ---- what the checks say of the function
 
@@ -274,7 +279,11 @@ judge-function-spec =
     (λ c. search needs)
     (λ c. search needs)
     returns-4
-    (λ c κs. let t = told5 (c .before) in let h = scene (wide5 t) in (nodes-read h, few-nodes h, start (wide5 t) .pre .5, ap (fresh []) (same-nodes h) ∙ fresh-ok (told3 t)))
+    (λ c κs.
+    let t = told3 (told5 (c .before .before)) in
+    let p = places-of t in
+    let h = scene (wide-of p) in
+    (by-read h (filled p) (placed p), few-nodes h, start (wide-of p) .pre .5, ap (fresh []) (same-by h (filled p) (placed p)) ∙ fresh-ok t))
     (λ c κs. let v = c .before .before in let t = told5 (told7 v) in let p = places-of (told3 t) in (scene (wide-of p), placed p, rows v, calls-ok t))
     (λ c. search needs)
     (λ c. search needs)

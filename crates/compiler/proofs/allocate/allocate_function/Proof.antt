@@ -1,6 +1,6 @@
 use Prim.Native.Nat.{ℕ, suc, _+_, _≤_, _<_}
 use mathlib.Core.Path.{_≡_, sym, ap, _∙_, subst}
-use mathlib.Core.List.{[]}
+use mathlib.Core.List.{List, []}
 use native.Mathlib.Omega.{arith}
 use lib.ListN.{length, getD, length-replicate}
 use Rattle.compiler.specs.Sizes.{nodePortLimit}
@@ -14,6 +14,9 @@ use Rattle.reader.proofs.Passed.{function-fits}
 use Rattle.sums.specs.Position.{placeOf}
 use Rattle.sums.proofs.Accepted.{few, short}
 use Rattle.sums.proofs.Tabulate.{fewer-starts}
+use Rattle.resolver.specs.Slots.{PlacesAre}
+use Rattle.resolver.proofs.ByPlaces.{all-by, all-read}
+use Rattle.compiler.specs.Locating.{Slots}
 use Rattle.compiler.proofs.Filling.{places-are, slots-are}
 use Rattle.compiler.proofs.Accepting.{nodes-held}
 use Rattle.compiler.proofs.Outputs.{function-allocated}
@@ -32,16 +35,16 @@ abbrev entry-of-begin : tie.After-nodes-place → tie.Start
 entry-of-begin c = entry-of-place (place-of-begin c)
 
 abbrev begin-of-targets : tie.After-targets → tie.After-nodes-place
-begin-of-targets c = c .before .before .before
+begin-of-targets c = let p = c .before .before .before in p .before
 
 abbrev targets-of-index : tie.After-index → tie.After-targets
 targets-of-index c = c .before .before .before
 
-abbrev order-of-places : tie.After-places3 → tie.After-schedule
-order-of-places c = c .before .before .before
+abbrev order-of-index2 : tie.After-index2 → tie.After-schedule
+order-of-index2 c = let d = c .before .before .before in d .before
 
 abbrev order-of-allocated : tie.After-allocated → tie.After-schedule
-order-of-allocated c = let d = c .before .before .before in order-of-places (d .before)
+order-of-allocated c = order-of-index2 (c .before .before .before)
 
 abbrev begin-of-index : tie.After-index → tie.After-nodes-place
 begin-of-index c = begin-of-targets (targets-of-index c)
@@ -78,6 +81,13 @@ nodes : (c : tie.After-nodes-place) → let n = c .before .u16-at .result in let
     (n ≤ nodeLimit) × ReadsNodes n s at × (fresh [] (nodesAt n s at) ≡ ok tt)
 nodes c = let e = entry-of-begin c in nodes-held (e .args .table .now) (suc (e .args .k)) (e .pre .0 .0) (e .args .k) (omega arith) (count (c .before)) (begin c)
 
+-- the places of the nodes are there
+abbrev filled : tie.After-targets → List ℕ
+filled c = c .before .before .places2 .last .1 .1 .1 .0
+
+placed : (c : tie.After-targets) → let b = begin-of-targets c in PlacesAre (entry-of-begin b .args .table .now) (b .nodes-place .result) (b .before .u16-at .result) (filled c)
+placed c = let b = begin-of-targets c in places-are (entry-of-begin b .args .table .now) (b .nodes-place .result) (b .before .u16-at .result) (nodes b .0) _ (c .before .before .places2 .ensures)
+
 -- ---- needs
 
 places-requires : tie.Need-places-requires
@@ -88,20 +98,33 @@ places-requires c κs =
     (read, few, omega arith, length-replicate {A = ℕ} nodeLimit 0)
 
 resolve-requires : tie.Need-resolve-requires
-resolve-requires c κs = let (few, read, single) = nodes (begin-of-targets c) in (read, few, length-replicate {A = ℕ} slotLimit 0, single)
+resolve-requires c κs =
+    let b = begin-of-targets c in
+    let (few, read, single) = nodes b in
+    let s = entry-of-begin b .args .table .now in
+    let n = b .before .u16-at .result in
+    let at = b .nodes-place .result in
+    (all-read s (filled c) n at (placed c) read, few, length-replicate {A = ℕ} slotLimit 0, ap (fresh []) (all-by s (filled c) n at (placed c)) ∙ single)
 
 allocate-nodes-requires : tie.Need-allocate-nodes-requires
 allocate-nodes-requires c κs =
     let o = order-of-allocated c in
-    let r = targets-of-index (o .before) in
+    let v = o .before .before .before in
+    let r = v .before in
     let b = begin-of-targets r in
     let e = entry-of-begin b in
+    let s = e .args .table .now in
+    let n = b .before .u16-at .result in
     let few = nodes b .0 in (
       (e .pre .0 .0, count (b .before), e .pre .0 .1, e .pre .0 .2),
       (
         (fewer-starts _ _ _ _ (e .pre .1 .0 .0) (omega arith), e .pre .1 .0 .1, e .pre .1 .0 .2),
         (
-          (slots-are _ few (begin b) (o .before .before .before .resolve .ensures), places-are _ few (begin b) (r .before .places2 .ensures), o .schedule .ensures .1),
+          (
+            subst (λ (q : ℕ). Slots s q n (v .resolve .last .1 .1 .1 .0)) (begin b) (slots-are s (b .nodes-place .result) n few (filled r) (r .before .before .places2 .ensures) (v .resolve .ensures)),
+            subst (λ (q : ℕ). PlacesAre s q n (filled r)) (begin b) (placed r),
+            o .schedule .ensures .1,
+          ),
           (e .pre .1 .1 .1, e .pre .1 .1 .2, length-replicate {A = ℕ} nodePortLimit 0),
         ),
       ),

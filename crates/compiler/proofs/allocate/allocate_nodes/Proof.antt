@@ -12,7 +12,8 @@ use Rattle.reader.specs.Find.{ReadsNode}
 use Rattle.reader.proofs.Passed.{function-holds}
 use Rattle.sums.specs.Position.{placeOf, Accepted}
 use Rattle.sums.specs.Capped.{addsWords}
-use Rattle.compiler.specs.Locating.{Slots, Places}
+use Rattle.resolver.specs.Slots.{PlacesAre}
+use Rattle.compiler.specs.Locating.{Slots}
 use Rattle.sums.proofs.Accepted.{few, read-below}
 use Rattle.compiler.proofs.References.{count-reads}
 use Rattle.compiler.proofs.Allocating.{Lent, State, start, index-low, node-fits, advance, finished}
@@ -58,7 +59,7 @@ lent c =
       limit = c .pre .0 .2;
       room = c .pre .0 .3;
       slots = subst (λ (n : ℕ). Slots s at n (a .targets .now)) e (c .pre .1 .1 .0 .0);
-      held = subst (λ (n : ℕ). Places s at (a .places .now) n) e (c .pre .1 .1 .0 .1);
+      held = subst (λ (n : ℕ). PlacesAre s at n (a .places .now)) e (c .pre .1 .1 .0 .1);
       all = c .pre .1 .0 .2;
     }
 
