@@ -15,7 +15,7 @@ use Rattle.graph.specs.Look.{reads}
 use Rattle.graph.specs.Read.{reference}
 use Rattle.graph.specs.Schedule.{schedule}
 use Rattle.graph.specs.Sums.{sum}
-use Rattle.reader.specs.Layout.{kindAt, nodesAt, nodePlace, outputCount}
+use Rattle.reader.specs.Layout.{kindAt, nodesAt, outputCount}
 use Rattle.order.specs.Indices.{slot}
 use Rattle.order.specs.Resolve.{target}
 use Rattle.compiler.specs.Static.{Location, nowhere, input, offset, Located, locationsOf, summary, allocate}

@@ -55,5 +55,5 @@ row-some k e c =
     let r = portsOf (kindOf k) in
     let t : notEmpty r ≡ true = every-kind (λ (k : Kind). notEmpty (portsOf k)) refl (kindOf k) in
     let u : leb 1 (r .operands + constantIn (r .form) (r .words)) ≡ true = subst (λ (b : Bool). (not true || b || leb 1 (r .operands + constantIn (r .form) (r .words))) ≡ true) c
-        (subst (λ (b : Bool). (not b || calling (r .form) || leb 1 (r .operands + constantIn (r .form) (r .words))) ≡ true) e t) in
+    (subst (λ (b : Bool). (not b || calling (r .form) || leb 1 (r .operands + constantIn (r .form) (r .words))) ≡ true) e t) in
     leb-true _ _ u

@@ -154,12 +154,12 @@ module _ {s ps wanted : List ℕ} {m : ℕ} where
               let x = nodeAt s p in
               let z : i ≡ 0 + length ns = sym (length-by s ps 0 i) ∙ sym (zero-add (length ns)) in
               k .marks r a
-                  ∙ ap (λ (j : ℕ). cond (eqb j w) i (getD found r 0)) e
-                  ∙ ap (λ (j : ℕ). cond (eqb (u16 s p) w) i j) (h .same r a)
-                  ∙ ap (λ (j : ℕ). cond (eqb (u16 s p) w) j (indexOf w ns)) z
-                  ∙ sym (index-last w ns x 0 (λ q. subst (λ (j : ℕ). member j (ids ns) ≡ false) q new))
-                  ∙ ap (λ (q : ℕ). indexOf w (ns ++ (nodeAt s q ∷ []))) next-is
-                  ∙ ap (indexOf w) (sym (by-last s ps 0 i));
+              ∙ ap (λ (j : ℕ). cond (eqb j w) i (getD found r 0)) e
+              ∙ ap (λ (j : ℕ). cond (eqb (u16 s p) w) i j) (h .same r a)
+              ∙ ap (λ (j : ℕ). cond (eqb (u16 s p) w) j (indexOf w ns)) z
+              ∙ sym (index-last w ns x 0 (λ q. subst (λ (j : ℕ). member j (ids ns) ≡ false) q new))
+              ∙ ap (λ (q : ℕ). indexOf w (ns ++ (nodeAt s q ∷ []))) next-is
+              ∙ ap (indexOf w) (sym (by-last s ps 0 i));
         }
 
   pub match-done : {found : List ℕ} {count i : ℕ} → Matching s ps wanted m found i → i ≤ count → count ≤ i → FoundAll (nodesBy s ps 0 count) wanted m found

@@ -1,8 +1,8 @@
 use Prim.Native.Nat.{ℕ, _+_, _-_, _*_, _≤_}
-use mathlib.Core.Path.{_≡_, refl, ap, sym, _∙_, subst}
+use mathlib.Core.Path.{refl, ap, _∙_, subst}
 use native.Mathlib.Omega.{arith}
 use native.Mathlib.Nat.{zero-add}
-use lib.ListN.{length, getD, length-replicate}
+use lib.ListN.{getD, length-replicate}
 use lib.Seq.{sets}
 use Rattle.base.specs.Limits.{nodeLimit, operandLimit}
 use Rattle.reader.specs.Find.{ReadsNode}
