@@ -22,6 +22,7 @@ use Rattle.bytecode.specs.Run.{Instruction, BoardList}
 use Rattle.bytecode.specs.Code.{instructionCode, instructionsCode, headerCode, encode, guard, then, addresses, allBelow, allLess, readOperands, readKind, readInstruction, nextWord, readInstructions, readOutputs, countsFit, readCounts, codeMarked, decode}
 use Rattle.bytecode.specs.WellFormed.{Below, Fit, AllFit, FitList}
 use Rattle.base.proofs.Stands.{cons, cons-head, cons-tail, split, all-length, Here, u16-read, constants-read}
+use Rattle.base.specs.Limits.{operationLimit, wordLimit, addressLimit, portWordLimit}
 
 module _ {A : Type 0} where
   pub guarded : (t : Bool) (o : Option A) → t ≡ true → guard t o ≡ o
@@ -33,7 +34,7 @@ module _ {A B : Type 0} where
   unfolding then
   then-some o k a e = rw e refl
 
-addresses-read : (s xs : List ℕ) (at : ℕ) → Each (λ a. a < 65536) xs → Here s at (allBytes 2 xs) → addresses (length xs) s at ≡ xs
+addresses-read : (s xs : List ℕ) (at : ℕ) → Each (λ a. a < addressLimit) xs → Here s at (allBytes 2 xs) → addresses (length xs) s at ≡ xs
 addresses-read s [] at l h = refl
 addresses-read s (x ∷ xs) at (l, ls) h =
     let (p, q) = split s (bytesOf 2 x) (allBytes 2 xs) at h in
@@ -50,7 +51,7 @@ below-length next [] (x ∷ xs) h = absurd h
 below-length next (t ∷ ts) [] h = absurd h
 below-length next (t ∷ ts) (x ∷ xs) (l, h) = ap suc (below-length next ts xs h)
 
-below-small : (next : ℕ) (ts xs : List ℕ) → next ≤ 8192 → Below next ts xs → Each (λ a. a < 65536) xs
+below-small : (next : ℕ) (ts xs : List ℕ) → next ≤ wordLimit → Below next ts xs → Each (λ a. a < addressLimit) xs
 below-small next [] [] l h = tt
 below-small next [] (x ∷ xs) l h = absurd h
 below-small next (t ∷ ts) [] l h = absurd h
@@ -78,7 +79,7 @@ module _ (s : List ℕ) where
   done i end = some (record { it = i; next = end })
 
   kind-read :
-      (i : Instruction) (next at end : ℕ) → Fit next i → next ≤ 8192 → Here s at (allBytes 2 (i .operands) ++ allBytes 8 (i .constants))
+      (i : Instruction) (next at end : ℕ) → Fit next i → next ≤ wordLimit → Here s at (allBytes 2 (i .operands) ++ allBytes 8 (i .constants))
       → end ≡ at + 2 * length (i .operands) + 8 * length (i .constants) → end ≤ length s
       → readKind (i .kind) (i .type) s at next ≡ done i end
   kind-read i next at end f l h q e =
@@ -107,7 +108,7 @@ module _ (s : List ℕ) where
       (λ (x y : ℕ). done (record { kind = k; type = t; operands = i .operands; constants = i .constants; result = x }) y) (sym (f .result)) stop
 
   instruction-read :
-      (i : Instruction) (next at end : ℕ) → Fit next i → next ≤ 8192 → Here s at (instructionCode i) → end ≡ at + length (instructionCode i)
+      (i : Instruction) (next at end : ℕ) → Fit next i → next ≤ wordLimit → Here s at (instructionCode i) → end ≡ at + length (instructionCode i)
       → end ≤ length s → readInstruction s at next ≡ done i end
   instruction-read i next at end f l h q e =
       let size = instruction-length i in
@@ -124,7 +125,7 @@ module _ (s : List ℕ) where
   -- ---- the instructions
 
   instructions-read :
-      (is : List Instruction) (next stop at end : ℕ) → AllFit next is stop → stop ≤ 8192 → Here s at (instructionsCode is)
+      (is : List Instruction) (next stop at end : ℕ) → AllFit next is stop → stop ≤ wordLimit → Here s at (instructionsCode is)
       → end ≡ at + length (instructionsCode is) → end ≤ length s
       → readInstructions (length is) s at next ≡ some (record { instructions = is; at = end; words = stop })
   instructions-read [] next stop at end f l h q e =
@@ -193,7 +194,7 @@ module _ (b : BoardList) (f : FitList b) where
       let mark : codeMarked s ≡ true = rw (b0, b1, b2, version, b7) refl in
       let lo = f .some-output in
       let limits : countsFit (b .arguments) outs count (b .words) ≡ true =
-      rw (le-leb (b .arguments) 128 (f .arguments), le-leb 1 outs lo, le-leb outs 128 (f .outputs), le-leb count 4096 lc, le-leb (b .words) 8192 lw) refl in
+      rw (le-leb (b .arguments) portWordLimit (f .arguments), le-leb 1 outs lo, le-leb outs portWordLimit (f .outputs), le-leb count operationLimit lc, le-leb (b .words) wordLimit lw) refl in
       guarded (leb 12 (length s)) _ (le-leb 12 (length s) (omega arith))
       ∙ guarded (codeMarked s) _ mark
       ∙ ap₂ (λ (x y : ℕ). readCounts s x y (u16 s 8) (u16 s 10)) b5 b6

@@ -26,7 +26,7 @@ use Rattle.bytecode.specs.WellFormed.{Below, Fit, AllFit, Codes}
 use Rattle.bytecode.specs.Answers.{Buffers, ran}
 use Rattle.bytecode.proofs.Back.{decode-encode}
 use Rattle.base.proofs.Lists.{some-is}
-use Rattle.base.specs.Limits.{withinLimits}
+use Rattle.base.specs.Limits.{withinLimits, operationLimit, wordLimit, portWordLimit}
 
 module _ {A : Type 0} where
   pub guard-inv : (t : Bool) (o : Option A) (a : A) → guard t o ≡ some a → (t ≡ true) × (o ≡ some a)
@@ -151,13 +151,13 @@ module _ (s : List ℕ) (small : Bytes s) where
       let (t5, e5) = guard-inv (eqb (l .words) words) _ b e4 in
       let (t6, e6) = guard-inv (eqb (l .at + 2 * outputs) (length s)) _ b e5 in
       let (t7, e7) = guard-inv (allLess words xs) _ b e6 in
-      let (m2, m1) = and-inv (leb arguments 128 && leb 1 outputs && leb outputs 128) (withinLimits count words) t3 in
-      let (l4, l5) = and-inv (leb count 4096) (leb words 8192) m1 in
-      let (m3, l3) = and-inv (leb arguments 128 && leb 1 outputs) (leb outputs 128) m2 in
-      let (l1, l2) = and-inv (leb arguments 128) (leb 1 outputs) m3 in
+      let (m2, m1) = and-inv (leb arguments portWordLimit && leb 1 outputs && leb outputs portWordLimit) (withinLimits count words) t3 in
+      let (l4, l5) = and-inv (leb count operationLimit) (leb words wordLimit) m1 in
+      let (m3, l3) = and-inv (leb arguments portWordLimit && leb 1 outputs) (leb outputs portWordLimit) m2 in
+      let (l1, l2) = and-inv (leb arguments portWordLimit) (leb 1 outputs) m3 in
       let h2 : 1 ≤ outputs = leb-true 1 outputs l2 in
-      let h3 : outputs ≤ 128 = leb-true outputs 128 l3 in
-      let h4 : count ≤ 4096 = leb-true count 4096 l4 in
+      let h3 : outputs ≤ portWordLimit = leb-true outputs portWordLimit l3 in
+      let h4 : count ≤ operationLimit = leb-true count operationLimit l4 in
       let (f, h, q, c) = instructions-fit count 12 arguments l el in
       let end : l .at + 2 * outputs ≡ length s = eqb-true _ _ t6 in
       let code = instructionsCode (l .instructions) in
@@ -171,11 +171,11 @@ module _ (s : List ℕ) (small : Bytes s) where
       subst (Codes s) (some-is e7)
       (record {
         fit = record {
-          arguments = leb-true arguments 128 l1;
+          arguments = leb-true arguments portWordLimit l1;
           some-output = omega arith;
           outputs = omega arith;
           count = omega arith;
-          words = leb-true words 8192 l5;
+          words = leb-true words wordLimit l5;
           instructions = subst (AllFit arguments (l .instructions)) (eqb-true (l .words) words t5) f;
           below = all-less words xs t7;
         };

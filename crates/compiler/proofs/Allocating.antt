@@ -14,7 +14,7 @@ use lib.ListN.{length, getD, set, replicate, getElem?, length-map, length-set, l
 use lib.Seq.{sets, length-sets, getD-set-same, getD-set-other}
 use borrow.Author.Tests.{eqb-false}
 use Rattle.compiler.specs.Sizes.{orderLimit, nodePortLimit}
-use Rattle.base.specs.Limits.{nodeLimit, referenceLimit, wordLimit, addressLimit}
+use Rattle.base.specs.Limits.{nodeLimit, referenceLimit, wordLimit, addressLimit, functionLimit, portLimit, operandLimit}
 use Rattle.base.specs.Lists.{Each, member, Is}
 use Rattle.ports.specs.Kinds.{kindOf}
 use Rattle.ports.specs.Ports.{portsOf, formOf, calling}
@@ -91,14 +91,14 @@ each-wider a b w (x ∷ xs) l (h, hs) = (wider x h, each-wider a b w xs l hs)
     wider (input i) h = h
     wider (offset d) h = omega arith
 
-pub strong : (a e : ℕ) (x : Location) → a ≤ 8 → Codes e x → Within a 8192 x → Stands e x
+pub strong : (a e : ℕ) (x : Location) → a ≤ portLimit → Codes e x → Within a wordLimit x → Stands e x
 strong a e nowhere l c w = absurd w
 strong a e (input i) l c w = (c (omega arith), omega arith)
 strong a e (offset d) l c w = (c, w)
 
 -- the locations of references, in the last list, where their numbers are stored
 coded-reads : (a : ℕ) (table : Ref → Location) (located : List Located) (locations : List ℕ) (here : ℕ) (rs : List Ref) (es : List ℕ) → a ≤ 8
-    → AllCodes es (map (locationOf located) rs) → Each (λ r. table r ≡ locationOf located r) rs → Each (Within a 8192) (map table rs)
+    → AllCodes es (map (locationOf located) rs) → Each (λ r. table r ≡ locationOf located r) rs → Each (Within a wordLimit) (map table rs)
     → ((q : ℕ) → q < length es → getD locations (here + q) 0 ≡ getD es q 0) → here + length rs ≤ referenceLimit → Coded locations table here rs
 coded-reads a table located locations here [] es l h t w g r = omega arith
 coded-reads a table located locations here (r ∷ rs) [] l h t w g room = absurd h
@@ -145,7 +145,7 @@ module _ (s : List ℕ) (k c : ℕ) (acc : Accepted s (suc k)) (outs ts places i
   holds : Holds s (placeOf s k)
   holds = function-holds s (placeOf s k) (read-below s (suc k) acc k (omega arith))
 
-  k16 : k < 16
+  k16 : k < functionLimit
   k16 = let l = few s (suc k) acc in omega arith
 
   words-of-summary : summaryAt s k .words ≡ resultWordsAt s k
@@ -175,10 +175,10 @@ module _ (s : List ℕ) (k c : ℕ) (acc : Accepted s (suc k)) (outs ts places i
 
   -- ---- at the start
 
-  reads-few : (x : Node) → Is x ns → length (reads x) ≤ 16
+  reads-few : (x : Node) → Is x ns → length (reads x) ≤ operandLimit
   reads-few x h = byPayload (x .payload) (is-each FormedNode ns (sound .0 .resolved .formed .nodes) x h .payload)
     where
-      byPayload : (p : Payload) → FormedPayload (kindOf (x .kind)) p → length (readsOf p) ≤ 16
+      byPayload : (p : Payload) → FormedPayload (kindOf (x .kind)) p → length (readsOf p) ≤ operandLimit
       byPayload (consts ws) f = omega arith
       byPayload (refs rs) f = let a = f .1 in let b = narrow (x .kind) .operands in omega arith
       byPayload (calls d rs) f = let a = f .1 in omega arith
@@ -259,7 +259,7 @@ module _ (s : List ℕ) (k c : ℕ) (acc : Accepted s (suc k)) (outs ts places i
       pub record Here : Type 0 where
         pub was-read : ReadsNode s p
         pub near : p < addressLimit
-        pub narrow-reads : length (reads (nodeAt s p)) ≤ 16
+        pub narrow-reads : length (reads (nodeAt s p)) ≤ operandLimit
         pub free : here + length (reads (nodeAt s p)) ≤ referenceLimit
         pub short : d + addsWords s k (nodeAt s p) ≤ wordLimit
 
@@ -280,7 +280,7 @@ module _ (s : List ℕ) (k c : ℕ) (acc : Accepted s (suc k)) (outs ts places i
 
       -- the callee's outputs have their numbers
       inner : calling (formOf (kindAt s p)) ≡ true → positionOf s k (u16 s (p + 4)) < k
-          → (inputs : ℕ) × Each (Within inputs 8192) (summaryAt s (positionOf s k (u16 s (p + 4))) .outputs)
+          → (inputs : ℕ) × Each (Within inputs wordLimit) (summaryAt s (positionOf s k (u16 s (p + 4))) .outputs)
           × PortsCoded (summaryAt s (positionOf s k (u16 s (p + 4))) .outputs) outs (8 * positionOf s k (u16 s (p + 4)))
       unfolding resultWordsAt earlier
       inner f l =
@@ -352,7 +352,7 @@ module _ (s : List ℕ) (k c : ℕ) (acc : Accepted s (suc k)) (outs ts places i
             abbrev next : List Located
             next = record { id = x .id; locations = one .outputs } ∷ located
 
-            low-m : m < 256
+            low-m : m < nodeLimit
             low-m = let a = st .count in let f = holds .few in omega arith
 
             order-below : (q : ℕ) → q < nodeLimit * k + m → getD order' q 0 ≡ getD order q 0

@@ -136,7 +136,7 @@ module _ {s : List ℕ} {k : ℕ} (acc : Accepted s (suc k)) {count inputs outpu
       let a = sound .0 .resolved .formed .inputs in
       let few = ports .few in
       strong (length (f .inputs)) (getD outs (8 * k + q) 0) (getD (summaryAt s k .outputs) q nowhere) a (ports .coded q (omega arith))
-      (each-at (Within (length (f .inputs)) 8192) (summaryAt s k .outputs)
+      (each-at (Within (length (f .inputs)) wordLimit) (summaryAt s k .outputs)
       (each-wider (length (f .inputs)) wordLimit (summaryAt s k .words) (summaryAt s k .outputs) (omega arith) (outputs-within (before s k) f sound)) q l)
 
   ins-low : (i : ℕ) → getD ins i 0 ≤ wordLimit

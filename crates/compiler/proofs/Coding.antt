@@ -11,7 +11,7 @@ use lib.Dec.{eqb, ltb, leb}
 use lib.ListN.{length, getD, replicate, getElem?, length-map, List·getD-eq-default}
 use lib.Seq.{sets}
 use borrow.Author.Tests.{eqb-true, eqb-false, leb-true, leb-false, lt-ltb, le-ltb}
-use Rattle.base.specs.Limits.{nodeLimit, wordLimit, noNode}
+use Rattle.base.specs.Limits.{nodeLimit, wordLimit, noNode, functionLimit, operandLimit, portLimit}
 use Rattle.base.proofs.Numbers.{lt-or-le}
 use Rattle.base.proofs.Lists.{some-is}
 use Rattle.base.specs.Lists.{Is, Each}
@@ -87,9 +87,9 @@ module _ (ns : List Node) (few : length ns ≤ nodeLimit) (named : (n : Node) �
       code : Bool → Bool → ℕ
       code a b = cond a 0 (cond b (getD allocated (8 * v + r .port) 0) (r .port))
 
-      pickOne : (b : Bool) → eqb (r .node) 0 ≡ b → (a : Bool) → leb 8 (r .port) ≡ a
+      pickOne : (b : Bool) → eqb (r .node) 0 ≡ b → (a : Bool) → leb portLimit (r .port) ≡ a
           → Codes (code a (ltb v 256)) (cond b (input (r .port)) (getD (locationsOf (r .node) located) (r .port) nowhere))
-      pickOne true q true w = λ l. let z : 8 ≤ r .port = leb-true 8 (r .port) w in absurd (omega arith)
+      pickOne true q true w = λ l. let z : 8 ≤ r .port = leb-true portLimit (r .port) w in absurd (omega arith)
       pickOne true q false w = λ l.
           let z : r .node ≡ 0 = eqb-true (r .node) 0 q in
           let e : v ≡ noNode = index-none (r .node) ns (λ n i s. let o = named n i in omega arith) in
@@ -99,17 +99,17 @@ module _ (ns : List Node) (few : length ns ≤ nodeLimit) (named : (n : Node) �
           let l : v < length ns = in-index (r .node) ns i in
           let (m, g, f, e) = index-of (r .node) ns few l in
           let c : PortsCoded (locationsOf (r .node) located) allocated (8 * v) = subst (λ (j : ℕ). PortsCoded (locationsOf j located) allocated (8 * v)) e (known v m g) in
-          byPort a w c (lt-ltb v 256 (omega arith))
+          byPort a w c (lt-ltb v nodeLimit (omega arith))
         where
-          byPort : (a : Bool) → leb 8 (r .port) ≡ a → PortsCoded (locationsOf (r .node) located) allocated (8 * v) → ltb v 256 ≡ true
+          byPort : (a : Bool) → leb portLimit (r .port) ≡ a → PortsCoded (locationsOf (r .node) located) allocated (portLimit * v) → ltb v nodeLimit ≡ true
               → Codes (code a (ltb v 256)) (getD (locationsOf (r .node) located) (r .port) nowhere)
-          byPort true w c t = no-location 0 (locationsOf (r .node) located) (r .port) (let z = leb-true 8 (r .port) w in let y = c .few in omega arith)
-          byPort false w c t = rw t (c .coded (r .port) (leb-false 8 (r .port) w))
+          byPort true w c t = no-location 0 (locationsOf (r .node) located) (r .port) (let z = leb-true portLimit (r .port) w in let y = c .few in omega arith)
+          byPort false w c t = rw t (c .coded (r .port) (leb-false portLimit (r .port) w))
 
   -- the references of the i-th node
-  module _ (s ts : List ℕ) (i : ℕ) (x : Node) (slots : (j : ℕ) → j < 16 → slot ts i j ≡ target ns (getElem? (reads x) j))
+  module _ (s ts : List ℕ) (i : ℕ) (x : Node) (slots : (j : ℕ) → j < operandLimit → slot ts i j ≡ target ns (getElem? (reads x) j))
       (inside : (r : Ref) (w : ℕ) → getElem? (reads x) w ≡ some r → (r .node ≡ 0) ⊎ Is (r .node) (ids ns)) where
-    reads-from : (m j q : ℕ) → ((w : ℕ) → getElem? (reads x) (j + w) ≡ getElem? (references m s q) w) → j + m ≤ 16
+    reads-from : (m j q : ℕ) → ((w : ℕ) → getElem? (reads x) (j + w) ≡ getElem? (references m s q) w) → j + m ≤ operandLimit
         → AllCodes (readCodes s ts allocated (16 * i + j) m q) (map (locationOf located) (references m s q))
     unfolding readCodes
     reads-from zero j q f l = tt
@@ -124,7 +124,7 @@ module _ (ns : List Node) (few : length ns ≤ nodeLimit) (named : (n : Node) �
               (reads-from m (j + 1) (q + 3) (λ w. let a : j + 1 + w ≡ j + suc w = omega arith in ap (getElem? (reads x)) a ∙ f (suc w)) (omega arith)),
         )
 
-    pub reads-coded : (m q : ℕ) → reads x ≡ references m s q → m ≤ 16 → AllCodes (readCodes s ts allocated (16 * i) m q) (map (locationOf located) (references m s q))
+    pub reads-coded : (m q : ℕ) → reads x ≡ references m s q → m ≤ operandLimit → AllCodes (readCodes s ts allocated (operandLimit * i) m q) (map (locationOf located) (references m s q))
     reads-coded m q e l =
         let y : 16 * i + 0 ≡ 16 * i = omega arith in
         rw y at (reads-from m 0 q (λ w. let z : 0 + w ≡ w = omega arith in ap (getElem? (reads x)) z ∙ ap (λ (rs : List Ref). getElem? rs w) e) (omega arith))
@@ -140,7 +140,7 @@ results-coded d t (suc m) =
 
 module _ (locations : List ℕ) (cell n d inputs : ℕ) (args : List Location) (given : (j : ℕ) → j < n → Codes (getD locations (cell + j) 0) (getD args j nowhere))
     (size : length args ≡ n) (few : n ≤ 8) (near : d ≤ wordLimit) where
-  rebase-coded : (e : ℕ) (o : Location) → Codes e o → Within inputs 8192 o → Codes (rebasedCode locations cell n d e) (rebase d args o)
+  rebase-coded : (e : ℕ) (o : Location) → Codes e o → Within inputs wordLimit o → Codes (rebasedCode locations cell n d e) (rebase d args o)
   rebase-coded e nowhere c w = tt
   rebase-coded e (input i) c w = ⊎-elim below above (lt-or-le i n)
     where
@@ -153,7 +153,7 @@ module _ (locations : List ℕ) (cell n d inputs : ℕ) (args : List Location) (
       let z : (8 + x + d) % 65536 ≡ 8 + (d + x) = omega arith in
       rw c (rw (le-ltb (8 + x) 8 (omega arith), z) refl)
 
-  rebased-coded : (outs : List ℕ) (b : ℕ) (os : List Location) → ((q : ℕ) → q < length os → Codes (getD outs (b + q) 0) (getD os q nowhere)) → Each (Within inputs 8192) os
+  rebased-coded : (outs : List ℕ) (b : ℕ) (os : List Location) → ((q : ℕ) → q < length os → Codes (getD outs (b + q) 0) (getD os q nowhere)) → Each (Within inputs wordLimit) os
       → AllCodes (rebasedCodes outs locations cell n d b (length os)) (map (rebase d args) os)
   unfolding rebasedCodes
   rebased-coded outs b [] h w = tt
@@ -174,7 +174,7 @@ module _ (s : List ℕ) where
   unfolding summary earlier functionAt
   summary-one m c = refl
 
-  summary-at : (k c : ℕ) → k ≤ 16 → positionOf s k c < k → summary (before s k) c ≡ summaryAt s (positionOf s k c)
+  summary-at : (k c : ℕ) → k ≤ functionLimit → positionOf s k c < k → summary (before s k) c ≡ summaryAt s (positionOf s k c)
   summary-at k c b h = at-position s summary (summaryAt s) (record { words = 0; outputs = [] }) summary-nil summary-one k c b h
 
   summary-none : (k c : ℕ) → k ≤ positionOf s k c → summary (before s k) c ≡ record { words = 0; outputs = [] }
@@ -212,9 +212,9 @@ module _ (s outs locations : List ℕ) (k p cell d : ℕ) (located : List Locate
   unfolding nodeAt
   plain-node f = plain-by (formOf (kindAt s p)) refl f
 
-  module _ (fit : ReadsNode s p) (b16 : k ≤ 16) (near : d ≤ wordLimit)
+  module _ (fit : ReadsNode s p) (b16 : k ≤ functionLimit) (near : d ≤ wordLimit)
       (inner : calling (formOf (kindAt s p)) ≡ true → positionOf s k (u16 s (p + 4)) < k
-      → (inputs : ℕ) × Each (Within inputs 8192) (summaryAt s (positionOf s k (u16 s (p + 4))) .outputs) × PortsCoded (summaryAt s (positionOf s k (u16 s (p + 4))) .outputs) outs (8 * positionOf s k (u16 s (p + 4))))
+      → (inputs : ℕ) × Each (Within inputs wordLimit) (summaryAt s (positionOf s k (u16 s (p + 4))) .outputs) × PortsCoded (summaryAt s (positionOf s k (u16 s (p + 4))) .outputs) outs (8 * positionOf s k (u16 s (p + 4))))
       (given : (j : ℕ) → j < length (reads (nodeAt s p)) → Codes (getD locations (cell + j) 0) (getD (map (locationOf located) (reads (nodeAt s p))) j nowhere)) where
     abbrev callee : ℕ
     callee = u16 s (p + 4)

@@ -24,6 +24,7 @@ use Rattle.sums.proofs.Nodes.{call-payload}
 use Rattle.sums.proofs.Positions.{at-position, no-position}
 use Rattle.compiler.proofs.Locations.{map-same}
 use Rattle.compiler.proofs.Single.{addresses-length}
+use Rattle.base.specs.Limits.{functionLimit}
 
 -- ---- addresses that are the same at every port
 
@@ -95,7 +96,7 @@ module _ (s : List ℕ) (ins : List ℕ) (next : ℕ) where
   unfolding inlined earlier functionInlined functionAt
   inlined-one m c = refl
 
-  pub inlined-at : (k c : ℕ) → k ≤ 16 → positionOf s k c < k → inlined (before s k) c ins next ≡ functionInlined s (positionOf s k c) ins next
+  pub inlined-at : (k c : ℕ) → k ≤ functionLimit → positionOf s k c < k → inlined (before s k) c ins next ≡ functionInlined s (positionOf s k c) ins next
   inlined-at k c b h =
       at-position s (λ early d. inlined early d ins next) (λ m. functionInlined s m ins next) (nothing next) inlined-nil inlined-one k c b h
 
@@ -119,7 +120,7 @@ module _ (s locations : List ℕ) (k p cell : ℕ) (ins : List ℕ) (first next 
 
   -- the call is the function at its callee's position, on these addresses; where there is none, nothing
   pub callee-is : {args : List ℕ} {g : ℕ} → args ≡ sets (replicate 8 0) 0 given → n ≤ 8 → g ≡ positionOf s k c
-      → (k ≤ 16 → g < k → nodeInlined s locations k p cell ins first next ≡ functionInlined s g args next)
+      → (k ≤ functionLimit → g < k → nodeInlined s locations k p cell ins first next ≡ functionInlined s g args next)
       × (k ≤ g → nodeInlined s locations k p cell ins first next ≡ nothing next)
   unfolding functionInlined
   callee-is {args} {g} ea few eg =

@@ -9,7 +9,7 @@ use native.Mathlib.Omega.{arith}
 use lib.ListN.{length, getD, set, length-set}
 use lib.Seq.{getD-set-same, getD-set-other}
 use Rattle.compiler.specs.Sizes.{orderLimit, outputLimit}
-use Rattle.base.specs.Limits.{nodeLimit, tableLimit, referenceLimit, wordLimit}
+use Rattle.base.specs.Limits.{nodeLimit, tableLimit, referenceLimit, wordLimit, functionLimit}
 use Rattle.base.proofs.Numbers.{lt-or-eq}
 use Rattle.ports.specs.declared.Form.{Form}
 use Rattle.ports.specs.declared.Form.the-variants.{Absent, Constant, References, Call}
@@ -110,7 +110,7 @@ module _ (s : List ℕ) (j : ℕ) (acc : Accepted s (suc j)) where
 
 module _ {s : List ℕ} {j : ℕ} (acc : Accepted s (suc j)) {outs order locations begins : List ℕ} {cell : ℕ} (st : AllocatedTo s j outs order locations begins cell) where
   -- there is room for one function more
-  pub room-here : (cell + readCount s j ≤ referenceLimit) × (cell < 65536) × (j < 16)
+  pub room-here : (cell + readCount s j ≤ referenceLimit) × (cell < 65536) × (j < functionLimit)
   room-here =
       let (a, b) = function-space s j acc in
       let e = st .room in

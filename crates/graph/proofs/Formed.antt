@@ -32,6 +32,7 @@ use Rattle.graph.specs.Checks.{Says, tableChecks}
 use Rattle.graph.proofs.Formats.{Plain, plain-of}
 use Rattle.graph.proofs.First.{all-judged}
 use Rattle.graph.proofs.Accept.{all-sound}
+use Rattle.base.specs.Limits.{functionLimit, nodeLimit}
 
 -- ---- lengths
 
@@ -314,7 +315,7 @@ module _ (format : Format) (plain : Plain format) (s : List ℕ) (small : Bytes 
         bytes = table-stood (p .it) t2 (eqb-true _ _ t3) size l h (sym (eqb-true _ _ t6) ∙ q);
         size = subst (λ (i : ℕ). i < 256 ^ (format .header - 6)) (sym (plain .size s) ∙ size) (little-below s small (format .header - 6) 6);
         some-function = subst (λ (i : ℕ). 1 ≤ i) (sym l) c1;
-        count = subst (λ (i : ℕ). i ≤ 16) (sym l) c2;
+        count = subst (λ (i : ℕ). i ≤ functionLimit) (sym l) c2;
         formed = f;
         nodes = m;
         ids = cs;

@@ -22,6 +22,7 @@ use Rattle.base.proofs.Stands.{little-below}
 use Rattle.graph.proofs.Formed.{refs-size, outputs-size, header-length}
 use Rattle.graph.proofs.Formats.{Plain, plain-of}
 use Rattle.graph.proofs.Exactly.{verdict-iff}
+use Rattle.base.specs.Limits.{functionLimit, nodeLimit}
 
 -- ---- checks whose numbers and places are so
 
@@ -224,7 +225,7 @@ module _ (s : List ℕ) (small : Bytes s) where
   fault-bounds n p e = fault-range (formatOf s) (plain-of s) s small n p (verdict-iff s small (fault n p) .0 e)
 
   -- an accepted table has 1 to 16 functions
-  pub count-bounds : (n : ℕ) → verdict s ≡ ok n → (1 ≤ n) × (n ≤ 16)
+  pub count-bounds : (n : ℕ) → verdict s ≡ ok n → (1 ≤ n) × (n ≤ functionLimit)
   count-bounds n e =
       let (fs, m, l) = verdict-iff s small (ok n) .0 e in
-      (subst (λ (i : ℕ). 1 ≤ i) l (m .written .some-function), subst (λ (i : ℕ). i ≤ 16) l (m .written .count))
+      (subst (λ (i : ℕ). 1 ≤ i) l (m .written .some-function), subst (λ (i : ℕ). i ≤ functionLimit) l (m .written .count))

@@ -28,6 +28,7 @@ use Rattle.base.proofs.Outcomes.{takes, passes}
 use Rattle.base.proofs.Stands.{split, all-length, Here, moved, off, little-read, u16-read, constants-read}
 use Rattle.graph.proofs.Formats.{Plain}
 use Rattle.graph.proofs.Formed.{refs-size, outputs-size, header-length, parse-written}
+use Rattle.base.specs.Limits.{functionLimit, nodeLimit}
 
 ref-is : (r : Ref) {a b c : ℕ} → a ≡ r .node → b ≡ r .port → r .place ≡ c → record { node = a; port = b; place = c } ≡ r
 ref-is r p q w = rw (p, q, ← w) refl
@@ -217,7 +218,7 @@ module _ (format : Format) (plain : Plain format) (s : List ℕ) where
       ∙ passes (tableMarked s) 2 0 _ (rw (b0, b1, b2) refl)
       ∙ passes (eqb (u16 s 3) (format .version)) 3 3 _ (eq-eqb _ _ ev)
       ∙ passes (eqb (format .size s) (length s)) 4 6 _ (eq-eqb _ _ el)
-      ∙ passes (leb 1 (byte s 5) && leb (byte s 5) 16) 6 5 _ (rw bc (and-both (leb 1 (length fs)) (leb (length fs) 16) (le-leb 1 (length fs) lo) (le-leb (length fs) 16 hi)))
+      ∙ passes (leb 1 (byte s 5) && leb (byte s 5) functionLimit) 6 5 _ (rw bc (and-both (leb 1 (length fs)) (leb (length fs) functionLimit) (le-leb 1 (length fs) lo) (le-leb (length fs) functionLimit hi)))
       ∙ takes (functions (format .nodeLimit) (byte s 5) s at) _ _
       (ap (λ (i : ℕ). functions (format .nodeLimit) i s at) bc
       ∙ functions-read s (format .nodeLimit) (plain .limit) fs at total (d .formed) (d .nodes) (moved s (omega arith) hb) (d .places) (d .ids) refl (omega arith))

@@ -27,6 +27,7 @@ use Rattle.graph.proofs.Order.{scheduled}
 use Rattle.lowering.proofs.Simulate.{stand-below}
 use Rattle.lowering.proofs.Promise.{whole-served}
 use Rattle.bytecode.proofs.Back.{decode-encode}
+use Rattle.base.specs.Limits.{operationLimit, wordLimit}
 
 -- ---- operations
 
@@ -160,7 +161,7 @@ laid early f sound =
 pub output-words : (early : List Function) (f : Function) → AllSound (f ∷ early) → length (boardListOf early f .outputs) ≡ widths (outputTypes (f .outputs))
 output-words early f sound = laid early f sound .2
 
-pub fit-list : (early : List Function) (f : Function) → AllSound (f ∷ early) → functionOperations (operationsOf early) f ≤ 4096 → functionWords early f ≤ 8192
+pub fit-list : (early : List Function) (f : Function) → AllSound (f ∷ early) → functionOperations (operationsOf early) f ≤ operationLimit → functionWords early f ≤ wordLimit
     → FitList (boardListOf early f)
 fit-list early f sound ops words =
     let b = boardListOf early f in
@@ -186,6 +187,6 @@ fit-list early f sound ops words =
     }
 
 -- within the limits the code is well formed, and stands for the board list
-pub code-of : (early : List Function) (f : Function) → AllSound (f ∷ early) → functionOperations (operationsOf early) f ≤ 4096 → functionWords early f ≤ 8192
+pub code-of : (early : List Function) (f : Function) → AllSound (f ∷ early) → functionOperations (operationsOf early) f ≤ operationLimit → functionWords early f ≤ wordLimit
     → decode (encode (boardListOf early f)) ≡ some (boardListOf early f)
 code-of early f sound ops words = decode-encode (boardListOf early f) (fit-list early f sound ops words)

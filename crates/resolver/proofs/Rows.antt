@@ -68,10 +68,6 @@ rows-at ns (y ∷ xs) (suc i) j x e h =
     ∙ getD-append-add (rowOf ns y) (rowsOf ns xs) (operandLimit * i + j) 0
     ∙ rows-at ns xs i j x e h
 
-pub rows-next : (ns : List Node) {left rest : List Node} {x : Node} → left ≡ x ∷ rest → rowsOf ns left ≡ rowOf ns x ++ rowsOf ns rest
-unfolding rowsOf
-rows-next ns e = ap (rowsOf ns) e
-
 pub rows-none : (ns : List Node) {left : List Node} → left ≡ [] → rowsOf ns left ≡ []
 unfolding rowsOf
 rows-none ns e = ap (rowsOf ns) e

@@ -6,7 +6,7 @@ use mathlib.Core.List.{List, [], _∷_}
 use native.Mathlib.Nat.{mul-add}
 use native.Mathlib.Omega.{arith}
 use lib.Dec.{eqb}
-use Rattle.base.specs.Limits.{operationLimit, instructionLimit}
+use Rattle.base.specs.Limits.{operationLimit, instructionLimit, operandLimit}
 use Rattle.ports.specs.declared.Form.{Form}
 use Rattle.ports.specs.declared.Form.the-variants.{Absent, Constant, References, Call}
 use Rattle.ports.specs.Kinds.{kindOf}
@@ -69,7 +69,7 @@ constant-few Call w = omega arith
 instruction-few : (k : ℕ) → 2 + 2 * arity (kindOf k) + 8 * constantWords (kindOf k) ≤ instructionLimit
 instruction-few k =
     let n = narrow k in
-    let a : arity (kindOf k) ≤ 16 = n .operands in
+    let a : arity (kindOf k) ≤ operandLimit = n .operands in
     let b : portsOf (kindOf k) .words ≤ 16 = n .words in
     let c : constantWords (kindOf k) ≤ portsOf (kindOf k) .words = constant-few (formOf (kindOf k)) (portsOf (kindOf k) .words) in
     omega arith

@@ -11,9 +11,10 @@ use Rattle.ports.specs.Kinds.{kindOf}
 use Rattle.ports.specs.Ports.{absent, portsOf, rows}
 use Rattle.ports.proofs.Laws.{row-of}
 use Rattle.base.proofs.Bools.{and-inv}
+use Rattle.base.specs.Limits.{operandLimit}
 
 abbrev narrowRow : Ports → Bool
-narrowRow r = leb (r .operands) 16 && (leb (r .results) 3 && leb (r .words) 16)
+narrowRow r = leb (r .operands) operandLimit && (leb (r .results) 3 && leb (r .words) 16)
 
 abbrev allNarrow : List Ports → Bool
 allNarrow [] = true
@@ -25,13 +26,13 @@ narrow-at (r ∷ rs) zero e = and-inv (narrowRow r) (allNarrow rs) e .0
 narrow-at (r ∷ rs) (suc k) e = narrow-at rs k (and-inv (narrowRow r) (allNarrow rs) e .1)
 
 pub record Narrow (r : Ports) : Type 0 where
-  pub operands : r .operands ≤ 16
+  pub operands : r .operands ≤ operandLimit
   pub results : r .results ≤ 3
   pub words : r .words ≤ 16
 
 row-narrow : (r : Ports) → narrowRow r ≡ true → Narrow r
 row-narrow r e =
-    let (a, e1) = and-inv (leb (r .operands) 16) (leb (r .results) 3 && leb (r .words) 16) e in
+    let (a, e1) = and-inv (leb (r .operands) operandLimit) (leb (r .results) 3 && leb (r .words) 16) e in
     let (b, c) = and-inv (leb (r .results) 3) (leb (r .words) 16) e1 in
     record { operands = leb-true _ _ a; results = leb-true _ _ b; words = leb-true _ _ c }
 

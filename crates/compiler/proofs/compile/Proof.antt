@@ -94,7 +94,7 @@ emit-of-outputs c = emit-of-code (c .before .before .before)
 
 -- ---- what was read
 
-low : (c : tie.Start) → c .args .k < 16
+low : (c : tie.Start) → c .args .k < functionLimit
 low c = let l = few (c .args .table .now) (suc (c .args .k)) (c .pre .0 .0) in omega arith
 
 -- the function's place and counts

@@ -4,7 +4,7 @@ use mathlib.Core.List.{List, []}
 use native.Mathlib.Omega.{arith}
 use lib.ListN.{length, getD, length-replicate}
 use Rattle.compiler.specs.Sizes.{nodePortLimit}
-use Rattle.base.specs.Limits.{nodeLimit, slotLimit}
+use Rattle.base.specs.Limits.{nodeLimit, slotLimit, functionLimit}
 use Rattle.base.specs.Outcome.{ok}
 use Rattle.base.specs.Bytes.{u16}
 use Rattle.graph.specs.Judge.{fresh}
@@ -58,7 +58,7 @@ begin-of-outputs c = begin-of-allocated (c .before .before .before)
 -- ---- what the entry says
 
 -- the position is below 16
-low : (c : tie.Start) → c .args .k < 16
+low : (c : tie.Start) → c .args .k < functionLimit
 low c = let l = few (c .args .table .now) (suc (c .args .k)) (c .pre .0 .0) in omega arith
 
 -- the function's place, its node count, and where its nodes begin

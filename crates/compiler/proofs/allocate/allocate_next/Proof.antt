@@ -6,6 +6,7 @@ use Rattle.sums.specs.Capped.{wordCap, resultWordsAt}
 use Rattle.compiler.proofs.Tables.{room-here, passed-over, one-more}
 use Rattle.compiler.proofs.allocate.allocate_next.Statement.{statement}
 use Rattle.compiler.proofs.allocate.allocate_next.Tie as tie
+use Rattle.base.specs.Limits.{functionLimit}
 
 -- ---- places: from one back to another
 
@@ -38,7 +39,7 @@ returns-2 : tie.Need-returns-2
 returns-2 c = let b = entry-of-words (within-of-call (c .before) .before) in one-more (b .pre .0 .0) (b .pre .1) (c .allocate-function .ensures) refl
 
 -- the position and the place behind the locations are small
-low : (c : tie.Start) → (c .args .cell < 65536) × (c .args .j < 16)
+low : (c : tie.Start) → (c .args .cell < 65536) × (c .args .j < functionLimit)
 low c = let (x, y, z) = room-here (c .pre .0 .0) (c .pre .1) in (y, z)
 
 pub allocate-next-spec : {M : Type 1} → statement M

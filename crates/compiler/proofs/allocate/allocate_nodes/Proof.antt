@@ -4,7 +4,7 @@ use mathlib.Core.Path.{_≡_, subst}
 use native.Mathlib.Omega.{arith}
 use lib.ListN.{length, replicate}
 use lib.Seq.{sets}
-use Rattle.base.specs.Limits.{nodeLimit, referenceLimit, wordLimit, addressLimit}
+use Rattle.base.specs.Limits.{nodeLimit, referenceLimit, wordLimit, addressLimit, functionLimit}
 use Rattle.graph.specs.Look.{reads}
 use Rattle.reader.specs.Layout.{nodeAt, nodesPlace, nodeCount}
 use Rattle.order.specs.Indices.{indexOrder}
@@ -64,7 +64,7 @@ lent c =
     }
 
 -- the counts
-small : (c : tie.Start Inv-loop μ-loop) → let a = c .args in let n = nodeCount (a .table .now) (placeOf (a .table .now) (a .k)) in (a .n ≡ n) × (n ≤ nodeLimit) × (a .k < 16)
+small : (c : tie.Start Inv-loop μ-loop) → let a = c .args in let n = nodeCount (a .table .now) (placeOf (a .table .now) (a .k)) in (a .n ≡ n) × (n ≤ nodeLimit) × (a .k < functionLimit)
 small c =
     let a = c .args in
     let l = few (a .table .now) (suc (a .k)) (c .pre .0 .0) in
@@ -85,11 +85,11 @@ more : (c : tie.In-loop Inv-loop μ-loop) → let a = entry-of-loop c .args in c
 more c = let (e, f, k16) = small (entry-of-loop c) in let t = c .loop-test .taken in omega arith
 
 -- its place in `order`
-slot : (c : tie.In-loop Inv-loop μ-loop) → (c .before .loop .m < 256) × (entry-of-loop c .args .k < 16)
+slot : (c : tie.In-loop Inv-loop μ-loop) → (c .before .loop .m < nodeLimit) × (entry-of-loop c .args .k < functionLimit)
 slot c = let (e, f, k16) = small (entry-of-loop c) in let t = more c in (omega arith, k16)
 
 -- its index
-low : (c : tie.After-wide16 Inv-loop μ-loop) → c .wide16 .result < 256
+low : (c : tie.After-wide16 Inv-loop μ-loop) → c .wide16 .result < nodeLimit
 low c =
     let l = loop-of-index c in
     let (e, f, k16) = small (entry-of-loop l) in

@@ -15,6 +15,7 @@ use Rattle.compiler.specs.Locating.{portCode, outputCodes}
 use Rattle.compiler.proofs.Filling.{outputs-next}
 use Rattle.compiler.proofs.allocate.allocate_outputs.Statement.{statement}
 use Rattle.compiler.proofs.allocate.allocate_outputs.Tie as tie
+use Rattle.base.specs.Limits.{portLimit}
 
 abbrev Inv-loop : tie.InvT-loop
 Inv-loop table p at n allocated k outs₀ count q₀ j₀ outs q j =
@@ -70,7 +71,7 @@ near c =
 target-requires : tie.Need-target-requires Inv-loop μ-loop
 target-requires c κs = let (z, j) = near c in let (k, p, few, read) = entry-of-head (c .before) .pre in (few, omega arith, read)
 
-outs-fit : (c : tie.After-location-of Inv-loop μ-loop) → 8 * entry-of-head (loop-of-location c .before) .args .k + loop-of-location c .before .loop .j < 128
+outs-fit : (c : tie.After-location-of Inv-loop μ-loop) → portLimit * entry-of-head (loop-of-location c .before) .args .k + loop-of-location c .before .loop .j < 128
 outs-fit c = let l = loop-of-location c in let (z, j) = near l in let k = entry-of-head (l .before) .pre .0 in omega arith
 
 loop-again : tie.Need-loop-again Inv-loop μ-loop

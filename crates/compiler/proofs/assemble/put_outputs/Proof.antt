@@ -9,6 +9,7 @@ use Rattle.compiler.specs.Emit.{addressOf}
 use Rattle.compiler.proofs.Ending.{Outgoing, out-start, out-room, out-step, out-done}
 use Rattle.compiler.proofs.assemble.put_outputs.Statement.{statement}
 use Rattle.compiler.proofs.assemble.put_outputs.Tie as tie
+use Rattle.base.specs.Limits.{functionLimit, portLimit}
 
 abbrev Inv-loop : tie.InvT-loop
 Inv-loop table entries n outs k ins first code₀ at q₀ here₀ j₀ code q here j = Outgoing table outs ins first (8 * k) n entries code₀ at code q here j
@@ -58,7 +59,7 @@ room c =
     (omega arith, omega arith)
 
 -- the element of `outs`
-output : (c : tie.In-loop Inv-loop μ-loop) → (c .before .loop .j < 8) × (entry-of-head (c .before) .args .k < 16)
+output : (c : tie.In-loop Inv-loop μ-loop) → (c .before .loop .j < portLimit) × (entry-of-head (c .before) .args .k < functionLimit)
 output c = let t = c .loop-test .taken in let (e, n, k, first, low) = entry-of-head (c .before) .pre .0 in (omega arith, k)
 
 put-span-requires : tie.Need-put-span-requires Inv-loop μ-loop

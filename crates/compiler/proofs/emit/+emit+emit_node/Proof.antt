@@ -37,6 +37,7 @@ use Rattle.base.proofs.wide16.Reads as wide16-reads
 use Rattle.reader.proofs.node_at.Reads as node-at-reads
 use Rattle.compiler.proofs.emit.+emit+emit_node.{statement}
 use Rattle.compiler.proofs.emit.+emit+emit_node.Tie.{close}
+use Rattle.base.specs.Limits.{nodeLimit}
 
 -- the position falls from caller to callee; in a function the nodes come below it
 abbrev μ-emit : Measures 7 emit-kinds.ps ℕ
@@ -125,7 +126,7 @@ module _ (t : ℕ) where
       start _ _ _ _ _ _ _ _ room (e .pre .1 .1 .0 (a .k) (omega arith) (words-fit _ (a .order .now) (a .locations .now) _ _ _ _ _ room .1)) (c .wide16 .ensures .0) (d .u16-at .ensures .0 ∙ ap (λ (q : ℕ). u16 (a .table .now) (q + 4)) (place e))
 
   -- the next element of `order`
-  next-node : (c : emit-lts.In-loop (KE t) (emit-at t) emit.Post emit-Inv-loop emit-μ-loop) → 256 * entry-of-head (c .before) .args .k + c .before .loop .i < 4096
+  next-node : (c : emit-lts.In-loop (KE t) (emit-at t) emit.Post emit-Inv-loop emit-μ-loop) → nodeLimit * entry-of-head (c .before) .args .k + c .before .loop .i < 4096
   next-node c =
       let f = few-nodes (c .before .loop .inv) in
       let k = entry-of-head (c .before) .pre .1 .0 .0 in
