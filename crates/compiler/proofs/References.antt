@@ -7,20 +7,21 @@ use native.Mathlib.Omega.{arith}
 use lib.ListN.{length}
 use Rattle.base.specs.Limits.{operandLimit}
 use Rattle.base.specs.Bytes.{byte, u16, Bytes}
-use Rattle.base.specs.Outcome.{Part}
+use Rattle.base.specs.Lists.{Each}
 use Rattle.ports.specs.Kinds.{Kind, kindOf}
 use Rattle.ports.specs.declared.Form.{Form}
 use Rattle.ports.specs.declared.Form.the-variants.{Absent, Constant, References, Call}
 use Rattle.ports.specs.Ports.{portsOf, arity, formOf, calling}
 use Rattle.value.specs.declared.Value.{Value}
 use Rattle.value.specs.Values.{wordsOf, valueOf}
+use Rattle.value.specs.Typed.{Finite}
 use Rattle.value.proofs.Laws.{words-of-value, each-finite}
 use Rattle.graph.specs.Graph as Graph
 use Rattle.graph.specs.Graph.{Ref, consts, refs, calls}
-use Rattle.graph.specs.Formed.{FormedPayload, FormedNode}
+use Rattle.graph.specs.Formed.{FormedPayload}
 use Rattle.graph.specs.Look.{reads}
 use Rattle.graph.specs.Read.{references}
-use Rattle.graph.proofs.Formed.{refs-length, node-formed}
+use Rattle.graph.proofs.Formed.{refs-length}
 use Rattle.reader.specs.declared.Node.{Node}
 use Rattle.reader.specs.declared.Payload.{Payload}
 use Rattle.reader.specs.declared.Payload as Payloads
@@ -28,7 +29,7 @@ use Rattle.reader.specs.declared.Reads.{Reads}
 use Rattle.reader.specs.Layout.{kindAt, payloadAt, nodeAt}
 use Rattle.reader.specs.Records.{payloadOf, argumentsAt, operandsAt, nodeOf}
 use Rattle.reader.specs.Find.{ReadsNode, ReadsOf}
-use Rattle.reader.proofs.Standing.{node-read}
+use Rattle.reader.proofs.Standing.{standing-formed}
 use Rattle.reader.proofs.Rows.{constant-width}
 use Rattle.reader.proofs.AsRead.{calling-call, call-calling, call-reads, other-reads}
 
@@ -65,16 +66,17 @@ module _ (s : List ℕ) (p : ℕ) (n : Node) (e : n ≡ nodeOf (nodeAt s p)) whe
   payload-kept = ap (λ (m : Node). m .payload) e
 
   -- a constant: its words are those of its value, since all of them are finite
-  pub constant-is : Bytes s → ReadsNode s p → (v : Value) → n .payload ≡ Payloads.Payload.Constant v → nodeAt s p .payload ≡ consts (wordsOf v)
-  constant-is small (x, ex) v q =
-      pickOne (nodeAt s p .payload)
-      (subst (λ (y : Part Graph.Node). FormedNode (y .it)) (node-read s p x ex) (node-formed s small p x ex .0) .payload)
-      (sym q ∙ payload-kept)
+  pub constant-is : Bytes s → ReadsNode s p → (v : Value) → n .payload ≡ Payloads.Payload.Constant v
+      → (nodeAt s p .payload ≡ consts (wordsOf v)) × Each Finite (wordsOf v)
+  constant-is small r v q = pickOne (nodeAt s p .payload) (standing-formed s small p r .payload) (sym q ∙ payload-kept)
     where
-      pickOne : (y : Graph.Payload) → FormedPayload kind y → Payloads.Payload.Constant v ≡ payloadOf kind (nodeAt s p .place + 4) y → y ≡ consts (wordsOf v)
+      pickOne : (y : Graph.Payload) → FormedPayload kind y → Payloads.Payload.Constant v ≡ payloadOf kind (nodeAt s p .place + 4) y
+          → (y ≡ consts (wordsOf v)) × Each Finite (wordsOf v)
       pickOne (consts ws) (f, l, t, h) z =
           let a : v ≡ valueOf (portsOf kind .result) ws = cc in
-          ap consts (sym (ap wordsOf a ∙ words-of-value (portsOf kind .result) ws (each-finite ws t h) (l ∙ constant-width (nodeAt s p .kind) f)))
+          let finite = each-finite ws t h in
+          let e : ws ≡ wordsOf v = sym (ap wordsOf a ∙ words-of-value (portsOf kind .result) ws finite (l ∙ constant-width (nodeAt s p .kind) f)) in
+          (ap consts e, subst (Each Finite) e finite)
       pickOne (refs rs) h z = let y : _≡_ {A = ℕ} 0 1 = cc in absurd (omega arith)
       pickOne (calls c rs) h z = let y : _≡_ {A = ℕ} 0 1 = cc in absurd (omega arith)
 

@@ -8,14 +8,18 @@ use lib.ListN.{length, set, length-set}
 use lib.Seq.{sets}
 use Rattle.base.specs.Bytes.{Bytes, allBytes}
 use Rattle.base.specs.Limits.{wordLimit}
+use Rattle.base.specs.Lists.{Each}
 use Rattle.base.proofs.Stands.{all-append}
 use Rattle.base.proofs.Stores.{then-four}
 use Rattle.ports.specs.declared.Ports.{Ports}
 use Rattle.ports.specs.Kinds.{kindOf}
 use Rattle.ports.specs.Ports.{widths, gives, portsOf, resultWords}
 use Rattle.ports.proofs.Laws.{words-given}
+use Rattle.value.specs.declared.Mat4.{Mat4}
 use Rattle.value.specs.declared.Value.{Value}
-use Rattle.value.specs.Values.{wordsOf}
+use Rattle.value.specs.declared.Value.the-variants.{Matrix}
+use Rattle.value.specs.Values.{rowWords, wordsOf}
+use Rattle.value.specs.Typed.{Finite}
 use Rattle.graph.specs.Graph.{Payload, consts, refs}
 use Rattle.graph.specs.Look.{readsOf, reads}
 use Rattle.reader.specs.declared.Node.{Node}
@@ -76,6 +80,12 @@ all-stored l at ws xs ys zs e f g h =
     (all-append 8 (ws ++ xs ++ ys) zs
     ∙ ap (λ (bs : List ℕ). bs ++ allBytes 8 zs) (all-append 8 (ws ++ xs) ys ∙ ap (λ (bs : List ℕ). bs ++ allBytes 8 ys) (all-append 8 ws xs))))
 
+-- the rows of a matrix of finite words
+pub rows-finite : (m : Mat4) → Each Finite (wordsOf (Matrix m))
+    → Each Finite (rowWords (m .r0)) × Each Finite (rowWords (m .r1)) × Each Finite (rowWords (m .r2)) × Each Finite (rowWords (m .r3))
+rows-finite m (a, (b, (c, (d, (e, (f, (g, (h, (i, (j, (k, (l, (n, (o, (p, (q, t)))))))))))))))) =
+    ((a, (b, (c, (d, tt)))), (e, (f, (g, (h, tt)))), (i, (j, (k, (l, tt)))), (n, (o, (p, (q, tt)))))
+
 -- ---- what is written, by another name
 
 module _ {code : List ℕ} {at : ℕ} {o o' : Inlined} (e : o ≡ o') where
@@ -103,9 +113,11 @@ module _ (s locations : List ℕ) (k p c : ℕ) (ins : List ℕ) (first next : �
 
   pub constant-inlined : Bytes s → ReadsNode s p → (v : Value) → n .payload ≡ Payloads.Payload.Constant v
       → (nodeInlined s locations k p c ins first next ≡ single (n .kind) (n .ty) [] (wordsOf v) next) × (length (reads (nodeAt s p)) ≡ 0)
+      × Each Finite (wordsOf v)
   constant-inlined small r v q =
-      let (a, b) = by-payload (consts (wordsOf v)) (constant-is s p n e small r v q) in
-      (a ∙ own-bytes [] (wordsOf v), b)
+      let (c, finite) = constant-is s p n e small r v q in
+      let (a, b) = by-payload (consts (wordsOf v)) c in
+      (a ∙ own-bytes [] (wordsOf v), b, finite)
 
   pub operation-inlined : (r : Reads) → n .payload ≡ Payloads.Payload.References r
       → (nodeInlined s locations k p c ins first next ≡ single (n .kind) (n .ty) (addressesIn locations ins first c (r .count)) [] next)

@@ -6,7 +6,9 @@ ghost use lib.ListN.{length};
 ghost use lib.Seq.{sets};
 ghost use Rattle.base.specs.Limits.{functionLimit, portLimit, referenceLimit, wordLimit, addressLimit};
 ghost use Rattle.base.specs.Bytes.{allBytes};
+ghost use Rattle.base.specs.Lists.{Each};
 ghost use Rattle.value.specs.Values.{wordsOf};
+ghost use Rattle.value.specs.Typed.{Finite};
 ghost use Rattle.graph.specs.Look.{reads};
 ghost use Rattle.reader.specs.Layout.{nodeAt};
 ghost use Rattle.reader.specs.Find.{ReadsNode};
@@ -89,7 +91,7 @@ fn emit_constant(
     at: usize,
     next: usize,
 ) -> Reached
-    requires { ⌜ CodeRoom (now code) at (single kind ty [] (wordsOf v) next) ⌝ }
+    requires { ⌜ CodeRoom (now code) at (single kind ty [] (wordsOf v) next) × Each Finite (wordsOf v) ⌝ }
     ensures { λ r. ⌜ Emits (now (code .entry)) (now (code .exit)) at (single kind ty [] (wordsOf v) next) r ⌝ }
     ensures { λ r. ⌜ r .cell ≡ cell ⌝ }
 {

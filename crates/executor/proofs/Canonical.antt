@@ -1,14 +1,13 @@
 -- Words that instructions give are canonical, and so is every word before the next result.
-use Prim.Native.Nat.{ℕ, suc, _+_, _*_, _%_, _≤_, _<_}
+use Prim.Native.Nat.{ℕ, suc, _+_, _*_, _≤_, _<_}
 use mathlib.Core.Path.{_≡_, refl, ap, sym, _∙_, subst}
-use mathlib.Core.Bool.{Bool, true, false, not}
+use mathlib.Core.Bool.{Bool, true, false}
 use mathlib.Core.List.{List, [], _∷_, _++_}
 use native.Mathlib.Omega.{arith}
 use borrow.Author.Tests.{ltb-true, ltb-false}
-use lib.Dec.{T, ltb}
+use lib.Dec.{ltb}
 use lib.Ieee as Ieee
-use lib.Ieee.{nan, inf, fin, binary64, nanBits, toBits}
-use lib.Ieee.Bits.{nanBits-above}
+use lib.Ieee.{nan, inf, fin, binary64}
 use lib.ListN.{length, set, length-set}
 use lib.Seq.{sets, getD-set-same}
 use Rattle.ports.specs.Kinds.{kindOf}
@@ -19,10 +18,9 @@ use Rattle.value.specs.declared.Value.{Value}
 use Rattle.value.specs.declared.Value.the-variants.{Scalar, Vector, Matrix}
 use Rattle.value.specs.Values.{word, rowWords, wordsOf, allWords}
 use Rattle.base.specs.Lists.{wordAt, wordsAt, Each}
-use Rattle.value.specs.Typed.{TypeCode, Held, RowHeld, ValueHeld, Of, Typed}
+use Rattle.value.specs.Typed.{TypeCode, Canonical, Held, RowHeld, ValueHeld, Of, Typed}
 use Rattle.value.specs.Results.{results}
 use Rattle.value.proofs.Laws.{there, typed-widths, results-typed, value-of, value-at}
-use Rattle.value.proofs.Floats.{nan-read}
 use Rattle.base.specs.Bytes.{constants}
 use Rattle.base.proofs.Bools.{and-inv}
 use Rattle.bytecode.specs.Run.{valuesAt, execute}
@@ -32,27 +30,10 @@ use Rattle.base.proofs.Stores.{sets-below}
 use Rattle.base.proofs.Lists.{each-append}
 use Rattle.bytecode.proofs.Origins.{takes-codes}
 use Rattle.bytecode.specs.WellFormed.{Below}
-use Rattle.executor.specs.Execution.{Canonical, Loadable, AllLoadable, instructionAt, wordsGiven, Executable}
+use Rattle.executor.specs.Execution.{Loadable, AllLoadable, instructionAt, wordsGiven, Executable}
 use Rattle.executor.specs.Instructions.{CanonicalBefore}
 
 -- ---- one word
-
-pub nan-is : (w : ℕ) → w ≡ 0x7FF8_0000_0000_0000 → Ieee.ofBits binary64 w ≡ nan
-nan-is w e = nan-read w (omega arith)
-
-nan-word : toBits binary64 nan ≡ 0x7FF8_0000_0000_0000
-unfolding toBits
-nan-word = refl
-
--- a canonical word that is not the NaN's is no NaN's pattern
-pub regular : (w : ℕ) → Canonical w → (w ≡ 0x7FF8_0000_0000_0000 → ⊥) → T (not (nanBits binary64 w))
-regular w c d = pick (ltb 0x7FF0_0000_0000_0000 (w % 0x8000_0000_0000_0000)) refl
-  where
-    pick : (b : Bool) → ltb 0x7FF0_0000_0000_0000 (w % 0x8000_0000_0000_0000) ≡ b → T (not (nanBits binary64 w))
-    pick true q =
-        let e : Ieee.ofBits binary64 w ≡ nan = nan-read w (ltb-true _ _ q) in
-        absurd (d (sym c ∙ ap (toBits binary64) e ∙ nan-word))
-    pick false q = subst (λ (b : Bool). T (not b)) (sym (nanBits-above binary64 w ∙ q)) tt
 
 -- fmod by zero
 pub remainder-nan : (x : Ieee.Float) → Ieee.rem binary64 x (Ieee.ofBits binary64 0) ≡ nan

@@ -12,7 +12,8 @@ use Rattle.ports.specs.Ports.{width, widths, takes, gives, arity, constantWords
 use Rattle.value.specs.declared.Row.{Row}
 use Rattle.value.specs.declared.Operator.{Operator}
 use Rattle.value.specs.declared.Operator.the-variants.{Add, Subtract, Multiply, Divide, Minimum, Maximum, Absolute, Remainder, Select, Clamp}
-use Rattle.value.specs.Values.{row, word, floatAt}
+use Rattle.value.specs.Values.{row, floatAt}
+use Rattle.value.specs.Typed.{Canonical}
 use Rattle.base.specs.Lists.{wordAt}
 use Rattle.base.specs.Bytes.{u16, u64, constants}
 use Rattle.bytecode.specs.Run.{Instruction, execute}
@@ -67,10 +68,6 @@ abbrev pub scalarsRow : List ℕ → List ℕ → ℕ → Row
 scalarsRow m s at = row (floatAt m (u16 s at)) (floatAt m (u16 s (at + 2))) (floatAt m (u16 s (at + 2 + 2))) (floatAt m (u16 s (at + 2 + 2 + 2)))
 
 -- ---- canonical words
-
--- the word of the float that it stands for: a NaN has one
-abbrev pub Canonical : ℕ → Type 0
-Canonical w = word (Ieee.ofBits binary64 w) ≡ w
 
 -- n words at an address of m, all of them canonical
 pub record Loadable (m : List ℕ) (at n : ℕ) : Type 0 where

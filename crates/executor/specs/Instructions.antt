@@ -8,7 +8,7 @@ use Rattle.base.specs.Limits.{headerLength}
 use Rattle.bytecode.specs.Run.{executeAll}
 use Rattle.bytecode.specs.Code.{Listed, readInstructions}
 use Rattle.base.specs.Lists.{wordAt}
-use Rattle.executor.specs.Execution.{Canonical}
+use Rattle.value.specs.Typed.{Canonical}
 
 -- every word before the next result: a list's operands stand there
 abbrev pub CanonicalBefore : ℕ → List ℕ → Type 0

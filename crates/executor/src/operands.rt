@@ -7,26 +7,17 @@ ghost use lib.Ieee as Ieee;
 ghost use lib.Ieee.{binary64};
 ghost use Rattle.base.specs.Bytes.{u16, u64};
 ghost use Rattle.value.specs.Values.{typeOf, wordsOf, floatAt, vecAt, rowAt, matAt};
-ghost use Rattle.executor.specs.Execution.{Canonical, Loadable, Operand};
+ghost use Rattle.value.specs.Typed.{Canonical};
+ghost use Rattle.executor.specs.Execution.{Loadable, Operand};
 use value::Mat4;
 use value::Row;
 use value::Value;
 use value::Vec3;
+use value::read_word;
 
-// ---- canonical words: a NaN has one pattern
+// ---- canonical words
 
-pub fn read_word(w: u64) -> f64
-    requires { ⌜ Canonical w ⌝ }
-    ensures { λ r. ⌜ r ≡ Ieee.ofBits binary64 w ⌝ }
-{
-    if w == 0x7FF8_0000_0000_0000 {
-        0.0 / 0.0
-    } else {
-        f64::from_bits(w)
-    }
-}
-
-// The same, where fmod by zero makes the NaN: a branch then stands between the components of a vector, so that two words
+// `read_word`, where fmod by zero makes the NaN: a branch then stands between the components of a vector, so that two words
 // that were stored apart are not loaded at once, which stalls a processor.
 pub fn read_apart(w: u64, x: f64) -> f64
     requires { ⌜ Canonical w ⌝ }

@@ -9,9 +9,10 @@ use Rattle.ports.specs.declared.Form.{Form}
 use Rattle.ports.specs.declared.Form as Forms
 use Rattle.ports.specs.declared.Ports.{Ports}
 use Rattle.ports.specs.Ports.{width, portsOf, arity, constantIn, constantWords, formOf, calling, exists, typeFits}
-use Rattle.base.specs.Bytes.{byte, u16, constants}
+use Rattle.base.specs.Bytes.{byte, u16, constants, Bytes}
 use Rattle.base.proofs.Bools.{and-inv}
 use Rattle.value.specs.Values.{valueOf}
+use Rattle.graph.specs.Formed.{FormedPayload}
 use Rattle.graph.specs.Look.{readsOf}
 use Rattle.graph.specs.Read.{references}
 use Rattle.graph.proofs.Formed.{refs-length}
@@ -19,8 +20,10 @@ use Rattle.reader.specs.declared.Reads.{Reads}
 use Rattle.reader.specs.declared.Payload.{Payload}
 use Rattle.reader.specs.declared.Payload.the-variants.{Constant, Call, References}
 use Rattle.reader.specs.Layout.{kindAt, payloadAt, nodeAt, nodeEnd}
-use Rattle.reader.specs.Records.{payloadOf, argumentsAt, operandsAt, readsBy, nodeOf}
+use Rattle.reader.specs.Records.{FiniteWords, payloadOf, argumentsAt, operandsAt, readsBy, nodeOf}
 use Rattle.reader.specs.Find.{ReadsNode, ReadsOf}
+use Rattle.reader.proofs.Words.{finite-words}
+use Rattle.reader.proofs.Standing.{standing-formed}
 use Rattle.reader.proofs.Rows.{operands-few, constant-operands, constant-width, row-some}
 use Rattle.reader.proofs.Passed.{head-fits, end-fits, callee-fits, node-legal, form-is, end-by-form}
 
@@ -62,11 +65,15 @@ module _ (s : List ℕ) (at : ℕ) where
       ap (λ (j : ℕ). record { id = j; place = at; kind = byte s (at + 2); ty = byte s (at + 3); payload = p }) e
       ∙ ap (λ (r : Payload). record { id = u16 s at; place = at; kind = byte s (at + 2); ty = byte s (at + 3); payload = r }) q
 
-  -- a constant's bytes fit
-  pub constant-fits : ReadsNode s at → formOf (kindAt s at) ≡ Forms.Form.Constant → at + 4 + 8 * width (portsOf (kindAt s at) .result) ≤ length s
-  constant-fits r q =
-      subst (λ (n : ℕ). at + 4 + 8 * n ≤ length s) (constant-width (byte s (at + 2)) q)
+  -- a constant's words are finite
+  pub constant-finite : Bytes s → ReadsNode s at → formOf (kindAt s at) ≡ Forms.Form.Constant → FiniteWords s (at + 4) (width (portsOf (kindAt s at) .result))
+  unfolding nodeAt
+  constant-finite small r q =
+      let f : FormedPayload (kindAt s at) (nodeAt s at .payload) = standing-formed s small at r .payload in
+      subst (FiniteWords s (at + 4)) (constant-width (byte s (at + 2)) q)
+      (finite-words s small (at + 4) _
       (subst (λ (n : ℕ). n ≤ length s) (sym (end-by-form s at Forms.Form.Constant q)) (end-fits s at r))
+      (subst (FormedPayload (kindAt s at)) (sym (by Forms.Form.Constant q)) f .2))
 
   -- whether it is a call, by its row
   module _ (row : Ports) (e : row ≡ portsOf (kindAt s at)) where

@@ -1,6 +1,6 @@
 -- Where the reading passed, what stands at a place is what was read.
 use Prim.Native.Nat.{ℕ, zero, suc, _+_, _*_}
-use mathlib.Core.Path.{_≡_, ap, sym, _∙_}
+use mathlib.Core.Path.{_≡_, ap, sym, _∙_, subst}
 use mathlib.Core.List.{List, [], _∷_, reverse, reverseAux}
 use native.Mathlib.Omega.{arith}
 use Rattle.ports.specs.declared.Form.{Form}
@@ -8,13 +8,16 @@ use Rattle.ports.specs.declared.Form.the-variants.{Absent, Constant, References
 use Rattle.ports.specs.Kinds.{Kind}
 use Rattle.ports.specs.Ports.{formOf}
 use Rattle.base.specs.Outcome.{ok, Part}
-use Rattle.base.specs.Bytes.{byte, u16}
+use Rattle.base.specs.Bytes.{byte, u16, Bytes}
 use Rattle.graph.specs.Graph.{Payload, Node, Output, Function}
+use Rattle.graph.specs.Formed.{FormedNode}
 use Rattle.graph.specs.Format.{Format, formatOf}
 use Rattle.graph.specs.Read.{inputs, outputs, payload, node, nodes, function, functions, parse}
 use Rattle.graph.specs.Judge.{table, judgeAll}
+use Rattle.graph.proofs.Formed.{node-formed}
 use Rattle.base.proofs.Outcomes.{took, after, passed, ok-is}
 use Rattle.reader.specs.Layout.{kindAt, payloadAt, payloadEnd, nodeAt, nodeEnd, nodesAt, nodePlace, inputsAt, outputsAt, functionAt, functionEnd, functionsAt, functionPlace, earlier}
+use Rattle.reader.specs.Find.{ReadsNode}
 
 abbrev part : {A : Type 0} → A → ℕ → Part A
 part a n = record { it = a; next = n }
@@ -44,6 +47,10 @@ node-read s at x e =
     let q = payload-read (formOf (kindAt s at)) (kindAt s at) s (at + 4) p ep in
     sym (ok-is e3)
     ∙ ap (λ (y : Part Payload). part (record { id = u16 s at; place = at; kind = byte s (at + 2); type = byte s (at + 3); payload = y .it }) (y .next)) q
+
+-- and it is formed
+pub standing-formed : (s : List ℕ) → Bytes s → (at : ℕ) → ReadsNode s at → FormedNode (nodeAt s at)
+standing-formed s small at (x, e) = subst (λ (y : Part Node). FormedNode (y .it)) (node-read s at x e) (node-formed s small at x e .0)
 
 pub nodes-read : (n : ℕ) (s : List ℕ) (at : ℕ) (p : Part (List Node)) → nodes n s at ≡ ok p → p ≡ part (nodesAt n s at) (nodePlace s at n)
 unfolding nodesAt nodePlace

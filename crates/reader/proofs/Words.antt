@@ -1,20 +1,54 @@
 -- Words of the table, one after another.
-use Prim.Native.Nat.{ℕ, zero, suc, _+_, _*_, _<_}
-use mathlib.Core.Path.{_≡_, ap, sym, _∙_}
+use Prim.Native.Nat.{ℕ, zero, suc, _+_, _*_, _≤_, _<_}
+use mathlib.Core.Path.{_≡_, ap, sym, _∙_, subst}
+use mathlib.Core.Bool.{true}
 use mathlib.Core.List.{List}
 use native.Mathlib.Omega.{arith}
 use native.Mathlib.Nat.{not-suc-le-zero}
 use borrow.Author.Tests.{ne-eqb}
-use lib.ListN.{getD}
+use lib.ListN.{length, getD}
 use lib.Ieee as Ieee
 use lib.Ieee.{Float, binary64}
 use Rattle.value.specs.declared.Row.{Row}
 use Rattle.value.specs.declared.Value.the-variants.{Vector, Matrix}
 use Rattle.ports.specs.Ports.{width}
 use Rattle.value.specs.Values as Values
-use Rattle.value.specs.Values.{vec, row, mat, valueOf}
-use Rattle.reader.specs.Records.{floatConstant, rowAt, matrixAt, vectorAt}
-use Rattle.base.specs.Bytes.{u64, constants}
+use Rattle.value.specs.Values.{vec, row, mat, valueOf, constantWord}
+use Rattle.value.specs.Typed.{Finite, Canonical}
+use Rattle.value.proofs.Laws.{same-word, each-finite}
+use Rattle.base.specs.Bytes.{u64, constants, Bytes}
+use Rattle.base.specs.Lists.{Each, every}
+use Rattle.base.proofs.Stands.{constants-words}
+use Rattle.reader.specs.Records.{FiniteWords, floatConstant, rowAt, matrixAt, vectorAt}
+
+-- ---- finite words
+
+finite-word : (n i : ℕ) (s : List ℕ) (at : ℕ) → i < n → Each Finite (constants n s at) → Finite (u64 s (at + 8 * i))
+finite-word zero i s at l h = absurd (not-suc-le-zero l)
+finite-word (suc n) zero s at l (f, h) = let e : at ≡ at + 8 * 0 = omega arith in subst (λ (a : ℕ). Finite (u64 s a)) e f
+finite-word (suc n) (suc i) s at l (f, h) =
+    let e : at + 8 + 8 * i ≡ at + 8 * suc i = omega arith in
+    subst (λ (a : ℕ). Finite (u64 s a)) e (finite-word n i s (at + 8) (omega arith) h)
+
+-- constants that are allowed
+pub finite-words : (s : List ℕ) → Bytes s → (at n : ℕ) → at + 8 * n ≤ length s → every constantWord (constants n s at) ≡ true → FiniteWords s at n
+finite-words s small at n l e =
+    record { fits = l; finite = λ i h. finite-word n i s at h (each-finite (constants n s at) e (constants-words s small n at)) }
+
+-- m of them, from the k-th on
+pub part : {s : List ℕ} {at n a m : ℕ} (k : ℕ) → FiniteWords s at n → a ≡ at + 8 * k → k + m ≤ n → FiniteWords s a m
+part {s} {at} {n} {a} {m} k h e l =
+    let f = h .fits in
+    record {
+      fits = omega arith;
+      finite = λ i q. let z : at + 8 * (k + i) ≡ a + 8 * i = omega arith in subst (λ (b : ℕ). Finite (u64 s b)) z (h .finite (k + i) (omega arith));
+    }
+
+-- one word
+pub canonical-one : (s : List ℕ) (at w : ℕ) → w ≡ u64 s at → FiniteWords s at 1 → Canonical w
+canonical-one s at w e h =
+    let z : at + 8 * 0 ≡ at = omega arith in
+    same-word w (subst Finite (ap (u64 s) z ∙ sym e) (h .finite 0 (omega arith)))
 
 -- ---- the value that the words stand for
 

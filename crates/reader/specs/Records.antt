@@ -1,5 +1,5 @@
 -- What the readers answer, by the graph's own reading.
-use Prim.Native.Nat.{ℕ, _+_}
+use Prim.Native.Nat.{ℕ, _+_, _*_, _≤_, _<_}
 use mathlib.Core.Bool.{cond}
 use mathlib.Core.List.{List}
 use lib.Dec.{leb}
@@ -13,6 +13,7 @@ use Rattle.value.specs.declared.Vec3.{Vec3}
 use Rattle.value.specs.declared.Row.{Row}
 use Rattle.value.specs.declared.Mat4.{Mat4}
 use Rattle.value.specs.Values.{vec, row, mat, valueOf}
+use Rattle.value.specs.Typed.{Finite}
 use Rattle.base.specs.Outcome.{Outcome, ok, fault, Part}
 use Rattle.graph.specs.Graph as Graph
 use Rattle.graph.specs.Graph.{consts, refs, calls}
@@ -50,6 +51,11 @@ abbrev pub recordAt : List ℕ → ℕ → ℕ → Record
 recordAt s at n = cond (leb (at + n) (length s)) (Record.Ends (at + n)) Record.Short
 
 -- ---- constants
+
+-- n words of eight bytes at a place, all of them finite
+pub record FiniteWords (s : List ℕ) (at n : ℕ) : Type 0 where
+  pub fits : at + 8 * n ≤ length s
+  pub finite : (i : ℕ) → i < n → Finite (u64 s (at + 8 * i))
 
 abbrev pub floatConstant : List ℕ → ℕ → Float
 floatConstant s at = Ieee.ofBits binary64 (u64 s at)

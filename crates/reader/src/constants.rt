@@ -1,30 +1,26 @@
-// A constant of a node, as a value.
+// A constant of a node, as a value. It is finite, so no word is tested for a NaN.
 ghost use mathlib.Core.Path.{_≡_};
-ghost use Prim.Native.Nat.{_+_, _*_, _≤_};
-ghost use lib.ListN.{length};
 ghost use lib.Ieee as Ieee;
 ghost use lib.Ieee.{binary64};
 ghost use Rattle.ports.specs.Ports as PortList;
 ghost use Rattle.value.specs.Values.{valueOf};
 ghost use Rattle.base.specs.Bytes.{u64, constants};
-ghost use Rattle.reader.specs.Records.{rowAt, matrixAt, vectorAt};
+ghost use Rattle.reader.specs.Records.{FiniteWords, rowAt, matrixAt, vectorAt};
 use base::u64_at;
 use value::Mat4;
 use value::Row;
 use value::Value;
 use value::Vec3;
 
-// ---- constants
-
-pub fn float_at(s: &[u8], at: usize) -> f64
-    requires { ⌜ at + 8 ≤ length (now s) ⌝ }
+fn float_at(s: &[u8], at: usize) -> f64
+    requires { ⌜ FiniteWords (now s) at 1 ⌝ }
     ensures { λ r. ⌜ r ≡ Ieee.ofBits binary64 (u64 (now (s .entry)) at) ⌝ }
 {
-    value::float_of(u64_at(s, at))
+    value::read_word(u64_at(s, at))
 }
 
 fn row_at(s: &[u8], at: usize) -> Row
-    requires { ⌜ at + 32 ≤ length (now s) ⌝ }
+    requires { ⌜ FiniteWords (now s) at 4 ⌝ }
     ensures { λ r. ⌜ r ≡ rowAt (now (s .entry)) at ⌝ }
 {
     Row {
@@ -36,7 +32,7 @@ fn row_at(s: &[u8], at: usize) -> Row
 }
 
 fn matrix_at(s: &[u8], at: usize) -> Mat4
-    requires { ⌜ at + 128 ≤ length (now s) ⌝ }
+    requires { ⌜ FiniteWords (now s) at 16 ⌝ }
     ensures { λ r. ⌜ r ≡ matrixAt (now (s .entry)) at ⌝ }
 {
     Mat4 {
@@ -48,7 +44,7 @@ fn matrix_at(s: &[u8], at: usize) -> Mat4
 }
 
 fn vector_at(s: &[u8], at: usize) -> Vec3
-    requires { ⌜ at + 24 ≤ length (now s) ⌝ }
+    requires { ⌜ FiniteWords (now s) at 3 ⌝ }
     ensures { λ r. ⌜ r ≡ vectorAt (now (s .entry)) at ⌝ }
 {
     Vec3 {
@@ -60,7 +56,7 @@ fn vector_at(s: &[u8], at: usize) -> Vec3
 
 // The value of the type that stands at `at`.
 pub fn constant_at(s: &[u8], at: usize, ty: u8) -> Value
-    requires { ⌜ at + 8 * PortList.width ty ≤ length (now s) ⌝ }
+    requires { ⌜ FiniteWords (now s) at (PortList.width ty) ⌝ }
     ensures { λ r. ⌜ r ≡ valueOf ty (constants (PortList.width ty) (now (s .entry)) at) ⌝ }
 {
     if ty == 1 {

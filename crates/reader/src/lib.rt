@@ -6,8 +6,6 @@ mod lookup;
 mod nodes;
 mod records;
 
-pub use constants::constant_at;
-pub use constants::float_at;
 pub use lookup::end_by;
 pub use lookup::find_function;
 pub use lookup::find_node;

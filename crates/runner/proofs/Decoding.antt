@@ -11,6 +11,7 @@ use lib.ListN.{length}
 use lib.Seq.{sets, length-sets}
 use Rattle.base.specs.Lists.{wordAt, every, Word, Each}
 use Rattle.value.specs.Values.{argumentWord}
+use Rattle.value.specs.Typed.{Canonical}
 use Rattle.value.proofs.Laws.{same-word}
 use Rattle.base.specs.Outcome.{Outcome, ok, fault, _>>=_, _>>_, need}
 use Rattle.base.specs.Bytes.{byte, u16}
@@ -25,7 +26,6 @@ use Rattle.bytecode.proofs.Origins.{execute-length}
 use Rattle.runner.specs.declared.Counts.{Counts}
 use Rattle.runner.specs.declared.Checked.the-variants.{Formed, Malformed}
 use Rattle.runner.specs.declared.Ran.the-variants.{Done, Refused}
-use Rattle.executor.specs.Execution.{Canonical}
 use Rattle.executor.specs.Instructions.{CanonicalBefore, afterAll, Instructions}
 use Rattle.executor.proofs.Canonical.{after-sets}
 use Rattle.executor.proofs.Loop.{words-grow}

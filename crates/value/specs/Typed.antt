@@ -1,4 +1,4 @@
--- Values of given types, and words that stand for finite values, as statements.
+-- Values of given types, words that stand for finite values, and canonical words, as statements.
 use Prim.Native.Nat.{ℕ, _≤_}
 use mathlib.Core.Bool.{true}
 use mathlib.Core.List.{List, [], _∷_}
@@ -11,7 +11,7 @@ use Rattle.value.specs.declared.Row.{Row}
 use Rattle.value.specs.declared.Mat4.{Mat4}
 use Rattle.value.specs.declared.Value.{Value}
 use Rattle.value.specs.declared.Value.the-variants.{Scalar, Vector, Matrix}
-use Rattle.value.specs.Values.{typeOf, finite}
+use Rattle.value.specs.Values.{typeOf, word, finite}
 use Rattle.base.specs.Lists.{Word}
 
 abbrev pub TypeCode : ℕ → Type 0
@@ -20,6 +20,10 @@ TypeCode t = (1 ≤ t) × (t ≤ 3)
 -- a word that stands for a finite value
 abbrev pub Finite : ℕ → Type 0
 Finite w = Word w × (finite w ≡ true)
+
+-- the word of the float that it stands for: a NaN has one
+abbrev pub Canonical : ℕ → Type 0
+Canonical w = word (Ieee.ofBits binary64 w) ≡ w
 
 -- ---- floats that binary64 holds
 

@@ -48,7 +48,9 @@ pub use words::argument_word;
 pub use words::constant_word;
 pub use words::constants_allowed;
 pub use words::finite;
+pub use words::finite_word;
 pub use words::float_of;
+pub use words::read_word;
 pub use words::word_of;
 
 pub struct Vec3 {

@@ -8,6 +8,7 @@ ghost use Rattle.base.specs.Bytes.{constants};
 ghost use Rattle.base.specs.Lists.{every};
 ghost use Rattle.value.specs.Values as Values;
 ghost use Rattle.value.specs.Values.{word, constantWord, argumentWord};
+ghost use Rattle.value.specs.Typed.{Finite, Canonical};
 
 // The word of a float: its bit pattern, and one pattern for every NaN.
 pub fn word_of(x: f64) -> u64
@@ -20,11 +21,31 @@ pub fn word_of(x: f64) -> u64
     }
 }
 
+// The same of a float that is finite.
+pub fn finite_word(x: f64) -> u64
+    requires { ⌜ Finite (word x) ⌝ }
+    ensures { λ r. ⌜ r ≡ word x ⌝ }
+{
+    f64::to_bits(x)
+}
+
 // The float of a word, whatever the word.
 pub fn float_of(w: u64) -> f64
     ensures { λ r. ⌜ r ≡ Ieee.ofBits binary64 w ⌝ }
 {
     if 0x7FF0_0000_0000_0000 < w % 0x8000_0000_0000_0000 {
+        0.0 / 0.0
+    } else {
+        f64::from_bits(w)
+    }
+}
+
+// The same of a canonical word: a NaN has one pattern.
+pub fn read_word(w: u64) -> f64
+    requires { ⌜ Canonical w ⌝ }
+    ensures { λ r. ⌜ r ≡ Ieee.ofBits binary64 w ⌝ }
+{
+    if w == 0x7FF8_0000_0000_0000 {
         0.0 / 0.0
     } else {
         f64::from_bits(w)

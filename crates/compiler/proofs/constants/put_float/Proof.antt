@@ -13,7 +13,7 @@ returns c =
     let stored = c .before .before in
     let word = stored .before in
     let a = word .before .before .before .args in
-    stored .put64 .ensures ∙ ap (λ (w : ℕ). sets (now (a .code)) (a .at) (bytesOf 8 w)) (word .word-of .ensures)
+    stored .put64 .ensures ∙ ap (λ (w : ℕ). sets (now (a .code)) (a .at) (bytesOf 8 w)) (word .finite-word .ensures)
 
 pub put-float-spec : {M : Type 1} → statement M
 put-float-spec = tie.close (tie.spec (λ c κs. search needs) (λ c κs. search needs) (λ c. search needs) returns)

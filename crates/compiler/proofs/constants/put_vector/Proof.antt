@@ -7,14 +7,31 @@ use Rattle.base.proofs.Stores.{then-three}
 use Rattle.compiler.proofs.constants.put_vector.Statement.{statement}
 use Rattle.compiler.proofs.constants.put_vector.Tie as tie
 
+-- ---- places: from one back to another
+
+abbrev start-of-first : tie.After-put-float → tie.Start
+start-of-first c = c .before .before .before
+
+abbrev first-of-second : tie.After-put-float-arg2 → tie.After-put-float
+first-of-second c = c .before .before .before
+
+abbrev second-of-third : tie.After-put-float-arg3 → tie.After-put-float2
+second-of-third c = c .before .before .before
+
+abbrev start-of-second : tie.After-put-float-arg2 → tie.Start
+start-of-second c = start-of-first (first-of-second c)
+
+abbrev start-of-third : tie.After-put-float-arg3 → tie.Start
+start-of-third c = start-of-second (second-of-third c .before)
+
+-- ---- needs
+
 returns : tie.Need-returns
 returns c =
     let third = c .before .before in
-    let before-third = third .before .before in
-    let second = before-third .before .before in
-    let before-second = second .before .before in
-    let first = before-second .before .before in
-    let a = first .before .before .before .args in
+    let second = second-of-third (third .before) in
+    let first = first-of-second (second .before) in
+    let a = start-of-first first .args in
     then-three (now (a .code)) (a .at) (bytesOf 8 (word (a .v .x))) (bytesOf 8 (word (a .v .y))) (bytesOf 8 (word (a .v .z)))
     (first .put-float .ensures) (second .put-float2 .ensures) (third .put-float3 .ensures)
 
@@ -22,4 +39,7 @@ pub put-vector-spec : {M : Type 1} → statement M
 put-vector-spec =
     tie.close
     (tie.spec
-    (λ c κs. search needs) (λ c. search needs) (λ c κs. search needs) (λ c. search needs) (λ c κs. search needs) (λ c. search needs) returns)
+    (λ c κs. (search needs, c .before .before .pre .1 .0))
+    (λ c. search needs) (λ c κs. (search needs, start-of-second c .pre .1 .1 .0))
+    (λ c. search needs) (λ c κs. (search needs, start-of-third c .pre .1 .1 .1 .0))
+    (λ c. search needs) returns)

@@ -10,7 +10,9 @@ use Rattle.base.specs.Bytes.{byte, u16}
 use Rattle.graph.specs.Look.{reads}
 use Rattle.reader.specs.Layout.{kindAt, nodeAt}
 use Rattle.reader.proofs.Passed.{callee-fits, function-fits}
+use Rattle.base.specs.Lists.{Each}
 use Rattle.value.specs.Values.{wordsOf}
+use Rattle.value.specs.Typed.{Finite}
 use Rattle.lowering.specs.Compile.{single}
 use Rattle.compiler.specs.Emit.{addressesIn, nodeInlined, functionInlined}
 use Rattle.sums.specs.Position.{placeOf}
@@ -216,6 +218,7 @@ module _ (t : ℕ) where
       let n = r .node-at .result in
       (nodeInlined (a .table .now) (a .locations .now) (a .k) (a .p) (a .cell) (a .ins .now) (a .first) (a .next) ≡ single (n .kind) (n .ty) [] (wordsOf (c .before .payload .given .0 .0)) (a .next))
       × (length (reads (nodeAt (a .table .now) (a .p))) ≡ 0)
+      × Each Finite (wordsOf (c .before .payload .given .0 .0))
   constant c =
       let r = node-of-constant c in
       let e = entry-of-node r in
@@ -224,12 +227,14 @@ module _ (t : ℕ) where
       (λ q. omega (arith, r .before .before .shared-slice-known .given q)) (e .pre .1 .0 .2) _ (c .before .payload .given .1)
 
   emit-node-emit-constant-requires : emit-node-lts.Need-emit-constant-requires (KN t) (emit-node-at t) emit-node.Post
-  emit-node-emit-constant-requires c κs = same-room (constant (c .before) .0) (entry-of-node (node-of-constant (c .before)) .pre .1 .1 .1 .1)
+  emit-node-emit-constant-requires c κs =
+      let (o, l, finite) = constant (c .before) in
+      (same-room o (entry-of-node (node-of-constant (c .before)) .pre .1 .1 .1 .1), finite)
 
   emit-node-returns : emit-node-lts.Need-returns (KN t) (emit-node-at t) emit-node.Post
   emit-node-returns c =
       let v = c .before .before .emit-constant in
-      let (o, l) = constant (constant-of-return c) in
+      let (o, l, finite) = constant (constant-of-return c) in
       (same-emits o (v .ensures .0), v .ensures .1 ∙ omega (arith, l))
 
   -- ---- an operation

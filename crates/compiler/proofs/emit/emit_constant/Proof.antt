@@ -27,11 +27,11 @@ fits : (c : tie.After-result-words) →
     (a .at + 2 + 8 * length (wordsOf (a .v)) ≤ length (a .code .now)) × (a .next + c .result-words .result ≤ wordLimit)
 fits c =
     let b = entry-of-words c in
-    let (x, y) = single-fits (b .args .kind) (b .args .ty) [] (wordsOf (b .args .v)) (c .before .ports-of .ensures) (c .result-words .ensures .0) (b .pre) in
+    let (x, y) = single-fits (b .args .kind) (b .args .ty) [] (wordsOf (b .args .v)) (c .before .ports-of .ensures) (c .result-words .ensures .0) (b .pre .0) in
     (omega arith, y)
 
 put-constant-requires : tie.Need-put-constant-requires
-put-constant-requires c κs = let (x, y) = fits (c .before) in simp length-set (omega arith)
+put-constant-requires c κs = let (x, y) = fits (c .before) in (simp length-set (omega arith), entry-of-words (c .before) .pre .1)
 
 same-length : tie.Need-same-length
 same-length c =

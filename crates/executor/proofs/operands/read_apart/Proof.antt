@@ -1,6 +1,7 @@
 -- `executor::operands::read_apart`: a canonical word that is not the NaN's stands for no NaN.
 use mathlib.Core.Path.{sym, _∙_}
-use Rattle.executor.proofs.Canonical.{nan-is, regular, remainder-nan}
+use Rattle.value.proofs.Floats.{nan-is, regular}
+use Rattle.executor.proofs.Canonical.{remainder-nan}
 use Rattle.executor.proofs.operands.read_apart.Statement.{statement}
 use Rattle.executor.proofs.operands.read_apart.Tie as tie
 use borrow.Author.Needs.{needs}

@@ -1,7 +1,6 @@
-use Prim.Native.Nat.{ℕ, _+_, _*_, _≤_}
 use mathlib.Core.Path.{ap, _∙_, subst}
-use lib.ListN.{length}
 use Rattle.value.specs.declared.Value.the-variants.{Scalar, Vector, Matrix}
+use Rattle.reader.specs.Records.{FiniteWords}
 use Rattle.reader.proofs.Words.{vector-constant, other-constant}
 use Rattle.reader.proofs.constants.constant_at.Statement.{statement}
 use Rattle.reader.proofs.constants.constant_at.Tie as tie
@@ -16,10 +15,10 @@ returns-3 c =
     let a = k .before .args in
     ap Matrix (c .matrix-at .ensures) ∙ other-constant (a .s .now) (a .at) (a .ty) (c .before .before .if1 .left) (c .before .if2 .left)
 
-matrix-fits : tie.Need-matrix-at-requires
-matrix-fits c κs =
+matrix-finite : tie.Need-matrix-at-requires
+matrix-finite c κs =
     let a = c .before .before .before .args in
-    subst (λ (n : ℕ). a .at + 8 * n ≤ length (a .s .now)) (width-else (a .ty) (c .before .if1 .left) (c .if2 .left)) (c .before .before .before .pre)
+    subst (FiniteWords (a .s .now) (a .at)) (width-else (a .ty) (c .before .if1 .left) (c .if2 .left)) (c .before .before .before .pre)
 
 pub constant-at-spec : {M : Type 1} → statement M
 constant-at-spec =
@@ -27,7 +26,7 @@ constant-at-spec =
     (tie.spec
     (λ c κs. rw (c .if1 .taken) at (c .before .before .pre))
     (λ c κs. rw (c .if2 .taken) at (c .before .before .before .pre))
-    matrix-fits
+    matrix-finite
     (λ c. ap Scalar (c .float-at .ensures) ∙ rw (c .before .if1 .taken))
     returns-2
     returns-3)

@@ -1,6 +1,18 @@
-use borrow.Author.Needs.{needs}
+use mathlib.Core.Path.{refl}
+use native.Mathlib.Omega.{arith}
+use Rattle.reader.proofs.Words.{part}
 use Rattle.reader.proofs.constants.vector_at.Statement.{statement}
 use Rattle.reader.proofs.constants.vector_at.Tie as tie
+
+-- ---- places
+
+abbrev start-of-first : tie.After-float-at → tie.Start
+start-of-first c = c .before .before
+
+abbrev start-of-second : tie.After-float-at2 → tie.Start
+start-of-second c = start-of-first (c .before)
+
+-- ---- needs
 
 returns : tie.Need-returns
 returns c = rw (c .before .before .float-at .ensures, c .before .float-at2 .ensures, c .float-at3 .ensures)
@@ -9,9 +21,9 @@ pub vector-at-spec : {M : Type 1} → statement M
 vector-at-spec =
     tie.close
     (tie.spec
-    (λ c κs. search needs)
-    (λ c. search needs)
-    (λ c κs. search needs)
-    (λ c. search needs)
-    (λ c κs. search needs)
+    (λ c κs. part 0 (c .before .pre) (omega arith) (omega arith))
+    (λ c. omega (arith, start-of-first c .pre .fits))
+    (λ c κs. part 1 (start-of-first c .pre) refl (omega arith))
+    (λ c. omega (arith, start-of-second c .pre .fits))
+    (λ c κs. part 2 (start-of-second c .pre) refl (omega arith))
     returns)

@@ -1,5 +1,5 @@
 use borrow.Author.Needs.{needs}
-use Prim.Native.Nat.{ℕ, _+_, _*_, _≤_}
+use Prim.Native.Nat.{ℕ, _+_, _≤_}
 use mathlib.Core.Path.{_≡_, sym, ap, _∙_, subst}
 use native.Mathlib.Omega.{arith}
 use lib.ListN.{length}
@@ -11,9 +11,9 @@ use Rattle.value.specs.Values.{valueOf}
 use Rattle.reader.specs.declared.Reads.{Reads}
 use Rattle.reader.specs.declared.Payload.the-variants.{Constant, Call, References}
 use Rattle.reader.specs.Layout.{kindAt}
-use Rattle.reader.specs.Records.{operandsAt}
+use Rattle.reader.specs.Records.{FiniteWords, operandsAt}
 use Rattle.reader.proofs.Passed.{head-fits, form-is}
-use Rattle.reader.proofs.AsRead.{kept-absent, kept-constant, kept-references, kept-call, constant-fits}
+use Rattle.reader.proofs.AsRead.{kept-absent, kept-constant, kept-references, kept-call, constant-finite}
 use Rattle.reader.proofs.nodes.payload_at.Statement.{statement}
 use Rattle.reader.proofs.nodes.payload_at.Tie as tie
 
@@ -24,13 +24,12 @@ form b h e = form-is (b .args .s .now) (b .args .at) (b .args .row) (b .pre .1) 
 room : (b : tie.Start) → b .args .at + 4 ≤ length (b .args .s .now)
 room b = head-fits (b .args .s .now) (b .args .at) (b .pre .0)
 
--- the constant's bytes fit
-constant-room : tie.Need-constant-at-requires
-constant-room c κs =
+constant-requires : tie.Need-constant-at-requires
+constant-requires c κs =
     let b = c .before .before .before in
     let a = b .args in
-    subst (λ (r : Ports). a .at + 4 + 8 * width (r .result) ≤ length (a .s .now)) (sym (b .pre .1))
-    (constant-fits (a .s .now) (a .at) (b .pre .0) (form b _ (c .enum-told2 .given .1)))
+    subst (λ (r : Ports). FiniteWords (a .s .now) (a .at + 4) (width (r .result))) (sym (b .pre .1))
+    (constant-finite (a .s .now) (a .at) (λ q. omega (arith, c .before .before .shared-slice-known .given q)) (b .pre .0) (form b _ (c .enum-told2 .given .1)))
 
 returns : tie.Need-returns
 returns c = let b = c .before .before .before in kept-absent (b .args .s .now) (b .args .at) (form b _ (c .enum-told .given .1))
@@ -70,7 +69,7 @@ payload-at-spec =
     (λ c. omega (arith, room (c .before .before .before)))
     (λ c. search needs)
     (λ c. omega (arith, room (c .before .before .before)))
-    constant-room
+    constant-requires
     (λ c. search needs)
     (λ c κs. let b = c .before .before .before in (b .pre .0, b .pre .1, c .enum-told3 .given .1))
     (λ c. search needs)

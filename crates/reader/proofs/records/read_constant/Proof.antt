@@ -1,6 +1,7 @@
 use borrow.Author.Needs.{needs}
 use Prim.Native.Nat.{ℕ, _+_, _*_, _≤_}
 use mathlib.Core.Path.{_≡_, ap, sym, _∙_, subst}
+use native.Mathlib.Omega.{arith}
 use lib.ListN.{length}
 use borrow.Author.Tests.{not-true, not-false}
 use Rattle.ports.specs.Kinds.{kindOf}
@@ -12,9 +13,10 @@ use Rattle.value.specs.declared.Value.{Value}
 use Rattle.base.specs.Bytes.{constants}
 use Rattle.reader.specs.declared.Payload as Payloads
 use Rattle.reader.specs.declared.PayloadRead.{PayloadRead}
-use Rattle.reader.specs.Records.{payloadRead}
+use Rattle.reader.specs.Records.{FiniteWords, payloadRead}
 use Rattle.reader.proofs.Extents.{ends, short}
 use Rattle.reader.proofs.Payloads.{constant-short, constant-infinite, constant-read}
+use Rattle.reader.proofs.Words.{finite-words}
 use Rattle.reader.proofs.Rows.{constant-width}
 use Rattle.reader.proofs.records.read_constant.Statement.{statement}
 use Rattle.reader.proofs.records.read_constant.Tie as tie
@@ -57,6 +59,15 @@ returns-2 c =
     ap (payloadRead (kindOf (a .kind)) (a .at))
     (sym (constant-infinite (a .s .now) (a .at) (kindOf (a .kind)) _ (words w) (room d .0) (sym (c .before .constants-allowed .ensures) ∙ not-true _ (c .if1 .taken))))
 
+constant-requires : tie.Need-constant-at-requires
+constant-requires c κs =
+    let f = c .before in
+    let d = f .before in
+    let w = width-of-record d in
+    let a = start w .args in
+    subst (FiniteWords (a .s .now) (a .at)) (w .width .ensures .0)
+    (finite-words (a .s .now) (λ q. omega (arith, w .before .shared-slice-known .given q)) (a .at) _ (room d .0) (sym (f .constants-allowed .ensures) ∙ not-false _ (c .if1 .left)))
+
 returns-3 : tie.Need-returns-3
 returns-3 c =
     let f = c .before .before in
@@ -84,8 +95,5 @@ read-constant-spec =
     returns
     (λ c κs. room c .0)
     returns-2
-    (λ c κs. let d = c .before .before in
-    let w = width-of-record d in
-    let a = start w .args in
-    subst (λ (n : ℕ). a .at + 8 * n ≤ length (a .s .now)) (w .width .ensures .0) (room d .0))
+    constant-requires
     returns-3)
