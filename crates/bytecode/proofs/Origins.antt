@@ -13,7 +13,7 @@ use lib.Seq.{sets, length-sets, take-at, drop-at, getD-append-add}
 use borrow.Author.Tests.{eqb-true, ne-eqb, ltb-true, ltb-false}
 use Rattle.value.specs.declared.Value.{Value}
 use Rattle.ports.specs.Kinds.{Kind, kindOf}
-use Rattle.ports.specs.Ports.{width, isType, portsOf, own, types, takes, gives, formOf, executable, typeFits}
+use Rattle.ports.specs.Ports.{width, isType, portsOf, own, types, takes, gives, formOf, hasType, executable, typeFits}
 use Rattle.ports.proofs.Table.{every-kind}
 use Rattle.value.specs.Values.{allWords, valueOf, valuesOf}
 use Rattle.base.specs.Lists.{wordAt, span, wordsAt, Each}
@@ -83,7 +83,7 @@ codes-by false n p q t e h = ⊎-elim
 pub takes-codes : (k : Kind) (t : ℕ) → typeFits (portsOf k) t ≡ true → Each TypeCode (takes k t)
 takes-codes k t e =
     let r = portsOf k in
-    codes-by (r .typed) (r .operands) (r .first) (r .rest) t (every-kind (λ k. let r = portsOf k in operandTypes (r .typed) (r .operands) (r .first) (r .rest)) refl k) e
+    codes-by (hasType r) (r .operands) (r .first) (r .rest) t (every-kind (λ k. let r = portsOf k in operandTypes (hasType r) (r .operands) (r .first) (r .rest)) refl k) e
 
 given-width : (words : ℕ) (i : Instruction) (ws : List ℕ) → Roomy words i → length (allWords (fromWords i ws)) ≡ resultWidth i
 given-width words i ws r =

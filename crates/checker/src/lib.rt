@@ -71,7 +71,8 @@ fn loop_free(s: &[u8], f: Head, targets: &[u16; SLOT_LIMIT]) -> Seen
 
 // ---- a function, and the table
 
-// The function at `place`, after those at the first k places of `starts`; `targets` is room to work in. One that is good leaves the places of its nodes.
+// The function at `place`, after those at the first k places of `starts`; `targets` is room to work in. One that is
+// good leaves the places of its nodes.
 fn judge_function(
     s: &[u8],
     starts: &[usize; FUNCTION_LIMIT],

@@ -30,7 +30,7 @@ fn put_vector(code: &mut [u8], at: usize, v: Vec3)
     put_float(code, at + 16, v.z);
 }
 
-fn put_row(code: &mut [u8], at: usize, v: Row)
+fn put_matrix_row(code: &mut [u8], at: usize, v: Row)
     requires { ⌜ (at + 32 ≤ length (now code)) × Each Finite (rowWords v) ⌝ }
     ensures { λ _. ⌜ now (code .exit) ≡ sets (now (code .entry)) at (allBytes 8 (rowWords v)) ⌝ }
 {
@@ -44,10 +44,10 @@ fn put_matrix(code: &mut [u8], at: usize, v: Mat4)
     requires { ⌜ (at + 128 ≤ length (now code)) × Each Finite (wordsOf (Value.Matrix v)) ⌝ }
     ensures { λ _. ⌜ now (code .exit) ≡ sets (now (code .entry)) at (allBytes 8 (wordsOf (Value.Matrix v))) ⌝ }
 {
-    put_row(code, at, v.r0);
-    put_row(code, at + 32, v.r1);
-    put_row(code, at + 64, v.r2);
-    put_row(code, at + 96, v.r3);
+    put_matrix_row(code, at, v.r0);
+    put_matrix_row(code, at + 32, v.r1);
+    put_matrix_row(code, at + 64, v.r2);
+    put_matrix_row(code, at + 96, v.r3);
 }
 
 // The words of a value, and the place behind them.

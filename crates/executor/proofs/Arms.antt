@@ -9,7 +9,7 @@ use lib.Dec.{eqb, leb}
 use lib.ListN.{length, replicate}
 use Rattle.ports.specs.Kinds.{kindOf}
 use Rattle.ports.specs.declared.Ports.{Ports}
-use Rattle.ports.specs.Ports.{width, takes, arity, isType, typeFits, portsOf, executable, legalInstruction}
+use Rattle.ports.specs.Ports.{width, takes, arity, isType, hasType, typeFits, portsOf, executable, legalInstruction}
 use Rattle.ports.proofs.Laws.{no-kind}
 use Rattle.ports.proofs.Table.{upto, upto-at, NoneOf, anyOf, last-of}
 use Rattle.value.specs.declared.Operator.{Operator}
@@ -110,4 +110,4 @@ last-fits true t e r =
 last-fits false t e r = absurd (r .0 .0 .1 (eqb-true t 0 e))
 
 pub last-type : {k t : ℕ} {s : List ℕ} {at result : ℕ} {m : List ℕ} → Executable k t s at result m → NoneOf (2 ∷ 1 ∷ 0 ∷ []) t → t ≡ 3
-last-type {k} {t} h r = last-fits (portsOf (kindOf k) .typed) t (and-inv (executable (portsOf (kindOf k) .form)) _ (h .legal) .1) r
+last-type {k} {t} h r = last-fits (hasType (portsOf (kindOf k))) t (and-inv (executable (portsOf (kindOf k) .form)) _ (h .legal) .1) r

@@ -11,7 +11,7 @@ use Rattle.base.specs.Limits.{kindLimit, valueLimit}
 use Rattle.base.proofs.Bools.{and-inv}
 use Rattle.ports.specs.declared.Ports.{Ports}
 use Rattle.ports.specs.Kinds.{Kind, unknown, kinds, kindOf}
-use Rattle.ports.specs.Ports.{width, widths, absent, portsOf, portsAt, types, takes, own, gives, arity, resultWords, exists, formOf, typeFits, legal}
+use Rattle.ports.specs.Ports.{width, widths, absent, portsOf, portsAt, types, takes, own, gives, arity, hasType, resultWords, exists, formOf, typeFits, legal}
 use Rattle.ports.proofs.Table.{upto-at, every-kind, NoneOf, anyOf, last-of, downFrom}
 
 pub row-of : (k : ℕ) → portsAt k ≡ portsOf (kindOf k)
@@ -58,7 +58,7 @@ words-by false n p w t e = pick (eqb p 0) e
 pub words-given : (k : Kind) (t : ℕ) → resultWords (portsOf k) t ≡ widths (gives k t)
 words-given k t =
     let r = portsOf k in
-    words-by (r .typed) (r .results) (r .result) (r .words) t (every-kind (λ k. let r = portsOf k in wordsWritten (r .typed) (r .results) (r .result) (r .words)) refl k)
+    words-by (hasType r) (r .results) (r .result) (r .words) t (every-kind (λ k. let r = portsOf k in wordsWritten (hasType r) (r .results) (r .result) (r .words)) refl k)
 
 width-most : (p q : Bool) → cond p 1 (cond q 3 16) ≤ 16
 width-most true q = omega arith
@@ -70,7 +70,7 @@ width-few t = width-most (eqb t 1) (eqb t 2)
 
 -- and no kind gives more words than a matrix has
 pub words-few : (k : Kind) (t : ℕ) → widths (gives k t) ≤ valueLimit
-words-few k t = subst (λ (n : ℕ). n ≤ valueLimit) (words-given k t) (pick (portsOf k .typed))
+words-few k t = subst (λ (n : ℕ). n ≤ valueLimit) (words-given k t) (pick (hasType (portsOf k)))
   where
     pick : (b : Bool) → cond b (width t) (portsOf k .words) ≤ valueLimit
     pick true = width-few t

@@ -1,5 +1,5 @@
 -- 01's port list: a row for each kind, and what is read from a row.
-use Prim.Native.Nat.{ℕ, zero, suc, _+_}
+use Prim.Native.Nat.{ℕ, zero, suc, _+_, _*_}
 use mathlib.Core.Bool.{Bool, true, false, _&&_, cond}
 use mathlib.Core.List.{List, [], _∷_, map}
 use lib.Dec.{leb, eqb}
@@ -31,22 +31,22 @@ widths (t ∷ ts) = width t + widths ts
 abbrev pub isType : ℕ → Bool
 isType t = leb typeS t && leb t typeM
 
--- ---- rows
+-- ---- rows: .bytes are those behind a node's head, for a call those before its references
 
 -- no such kind
 abbrev pub absent : Ports
-absent = record { form = Absent; typed = false; operands = 0; first = 0; rest = 0; results = 0; result = 0; words = 0 }
+absent = record { form = Absent; bytes = 0; operands = 0; first = 0; rest = 0; results = 0; result = 0; words = 0 }
 
 -- T, .., T to T
 abbrev pub typed : ℕ → Ports
-typed n = record { form = References; typed = true; operands = n; first = 0; rest = 0; results = 1; result = 0; words = 0 }
+typed n = record { form = References; bytes = 3 * n; operands = n; first = 0; rest = 0; results = 1; result = 0; words = 0 }
 
 -- n operands, the first of the type a and the others of the type b, to one result of the type r
 abbrev pub plain : ℕ → ℕ → ℕ → ℕ → Ports
-plain n a b r = record { form = References; typed = false; operands = n; first = a; rest = b; results = 1; result = r; words = width r }
+plain n a b r = record { form = References; bytes = 3 * n; operands = n; first = a; rest = b; results = 1; result = r; words = width r }
 
 abbrev pub constantOf : ℕ → Ports
-constantOf r = record { form = Constant; typed = false; operands = 0; first = 0; rest = 0; results = 1; result = r; words = width r }
+constantOf r = record { form = Constant; bytes = 8 * width r; operands = 0; first = 0; rest = 0; results = 1; result = r; words = width r }
 
 abbrev pub portsOf : Kind → Ports
 portsOf unknown = absent
@@ -59,7 +59,7 @@ portsOf constvec = constantOf typeV
 portsOf constmat = constantOf typeM
 portsOf composevector = plain 3 typeS typeS typeV
 portsOf vectorfromscalar = plain 1 typeS typeS typeV
-portsOf decomposevector = record { form = References; typed = false; operands = 1; first = typeV; rest = typeV; results = 3; result = typeS; words = 3 }
+portsOf decomposevector = record { form = References; bytes = 3; operands = 1; first = typeV; rest = typeV; results = 3; result = typeS; words = 3 }
 portsOf composematrix = plain 16 typeS typeS typeM
 portsOf matrixfromcolumns = plain 4 typeV typeV typeM
 portsOf matrixfromrows = plain 4 typeV typeV typeM
@@ -73,7 +73,7 @@ portsOf abs = typed 1
 portsOf fmod = typed 2
 portsOf select = typed 4
 portsOf clamp = typed 3
-portsOf call = record { form = Call; typed = false; operands = 0; first = 0; rest = 0; results = 0; result = 0; words = 0 }
+portsOf call = record { form = Call; bytes = 3; operands = 0; first = 0; rest = 0; results = 0; result = 0; words = 0 }
 
 -- the same list by the kinds' numbers
 abbrev pub rows : List Ports
@@ -111,9 +111,13 @@ gives k t = givesRow (portsOf k) t
 abbrev pub arity : Kind → ℕ
 arity k = portsOf k .operands
 
+-- whether a kind has T: it stands at the first operand
+abbrev pub hasType : Ports → Bool
+hasType r = eqb (r .first) 0 && leb 1 (r .operands)
+
 -- the words of all results
 abbrev pub resultWords : Ports → ℕ → ℕ
-resultWords r t = cond (r .typed) (width t) (r .words)
+resultWords r t = cond (hasType r) (width t) (r .words)
 
 abbrev pub formOf : Kind → Form
 formOf k = portsOf k .form
@@ -151,7 +155,7 @@ executable Call = false
 
 -- a type byte that the kind may have
 abbrev pub typeFits : Ports → ℕ → Bool
-typeFits r t = cond (r .typed) (isType t) (eqb t 0)
+typeFits r t = cond (hasType r) (isType t) (eqb t 0)
 
 -- a kind, with a type byte that it may have
 abbrev pub legal : Kind → ℕ → Bool

@@ -3,7 +3,7 @@ ghost use mathlib.Core.Path.{_≡_};
 ghost use Prim.Native.Nat.{_<_, _≤_};
 ghost use Rattle.ports.specs.Kinds.{kindOf};
 ghost use Rattle.ports.specs.Ports as Definition;
-ghost use Rattle.ports.specs.Ports.{typeFits, constantIn, calling};
+ghost use Rattle.ports.specs.Ports.{hasType, typeFits, constantIn, calling};
 use super::Form;
 use super::Ports;
 use super::ports_of;
@@ -34,11 +34,18 @@ pub fn is_type(ty: u8) -> bool
     if 1 <= ty { ty <= 3 } else { false }
 }
 
+// Whether a kind with this row has T: it stands at the first operand.
+pub fn has_type(row: Ports) -> bool
+    ensures { λ r. ⌜ r ≡ hasType row ⌝ }
+{
+    if row.first == 0 { 1 <= row.operands } else { false }
+}
+
 // A type byte that a kind with this row may have.
 pub fn type_fits(row: Ports, ty: u8) -> bool
     ensures { λ r. ⌜ r ≡ typeFits row ty ⌝ }
 {
-    if row.typed { is_type(ty) } else { ty == 0 }
+    if has_type(row) { is_type(ty) } else { ty == 0 }
 }
 
 // The words of all results of a node of this row and type byte.
@@ -46,7 +53,7 @@ pub fn result_words(row: Ports, ty: u8) -> usize
     ensures { λ r. ⌜ r ≡ Definition.resultWords row ty ⌝ }
     ensures bounded { λ r. ⌜ r < 256 ⌝ }
 {
-    if row.typed {
+    if has_type(row) {
         width(ty)
     } else {
         row.words as usize

@@ -10,6 +10,7 @@ mod derived;
 pub use derived::constant_words;
 pub use derived::executable;
 pub use derived::exists;
+pub use derived::has_type;
 pub use derived::is_call;
 pub use derived::is_type;
 pub use derived::legal;
@@ -26,11 +27,12 @@ pub enum Form {
     Call,
 }
 
-// A row: the kind's form, whether it has T, its operands with the type of the first and of the others, its results
-// with their type, and the words of all results. Type 0 stands for T; a kind with T has words 0.
+// A row: the kind's form, the bytes behind a node's head (of a call those before its references), its operands with
+// the type of the first and of the others, its results with their type, and the words of all results. Type 0 stands
+// for T; a kind with T has words 0.
 pub struct Ports {
     pub form: Form,
-    pub typed: bool,
+    pub bytes: u8,
     pub operands: u8,
     pub first: u8,
     pub rest: u8,
@@ -41,7 +43,7 @@ pub struct Ports {
 
 const ABSENT: Ports = Ports {
     form: Form::Absent,
-    typed: false,
+    bytes: 0,
     operands: 0,
     first: 0,
     rest: 0,
@@ -52,7 +54,7 @@ const ABSENT: Ports = Ports {
 
 const TYPED_1: Ports = Ports {
     form: Form::References,
-    typed: true,
+    bytes: 3,
     operands: 1,
     first: 0,
     rest: 0,
@@ -63,7 +65,7 @@ const TYPED_1: Ports = Ports {
 
 const TYPED_2: Ports = Ports {
     form: Form::References,
-    typed: true,
+    bytes: 6,
     operands: 2,
     first: 0,
     rest: 0,
@@ -74,7 +76,7 @@ const TYPED_2: Ports = Ports {
 
 const TYPED_3: Ports = Ports {
     form: Form::References,
-    typed: true,
+    bytes: 9,
     operands: 3,
     first: 0,
     rest: 0,
@@ -85,7 +87,7 @@ const TYPED_3: Ports = Ports {
 
 const TYPED_4: Ports = Ports {
     form: Form::References,
-    typed: true,
+    bytes: 12,
     operands: 4,
     first: 0,
     rest: 0,
@@ -96,7 +98,7 @@ const TYPED_4: Ports = Ports {
 
 const CONSTANT: Ports = Ports {
     form: Form::Constant,
-    typed: false,
+    bytes: 8,
     operands: 0,
     first: 0,
     rest: 0,
@@ -107,7 +109,7 @@ const CONSTANT: Ports = Ports {
 
 const CONSTVEC: Ports = Ports {
     form: Form::Constant,
-    typed: false,
+    bytes: 24,
     operands: 0,
     first: 0,
     rest: 0,
@@ -118,7 +120,7 @@ const CONSTVEC: Ports = Ports {
 
 const CONSTMAT: Ports = Ports {
     form: Form::Constant,
-    typed: false,
+    bytes: 128,
     operands: 0,
     first: 0,
     rest: 0,
@@ -129,7 +131,7 @@ const CONSTMAT: Ports = Ports {
 
 const COMPOSE_VECTOR: Ports = Ports {
     form: Form::References,
-    typed: false,
+    bytes: 9,
     operands: 3,
     first: 1,
     rest: 1,
@@ -140,7 +142,7 @@ const COMPOSE_VECTOR: Ports = Ports {
 
 const VECTOR_FROM_SCALAR: Ports = Ports {
     form: Form::References,
-    typed: false,
+    bytes: 3,
     operands: 1,
     first: 1,
     rest: 1,
@@ -151,7 +153,7 @@ const VECTOR_FROM_SCALAR: Ports = Ports {
 
 const DECOMPOSE_VECTOR: Ports = Ports {
     form: Form::References,
-    typed: false,
+    bytes: 3,
     operands: 1,
     first: 2,
     rest: 2,
@@ -162,7 +164,7 @@ const DECOMPOSE_VECTOR: Ports = Ports {
 
 const COMPOSE_MATRIX: Ports = Ports {
     form: Form::References,
-    typed: false,
+    bytes: 48,
     operands: 16,
     first: 1,
     rest: 1,
@@ -173,7 +175,7 @@ const COMPOSE_MATRIX: Ports = Ports {
 
 const MATRIX_FROM_VECTORS: Ports = Ports {
     form: Form::References,
-    typed: false,
+    bytes: 12,
     operands: 4,
     first: 2,
     rest: 2,
@@ -184,7 +186,7 @@ const MATRIX_FROM_VECTORS: Ports = Ports {
 
 const DOT: Ports = Ports {
     form: Form::References,
-    typed: false,
+    bytes: 6,
     operands: 2,
     first: 2,
     rest: 2,
@@ -195,7 +197,7 @@ const DOT: Ports = Ports {
 
 const CROSS: Ports = Ports {
     form: Form::References,
-    typed: false,
+    bytes: 6,
     operands: 2,
     first: 2,
     rest: 2,
@@ -206,7 +208,7 @@ const CROSS: Ports = Ports {
 
 const MATVEC: Ports = Ports {
     form: Form::References,
-    typed: false,
+    bytes: 6,
     operands: 2,
     first: 3,
     rest: 2,
@@ -217,7 +219,7 @@ const MATVEC: Ports = Ports {
 
 const TRANSPOSE: Ports = Ports {
     form: Form::References,
-    typed: false,
+    bytes: 3,
     operands: 1,
     first: 3,
     rest: 3,
@@ -228,7 +230,7 @@ const TRANSPOSE: Ports = Ports {
 
 const CALL: Ports = Ports {
     form: Form::Call,
-    typed: false,
+    bytes: 3,
     operands: 0,
     first: 0,
     rest: 0,

@@ -16,7 +16,6 @@ use Rattle.graph.specs.Formed.{FormedPayload}
 use Rattle.graph.specs.Look.{readsOf}
 use Rattle.graph.specs.Read.{references}
 use Rattle.graph.proofs.Formed.{refs-length}
-use Rattle.reader.specs.declared.Reads.{Reads}
 use Rattle.reader.specs.declared.Payload.{Payload}
 use Rattle.reader.specs.declared.Payload.the-variants.{Constant, Call, References}
 use Rattle.reader.specs.Layout.{kindAt, payloadAt, nodeAt, nodeEnd}
@@ -24,7 +23,7 @@ use Rattle.reader.specs.Records.{FiniteWords, payloadOf, argumentsAt, op
 use Rattle.reader.specs.Find.{ReadsNode, ReadsOf}
 use Rattle.reader.proofs.Words.{finite-words}
 use Rattle.reader.proofs.Standing.{standing-formed}
-use Rattle.reader.proofs.Rows.{operands-few, constant-operands, constant-width, row-some}
+use Rattle.reader.proofs.Rows.{operands-few, constant-operands, constant-width, constant-bytes, reference-bytes, call-bytes, row-some}
 use Rattle.reader.proofs.Passed.{head-fits, end-fits, callee-fits, node-legal, form-is, end-by-form}
 
 -- ---- the payload, by the form
@@ -141,19 +140,6 @@ module _ (s : List ℕ) (at : ℕ) (r : ReadsNode s at) where
 -- ---- by its row: what it reads, and where it ends
 
 module _ (s : List ℕ) (at : ℕ) (r : ReadsNode s at) where
-  -- behind what a row has it read, and its constant
-  abbrev endOf : Ports → ℕ
-  endOf p = readsBy p s at .first + 3 * readsBy p s at .count + 8 * constantIn (p .form) (p .words)
-
-  abbrev endAs : Form → ℕ
-  endAs h =
-      let p = portsOf (kindAt s at) in
-      let x = cond (calling h) (argumentsAt s at) (operandsAt at (p .operands)) in
-      x .first + 3 * x .count + 8 * constantIn h (p .words)
-
-  by-form : {h : Form} → formOf (kindAt s at) ≡ h → endOf (portsOf (kindAt s at)) ≡ endAs h
-  by-form q = ap endAs q
-
   there-is : exists (formOf (kindAt s at)) ≡ true
   there-is = and-inv (exists (formOf (kindAt s at))) (typeFits (portsOf (kindAt s at)) (byte s (at + 3))) (node-legal s at r .1) .0
 
@@ -165,30 +151,32 @@ module _ (s : List ℕ) (at : ℕ) (r : ReadsNode s at) where
         pickOne true q = call-reads s at r (calling-call s at row e q)
         pickOne false q = other-reads s at r (call-calling s at row e q) (row .operands) (ap (λ (p : Ports). p .operands) e)
 
-    pub row-end : readsBy row s at .first + 3 * readsBy row s at .count + 8 * constantIn (row .form) (row .words) ≡ nodeEnd s at
-    row-end = ap endOf e ∙ pickOne (formOf (kindAt s at)) refl there-is
+    -- behind the row's bytes, and a call's arguments
+    abbrev endBy : Ports → ℕ
+    endBy p = at + 4 + p .bytes + cond (calling (p .form)) (3 * byte s (at + 4 + 2)) 0
+
+    pub row-end : endBy row ≡ nodeEnd s at
+    row-end = ap endBy e ∙ pickOne (formOf (kindAt s at)) refl there-is
       where
-        pickOne : (h : Form) → formOf (kindAt s at) ≡ h → exists h ≡ true → endOf (portsOf (kindAt s at)) ≡ nodeEnd s at
+        by-form : {h : Form} → formOf (kindAt s at) ≡ h → endBy (portsOf (kindAt s at)) ≡ at + 4 + portsOf (kindAt s at) .bytes + cond (calling h) (3 * byte s (at + 4 + 2)) 0
+        by-form q = ap (λ (f : Form). at + 4 + portsOf (kindAt s at) .bytes + cond (calling f) (3 * byte s (at + 4 + 2)) 0) q
+
+        pickOne : (h : Form) → formOf (kindAt s at) ≡ h → exists h ≡ true → endBy (portsOf (kindAt s at)) ≡ nodeEnd s at
         pickOne Forms.Form.Absent q x = let z : _≡_ {A = ℕ} 0 1 = cc in absurd (omega arith)
         pickOne Forms.Form.Constant q x =
-            let o = constant-operands (byte s (at + 2)) q in
+            let b = constant-bytes (byte s (at + 2)) q in
             let c : constantWords (kindAt s at) ≡ portsOf (kindAt s at) .words = ap (λ (f : Form). constantIn f (portsOf (kindAt s at) .words)) q in
             let a : at + 4 + 8 * constantWords (kindAt s at) ≡ nodeEnd s at = end-by-form s at Forms.Form.Constant q in
-            by-form q ∙ omega (arith, o, c, a)
-        pickOne Forms.Form.References q x = let a : at + 4 + 3 * arity (kindAt s at) ≡ nodeEnd s at = end-by-form s at Forms.Form.References q in by-form q ∙ omega (arith, a)
-        pickOne Forms.Form.Call q x = let a = end-by-form s at Forms.Form.Call q in by-form q ∙ omega (arith, a)
+            by-form q ∙ omega (arith, b, c, a)
+        pickOne Forms.Form.References q x =
+            let b = reference-bytes (byte s (at + 2)) q in
+            let a : at + 4 + 3 * arity (kindAt s at) ≡ nodeEnd s at = end-by-form s at Forms.Form.References q in
+            by-form q ∙ omega (arith, b, a)
+        pickOne Forms.Form.Call q x =
+            let b = call-bytes (byte s (at + 2)) q in
+            let a = end-by-form s at Forms.Form.Call q in
+            by-form q ∙ omega (arith, b, a)
 
   -- a byte where a call has its argument count
   pub count-fits : at + 4 + 3 ≤ length s
-  count-fits = pickOne (calling (formOf (kindAt s at))) refl
-    where
-      pickOne : (b : Bool) → calling (formOf (kindAt s at)) ≡ b → at + 4 + 3 ≤ length s
-      pickOne true q = callee-fits s at r (calling-call s at (portsOf (kindAt s at)) refl q) .0
-      pickOne false q =
-          let p = portsOf (kindAt s at) in
-          let a = row-some (byte s (at + 2)) there-is q in
-          let f = end-fits s at r in
-          let x : operandsAt at (p .operands) ≡ readsBy p s at = ap (λ (c : Bool). cond c (argumentsAt s at) (operandsAt at (p .operands))) (sym q) in
-          let b : at + 4 + 3 * p .operands + 8 * constantIn (p .form) (p .words) ≡ nodeEnd s at =
-          ap (λ (y : Reads). y .first + 3 * y .count + 8 * constantIn (p .form) (p .words)) x ∙ row-end p refl in
-          omega (arith, a, b, f)
+  count-fits = omega (arith, row-some (byte s (at + 2)) there-is, end-fits s at r, row-end (portsOf (kindAt s at)) refl)

@@ -6,19 +6,20 @@ ghost use Rattle.base.specs.Limits.{functionLimit};
 ghost use Rattle.reader.specs.Layout.{kindAt, nodeEnd, nodesAt, nodePlace, nodesPlace, known};
 ghost use Rattle.reader.specs.Find.{ReadsNode, ReadsNodes, ReadsFunction, ReadsStarts, nodeFound, functionFound};
 use super::Found;
-use super::nodes::reads_by;
+use super::nodes::either;
 use base::FUNCTION_LIMIT;
 use base::u16_at;
 use base::wide;
 use ports::Ports;
 
-// Where the node at `at` ends, whose kind has this row: behind what it reads and its constant.
+// Where the node at `at` ends, whose kind has this row: behind the row's bytes, and a call's arguments.
 pub fn end_by(s: &[u8], at: usize, row: Ports) -> usize
     requires { ⌜ ReadsNode (now s) at × (row ≡ portsOf (kindAt (now s) at)) ⌝ }
     ensures { λ r. ⌜ r ≡ nodeEnd (now (s .entry)) at ⌝ }
 {
-    let r = reads_by(s, at, row);
-    r.first + 3 * r.count + 8 * ports::constant_words(row)
+    let n = wide(s[at + 4 + 2]);
+    let form = row.form;
+    at + 4 + wide(row.bytes) + either(ports::is_call(form), 3 * n, 0)
 }
 
 // Where the node at `at` ends.

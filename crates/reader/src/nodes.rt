@@ -86,7 +86,8 @@ pub fn node_at(s: &[u8], at: usize) -> Node
     }
 }
 
-fn either(first: bool, a: usize, b: usize) -> usize
+// One of two by a choice that is no jump.
+pub fn either(first: bool, a: usize, b: usize) -> usize
     ensures { λ r. ⌜ r ≡ cond first a b ⌝ }
 {
     if first { a } else { b }

@@ -136,7 +136,7 @@ fn find_all(
 }
 
 // The slots of node i hold `NO_NODE`.
-fn clear_row(targets: &mut [u16; SLOT_LIMIT], i: usize)
+fn clear_slots(targets: &mut [u16; SLOT_LIMIT], i: usize)
     requires { ⌜ i < nodeLimit ⌝ }
     ensures { λ _. ⌜ now (targets .exit) ≡ sets (now (targets .entry)) (operandLimit * i) (padded operandLimit []) ⌝ }
 {
@@ -148,11 +148,11 @@ fn clear_row(targets: &mut [u16; SLOT_LIMIT], i: usize)
 }
 
 // The n entries from m on go to the slots of node i, and `NO_NODE` behind them.
-fn put_row(found: &[u16; NODE_LIMIT], m: usize, n: usize, targets: &mut [u16; SLOT_LIMIT], i: usize)
+fn put_slots(found: &[u16; NODE_LIMIT], m: usize, n: usize, targets: &mut [u16; SLOT_LIMIT], i: usize)
     requires { ⌜ (m + n ≤ nodeLimit) × (n ≤ operandLimit) × (i < nodeLimit) ⌝ }
     ensures { λ _. ⌜ now (targets .exit) ≡ sets (now (targets .entry)) (operandLimit * i) (padded operandLimit (entries n (now (found .entry)) m)) ⌝ }
 {
-    clear_row(targets, i);
+    clear_slots(targets, i);
     let mut j = 0;
     while j < n {
         targets[OPERAND_LIMIT * i + j] = found[m + j];
@@ -181,7 +181,7 @@ fn scatter(
         let row = rows[k];
         let r = reader::reads_by(s, p, row);
         let c = r.count;
-        put_row(found, m, c, targets, i + n);
+        put_slots(found, m, c, targets, i + n);
         m += c;
         n += 1;
     }

@@ -285,7 +285,7 @@ fn port_words(t: &[u8], p: usize) -> PortWords
 
 // The length of the code; 0 where operations or words are above their limits.
 fn code_length(operations: usize, words: usize, bytes: usize, outputs: usize) -> usize
-    requires { ⌜ (bytes < 2 ^ 32) × (outputs < 65536) ⌝ }
+    requires { ⌜ (bytes < 2 ^ 32) × (outputs ≤ portWordLimit) ⌝ }
     ensures { λ r. ⌜ r ≡ codeLength operations words bytes outputs ⌝ }
 {
     if within_limits(operations, words) {

@@ -27,8 +27,8 @@ in-loop-of-wide32 c = c .before .before
 abbrev wide32-of-row : tie.After-row Inv-loop μ-loop → tie.After-wide32 Inv-loop μ-loop
 wide32-of-row c = c .before .before .before
 
-abbrev wide32-of-put-row-arg : tie.After-put-row-arg Inv-loop μ-loop → tie.After-wide32 Inv-loop μ-loop
-wide32-of-put-row-arg c = wide32-of-row (c .before .before)
+abbrev wide32-of-put-slots-arg : tie.After-put-slots-arg Inv-loop μ-loop → tie.After-wide32 Inv-loop μ-loop
+wide32-of-put-slots-arg c = wide32-of-row (c .before .before)
 
 -- the place of the node, and that it was read
 place : (c : tie.After-wide32 Inv-loop μ-loop) → let d = in-loop-of-wide32 c in c .wide32 .result ≡ getD (start-of-in-loop d .args .places .now) (start-of-in-loop d .args .i + d .before .loop .n) 0
@@ -44,17 +44,17 @@ inside : (d : tie.In-loop Inv-loop μ-loop) → let b = start-of-in-loop d in b 
 inside d = let b = start-of-in-loop d in omega (arith, d .loop-test .taken, b .pre .1)
 
 -- the node's own entries are there
-fits : (c : tie.After-put-row-arg Inv-loop μ-loop) → let d = in-loop-of-wide32 (wide32-of-put-row-arg c) in d .before .loop .m + c .before .reads-by .result .count ≤ nodeLimit
+fits : (c : tie.After-put-slots-arg Inv-loop μ-loop) → let d = in-loop-of-wide32 (wide32-of-put-slots-arg c) in d .before .loop .m + c .before .reads-by .result .count ≤ nodeLimit
 fits c =
-    let w = wide32-of-put-row-arg c in
+    let w = wide32-of-put-slots-arg c in
     let d = in-loop-of-wide32 w in
     scatter-fits (d .before .loop .inv) (d .loop-test .taken) (place w) (c .before .reads-by .ensures .1) (start-of-in-loop d .pre .2)
 
 loop-again : tie.Need-loop-again Inv-loop μ-loop
 loop-again c =
-    let w = wide32-of-put-row-arg (c .before) in
+    let w = wide32-of-put-slots-arg (c .before) in
     let d = in-loop-of-wide32 w in
-    scatter-step (d .before .loop .inv) (d .loop-test .taken) (place w) (c .before .before .reads-by .ensures .1) (c .put-row .ensures)
+    scatter-step (d .before .loop .inv) (d .loop-test .taken) (place w) (c .before .before .reads-by .ensures .1) (c .put-slots .ensures)
 
 pub scatter-spec : {M : Type 1} → statement M
 scatter-spec =
@@ -73,10 +73,10 @@ scatter-spec =
     (λ c. omega (arith, here (c .before .before) .kind, c .wide .ensures .0))
     (λ c. omega (arith, here (c .before .before) .kind, c .wide .ensures .0))
     (λ c κs. let w = wide32-of-row c in (here w .reads, row-here (start-of-in-loop (in-loop-of-wide32 w) .args .s .now) (w .wide32 .result) (c .before .wide .ensures .0)))
-    (λ c. omega (arith, inside (in-loop-of-wide32 (wide32-of-put-row-arg c))))
-    (λ c κs. (fits c, c .before .reads-by .ensures .1 .few, omega (arith, inside (in-loop-of-wide32 (wide32-of-put-row-arg c)))))
+    (λ c. omega (arith, inside (in-loop-of-wide32 (wide32-of-put-slots-arg c))))
+    (λ c κs. (fits c, c .before .reads-by .ensures .1 .few, omega (arith, inside (in-loop-of-wide32 (wide32-of-put-slots-arg c)))))
     (λ c. omega (arith, fits (c .before)))
-    (λ c. omega (arith, in-loop-of-wide32 (wide32-of-put-row-arg (c .before)) .loop-test .taken))
-    (λ c. omega (arith, in-loop-of-wide32 (wide32-of-put-row-arg (c .before)) .loop-test .taken))
+    (λ c. omega (arith, in-loop-of-wide32 (wide32-of-put-slots-arg (c .before)) .loop-test .taken))
+    (λ c. omega (arith, in-loop-of-wide32 (wide32-of-put-slots-arg (c .before)) .loop-test .taken))
     loop-again
     (λ c. scatter-done (c .before .loop .inv) (c .loop-test .left)))

@@ -8,25 +8,25 @@ use Rattle.compiler.proofs.constants.put_matrix.Tie as tie
 
 -- ---- places: from one back to another
 
-abbrev start-of-first : tie.After-put-row → tie.Start
+abbrev start-of-first : tie.After-put-matrix-row → tie.Start
 start-of-first c = c .before .before .before
 
-abbrev first-of-second : tie.After-put-row-arg2 → tie.After-put-row
+abbrev first-of-second : tie.After-put-matrix-row-arg2 → tie.After-put-matrix-row
 first-of-second c = c .before .before .before
 
-abbrev second-of-third : tie.After-put-row-arg3 → tie.After-put-row2
+abbrev second-of-third : tie.After-put-matrix-row-arg3 → tie.After-put-matrix-row2
 second-of-third c = c .before .before .before
 
-abbrev third-of-fourth : tie.After-put-row-arg4 → tie.After-put-row3
+abbrev third-of-fourth : tie.After-put-matrix-row-arg4 → tie.After-put-matrix-row3
 third-of-fourth c = c .before .before .before
 
-abbrev start-of-second : tie.After-put-row-arg2 → tie.Start
+abbrev start-of-second : tie.After-put-matrix-row-arg2 → tie.Start
 start-of-second c = start-of-first (first-of-second c)
 
-abbrev start-of-third : tie.After-put-row-arg3 → tie.Start
+abbrev start-of-third : tie.After-put-matrix-row-arg3 → tie.Start
 start-of-third c = start-of-second (second-of-third c .before)
 
-abbrev start-of-fourth : tie.After-put-row-arg4 → tie.Start
+abbrev start-of-fourth : tie.After-put-matrix-row-arg4 → tie.Start
 start-of-fourth c = start-of-third (third-of-fourth c .before)
 
 -- ---- needs
@@ -39,7 +39,7 @@ returns c =
     let first = first-of-second (second .before) in
     let a = start-of-first first .args in
     all-stored (now (a .code)) (a .at) (rowWords (a .v .r0)) (rowWords (a .v .r1)) (rowWords (a .v .r2)) (rowWords (a .v .r3))
-    (first .put-row .ensures) (second .put-row2 .ensures) (third .put-row3 .ensures) (fourth .put-row4 .ensures)
+    (first .put-matrix-row .ensures) (second .put-matrix-row2 .ensures) (third .put-matrix-row3 .ensures) (fourth .put-matrix-row4 .ensures)
 
 pub put-matrix-spec : {M : Type 1} → statement M
 put-matrix-spec =

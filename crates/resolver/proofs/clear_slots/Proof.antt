@@ -6,8 +6,8 @@ use native.Mathlib.Omega.{arith}
 use Rattle.resolver.specs.Slots.{padded}
 use Rattle.base.proofs.Stores.{Run, run-start, run-step, run-done}
 use Rattle.resolver.proofs.Rows.{pad-next, pad-end}
-use Rattle.resolver.proofs.clear_row.Statement.{statement}
-use Rattle.resolver.proofs.clear_row.Tie as tie
+use Rattle.resolver.proofs.clear_slots.Statement.{statement}
+use Rattle.resolver.proofs.clear_slots.Tie as tie
 use Rattle.base.specs.Limits.{operandLimit}
 
 abbrev Inv-loop : tie.InvT-loop
@@ -19,8 +19,8 @@ abbrev μ-loop : tie.MeasureT-loop
 loop-again : tie.Need-loop-again Inv-loop μ-loop
 loop-again c = let l = c .before .loop in (omega arith, run-step (l .inv .1) (pad-next (l .j) (c .loop-test .taken)) (omega arith))
 
-pub clear-row-spec : {M : Type 1} → statement M
-clear-row-spec =
+pub clear-slots-spec : {M : Type 1} → statement M
+clear-slots-spec =
     tie.close
     (tie.spec Inv-loop μ-loop (λ c. (omega arith, run-start (omega arith) refl)) (λ c. search needs) (λ c. search needs) (λ c. search needs) (λ c. search needs) (λ c. search needs)
     (λ c. search needs) loop-again (λ c. run-done (c .before .loop .inv .1) (pad-end (c .before .loop .j) (c .loop-test .left))))

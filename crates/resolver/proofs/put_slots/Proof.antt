@@ -4,8 +4,8 @@ use native.Mathlib.Omega.{arith}
 use Rattle.resolver.specs.Groups.{entries}
 use Rattle.base.proofs.Stores.{Run, run-start, run-step, run-done}
 use Rattle.resolver.proofs.Rows.{entries-all, entries-next, entries-none, row-stored}
-use Rattle.resolver.proofs.put_row.Statement.{statement}
-use Rattle.resolver.proofs.put_row.Tie as tie
+use Rattle.resolver.proofs.put_slots.Statement.{statement}
+use Rattle.resolver.proofs.put_slots.Tie as tie
 use Rattle.base.specs.Limits.{operandLimit, slotLimit}
 
 abbrev Inv-loop : tie.InvT-loop
@@ -36,10 +36,10 @@ returns c =
     let a = b .args in
     let f = a .found .now in
     let l = c .before .loop in
-    row-stored f (a .n) (a .m) (a .targets .now) _ (l .targets) (operandLimit * a .i) (b .pre .1) (k .clear-row .ensures) (run-done (l .inv .1) (entries-none f (a .n) (l .j) (a .m) (c .loop-test .left)))
+    row-stored f (a .n) (a .m) (a .targets .now) _ (l .targets) (operandLimit * a .i) (b .pre .1) (k .clear-slots .ensures) (run-done (l .inv .1) (entries-none f (a .n) (l .j) (a .m) (c .loop-test .left)))
 
-pub put-row-spec : {M : Type 1} → statement M
-put-row-spec =
+pub put-slots-spec : {M : Type 1} → statement M
+put-slots-spec =
     tie.close
     (tie.spec
     Inv-loop

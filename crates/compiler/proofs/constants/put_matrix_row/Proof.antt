@@ -1,11 +1,11 @@
--- `constants::put_row`, word by word.
+-- `constants::put_matrix_row`, word by word.
 use borrow.Author.Needs.{needs}
 use denote.Ref.{now}
 use Rattle.base.specs.Bytes.{bytesOf}
 use Rattle.value.specs.Values.{word}
 use Rattle.base.proofs.Stores.{then-four}
-use Rattle.compiler.proofs.constants.put_row.Statement.{statement}
-use Rattle.compiler.proofs.constants.put_row.Tie as tie
+use Rattle.compiler.proofs.constants.put_matrix_row.Statement.{statement}
+use Rattle.compiler.proofs.constants.put_matrix_row.Tie as tie
 
 -- ---- places: from one back to another
 
@@ -42,8 +42,8 @@ returns c =
     then-four (now (a .code)) (a .at) (bytesOf 8 (word (a .v .c0))) (bytesOf 8 (word (a .v .c1))) (bytesOf 8 (word (a .v .c2))) (bytesOf 8 (word (a .v .c3)))
     (first .put-float .ensures) (second .put-float2 .ensures) (third .put-float3 .ensures) (fourth .put-float4 .ensures)
 
-pub put-row-spec : {M : Type 1} → statement M
-put-row-spec =
+pub put-matrix-row-spec : {M : Type 1} → statement M
+put-matrix-row-spec =
     tie.close
     (tie.spec
     (λ c κs. (search needs, c .before .before .pre .1 .0))
