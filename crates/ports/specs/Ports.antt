@@ -111,9 +111,9 @@ gives k t = givesRow (portsOf k) t
 abbrev pub arity : Kind → ℕ
 arity k = portsOf k .operands
 
--- whether a kind has T: it stands at the first operand
+-- whether a kind has T: it reads, but the words of its results are left to the type byte
 abbrev pub hasType : Ports → Bool
-hasType r = eqb (r .first) 0 && leb 1 (r .operands)
+hasType r = eqb (r .words) 0 && leb 1 (r .operands)
 
 -- the words of all results
 abbrev pub resultWords : Ports → ℕ → ℕ

@@ -34,11 +34,15 @@ pub fn is_type(ty: u8) -> bool
     if 1 <= ty { ty <= 3 } else { false }
 }
 
-// Whether a kind with this row has T: it stands at the first operand.
+// Whether a kind with this row has T: it reads, but the words of its results are left to the type byte.
 pub fn has_type(row: Ports) -> bool
     ensures { λ r. ⌜ r ≡ hasType row ⌝ }
 {
-    if row.first == 0 { 1 <= row.operands } else { false }
+    if row.words == 0 {
+        1 <= row.operands
+    } else {
+        false
+    }
 }
 
 // A type byte that a kind with this row may have.

@@ -148,7 +148,13 @@ fn clear_slots(targets: &mut [u16; SLOT_LIMIT], i: usize)
 }
 
 // The n entries from m on go to the slots of node i, and `NO_NODE` behind them.
-fn put_slots(found: &[u16; NODE_LIMIT], m: usize, n: usize, targets: &mut [u16; SLOT_LIMIT], i: usize)
+fn put_slots(
+    found: &[u16; NODE_LIMIT],
+    m: usize,
+    n: usize,
+    targets: &mut [u16; SLOT_LIMIT],
+    i: usize,
+)
     requires { ⌜ (m + n ≤ nodeLimit) × (n ≤ operandLimit) × (i < nodeLimit) ⌝ }
     ensures { λ _. ⌜ now (targets .exit) ≡ sets (now (targets .entry)) (operandLimit * i) (padded operandLimit (entries n (now (found .entry)) m)) ⌝ }
 {
