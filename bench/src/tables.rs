@@ -57,6 +57,16 @@ pub fn stack_cell(bytes: Option<usize>) -> String {
     bytes.map_or("not measured".into(), |bytes| bytes.to_string())
 }
 
+/// Tables whose last function calls others.
+pub fn calls() -> [Case; 4] {
+    [
+        case("255 nodes called 16 times", shapes::case_n(0)),
+        case("256 matrices called twice", shapes::case_o(0)),
+        case("16 levels of calls", shapes::levels()),
+        case("tree of calls, 11 levels", shapes::tree()),
+    ]
+}
+
 /// A time in a unit that suits it.
 pub fn duration(nanoseconds: f64) -> String {
     match nanoseconds {
@@ -101,10 +111,7 @@ pub fn compile() {
     head("Compile", "table, its last function", "at most 65,536");
     let mut cases = cases();
     cases.retain(|case| independent::check(&case.table).is_ok());
-    cases.push(case("255 nodes called 16 times", shapes::case_n(0)));
-    cases.push(case("256 matrices called twice", shapes::case_o(0)));
-    cases.push(case("16 levels of calls", shapes::levels()));
-    cases.push(case("tree of calls, 11 levels", shapes::tree()));
+    cases.extend(calls());
     let mut code = vec![0; 80_000];
     for case in cases {
         let (table, id) = (&case.table[..], case.id);
