@@ -211,6 +211,7 @@ fn allocate_nodes(
     requires { ⌜ (length (now order) ≡ orderLimit) × (length (now locations) ≡ referenceLimit) × (length (now allocated) ≡ nodePortLimit) ⌝ }
     ensures { λ r. ⌜ NodesAllocated (now (table .entry)) k cell (now (order .entry)) (now (order .exit)) (now (locations .entry)) (now (locations .exit)) (now (allocated .exit)) r ⌝ }
 {
+    let rows = ports::PORTS;
     let mut here = cell;
     let mut d = 0;
     let mut m = 0;
@@ -218,7 +219,9 @@ fn allocate_nodes(
         let i = wide16(index[m]);
         let p = wide32(places[i]);
         order[NODE_LIMIT * k + m] = p as u16;
-        let r = reader::reads_at(table, p);
+        let kind = wide(table[p + 2]);
+        let row = rows[kind];
+        let r = reader::reads_by(table, p, row);
         let count = r.count;
         allocate_reads(
             table,

@@ -15,7 +15,6 @@ pub use lookup::nodes_place;
 pub use nodes::arguments_at;
 pub use nodes::callee_at;
 pub use nodes::node_at;
-pub use nodes::reads_at;
 pub use nodes::reads_by;
 pub use nodes::references_at;
 pub use records::read_function;

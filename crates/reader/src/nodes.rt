@@ -107,11 +107,3 @@ pub fn reads_by(s: &[u8], at: usize, row: Ports) -> Reads
         count: either(call, n, wide(row.operands)),
     }
 }
-
-// What the node at `at` reads.
-pub fn reads_at(s: &[u8], at: usize) -> Reads
-    requires { ⌜ ReadsNode (now s) at ⌝ }
-    ensures { λ r. ⌜ ReadsOf (now (s .entry)) at r ⌝ }
-{
-    reads_by(s, at, ports::ports_of(s[at + 2]))
-}

@@ -10,6 +10,7 @@ use Rattle.reader.specs.Layout.{nodeAt, nodesPlace, nodeCount}
 use Rattle.order.specs.Indices.{indexOrder}
 use Rattle.reader.specs.Find.{ReadsNode}
 use Rattle.reader.proofs.Passed.{function-holds}
+use Rattle.reader.proofs.Walking.{Here, node-here, row-here}
 use Rattle.sums.specs.Position.{placeOf, Accepted}
 use Rattle.sums.specs.Capped.{addsWords}
 use Rattle.resolver.specs.Slots.{PlacesAre}
@@ -21,11 +22,11 @@ use Rattle.compiler.proofs.allocate.allocate_nodes.Statement.{statement
 use Rattle.compiler.proofs.allocate.allocate_nodes.Tie as tie
 
 abbrev Inv-loop : tie.InvT-loop
-Inv-loop table starts words outs targets places index k n order₀ locations₀ allocated₀ cell here₀ d₀ m₀ order locations allocated here d m =
+Inv-loop table starts words outs targets places index k n order₀ locations₀ allocated₀ cell rows here₀ d₀ m₀ order locations allocated here d m =
     (acc : Accepted table (suc k)) × State table k cell acc outs targets places index order₀ locations₀ order locations allocated here d m
 
 abbrev μ-loop : tie.MeasureT-loop
-μ-loop table starts words outs targets places index k n order₀ locations₀ allocated₀ cell here₀ d₀ m₀ order locations allocated here d m = n - m
+μ-loop table starts words outs targets places index k n order₀ locations₀ allocated₀ cell rows here₀ d₀ m₀ order locations allocated here d m = n - m
 
 -- ---- places: from each step of the loop's body back to the one before it
 
@@ -41,10 +42,16 @@ index-of-place c = c .before .before
 abbrev loop-of-place : tie.After-wide32 Inv-loop μ-loop → tie.In-loop Inv-loop μ-loop
 loop-of-place c = loop-of-index (index-of-place c)
 
-abbrev reads-of-allocated : tie.After-allocate-reads Inv-loop μ-loop → tie.After-reads-at Inv-loop μ-loop
+abbrev place-of-row : tie.After-row Inv-loop μ-loop → tie.After-wide32 Inv-loop μ-loop
+place-of-row c = c .before .before .before
+
+abbrev place-of-reads : tie.After-reads-by Inv-loop μ-loop → tie.After-wide32 Inv-loop μ-loop
+place-of-reads c = place-of-row (c .before)
+
+abbrev reads-of-allocated : tie.After-allocate-reads Inv-loop μ-loop → tie.After-reads-by Inv-loop μ-loop
 reads-of-allocated c = c .before .before .before
 
-abbrev reads-of-node : tie.After-allocate-node-arg2 Inv-loop μ-loop → tie.After-reads-at Inv-loop μ-loop
+abbrev reads-of-node : tie.After-allocate-node-arg2 Inv-loop μ-loop → tie.After-reads-by Inv-loop μ-loop
 reads-of-node c = reads-of-allocated (c .before .before)
 
 -- ---- what is lent
@@ -106,26 +113,29 @@ fits c =
     let l = loop-of-place c in
     node-fits (lent (entry-of-loop l)) (l .before .loop .inv .1) (more l) (index-of-place c .wide16 .ensures .0) (c .wide32 .ensures .0)
 
+here : (c : tie.After-wide32 Inv-loop μ-loop) → Here (entry-of-loop (loop-of-place c) .args .table .now) (c .wide32 .result)
+here c = node-here (entry-of-loop (loop-of-place c) .args .table .now) (c .wide32 .result) (fits c .0)
+
 -- its references
-count : (c : tie.After-reads-at Inv-loop μ-loop) → c .reads-at .result .count ≡ length (reads (nodeAt (entry-of-loop (loop-of-place (c .before)) .args .table .now) (c .before .wide32 .result)))
-count c = let r = c .reads-at in count-reads (entry-of-loop (loop-of-place (c .before)) .args .table .now) (c .before .wide32 .result) (r .result) (r .ensures)
+count : (c : tie.After-reads-by Inv-loop μ-loop) → c .reads-by .result .count ≡ length (reads (nodeAt (entry-of-loop (loop-of-place (place-of-reads c)) .args .table .now) (place-of-reads c .wide32 .result)))
+count c = let r = c .reads-by in count-reads (entry-of-loop (loop-of-place (place-of-reads c)) .args .table .now) (place-of-reads c .wide32 .result) (r .result) (r .ensures .1)
 
 allocate-reads-requires : tie.Need-allocate-reads-requires Inv-loop μ-loop
 allocate-reads-requires c κs =
     let r = c .before .before in
-    let l = low (index-of-place (r .before)) in
-    let (read, near, room, words) = fits (r .before) in
+    let l = low (index-of-place (place-of-reads r)) in
+    let (read, near, room, words) = fits (place-of-reads r) in
     let n = count r in
-    let o = r .reads-at .ensures in
+    let o = r .reads-by .ensures .1 in
     (omega arith, o .few, o .fits, omega arith)
 
 allocate-node-requires : tie.Need-allocate-node-requires Inv-loop μ-loop
 allocate-node-requires c κs =
     let r = reads-of-node c in
-    let b = entry-of-loop (loop-of-place (r .before)) in
-    let l = low (index-of-place (r .before)) in
+    let b = entry-of-loop (loop-of-place (place-of-reads r)) in
+    let l = low (index-of-place (place-of-reads r)) in
     let (e, f, k16) = small b in
-    let (read, near, room, words) = fits (r .before) in
+    let (read, near, room, words) = fits (place-of-reads r) in
     let n = count r in (
       (omega arith, omega arith, read, b .pre .1 .0 .0, b .pre .1 .0 .1),
       ((b .pre .1 .0 .2, omega arith, n), words),
@@ -134,16 +144,16 @@ allocate-node-requires c κs =
 add-here : tie.Need-add-here Inv-loop μ-loop
 add-here c =
     let r = reads-of-node (c .before) in
-    let (read, near, room, words) = fits (r .before) in
+    let (read, near, room, words) = fits (place-of-reads r) in
     let n = count r in
     omega arith
 
 loop-again : tie.Need-loop-again Inv-loop μ-loop
 loop-again c =
     let r = reads-of-node (c .before) in
-    let l = loop-of-place (r .before) in
+    let l = loop-of-place (place-of-reads r) in
     let (acc, st) = l .before .loop .inv in
-    (acc, advance (lent (entry-of-loop l)) st (more l) (index-of-place (r .before) .wide16 .ensures .0) (r .before .wide32 .ensures .0) (r .reads-at .ensures) (c .before .before .before .allocate-reads .ensures) (c .allocate-node .ensures .0) (c .allocate-node .ensures .1))
+    (acc, advance (lent (entry-of-loop l)) st (more l) (index-of-place (place-of-reads r) .wide16 .ensures .0) (place-of-reads r .wide32 .ensures .0) (r .reads-by .ensures .1) (c .before .before .before .allocate-reads .ensures) (c .allocate-node .ensures .0) (c .allocate-node .ensures .1))
 
 returns : tie.Need-returns Inv-loop μ-loop
 returns c =
@@ -156,5 +166,9 @@ allocate-nodes-spec =
     tie.close
     (tie.spec Inv-loop μ-loop loop-holds (λ c. let (m, k) = slot c in omega arith) (λ c. let (m, k) = slot c in omega arith) (λ c κs. search needs) (λ c. let l = low c in omega arith) (λ c. let l = low c in omega arith)
     (λ c κs. search needs) (λ c. let l = fits c .1 in omega arith) (λ c. let (m, k) = slot (loop-of-place c) in omega arith) (λ c. let (m, k) = slot (loop-of-place c) in omega arith)
-    (λ c. let (m, k) = slot (loop-of-place c) in omega arith) (λ c. let (m, k) = slot (loop-of-place c) in omega arith) (λ c κs. fits c .0) allocate-reads-requires
-    allocate-node-requires add-here (λ c. let (m, k) = slot (loop-of-place (reads-of-node (c .before) .before)) in omega arith) (λ c. search needs) loop-again returns)
+    (λ c. let (m, k) = slot (loop-of-place c) in omega arith) (λ c. let (m, k) = slot (loop-of-place c) in omega arith)
+    (λ c. omega (arith, here c .head)) (λ c. omega (arith, here (c .before) .head)) (λ c κs. search needs)
+    (λ c. omega (arith, here (c .before .before) .kind, c .wide .ensures .0)) (λ c. omega (arith, here (c .before .before) .kind, c .wide .ensures .0))
+    (λ c κs. let w = place-of-row c in (here w .reads, row-here (entry-of-loop (loop-of-place w) .args .table .now) (w .wide32 .result) (c .before .wide .ensures .0)))
+    allocate-reads-requires
+    allocate-node-requires add-here (λ c. let (m, k) = slot (loop-of-place (place-of-reads (reads-of-node (c .before)))) in omega arith) (λ c. search needs) loop-again returns)
