@@ -14,7 +14,7 @@
  * the default one: rounding to nearest, subnormals not flushed to zero, no traps. A
  * program linked with -ffast-math changes it at its start: 1e-310 times 1 was then 0. And
  * the stack must have room: ifg_compile and ifg_evaluate need a thread of 68 KB, ifg_check
- * 16 KB, ifr_run 4 KB, beside what the caller uses.
+ * 16 KB, ifr_run and ifr_run_points 4 KB, beside what the caller uses.
  *
  * Words are the bits of IEEE 754 binary64 values. A scalar is 1 word, a vector 3
  * (x, y, z), a matrix 16 (row by row). A NaN that a step gives is always
@@ -52,6 +52,7 @@
  *  20  an argument is not finite
  *  21  the work buffer is shorter than the word count, or the output buffer
  *      shorter than the output words
+ *  22  more than 1,024 points
  */
 #ifndef QUETLAPIN_H
 #define QUETLAPIN_H
@@ -87,6 +88,19 @@ uint64_t ifr_run(const uint8_t *code, size_t code_length,
                  const uint64_t *arguments, size_t arguments_length,
                  uint64_t *work, size_t work_length,
                  uint64_t *out, size_t out_length);
+
+/* Runs a code at 0 to 1,024 points. Their arguments stand end to end, and so do
+ * their output words at the front of the output buffer. Success: the count of all
+ * output words; all is as after a call of ifr_run for each point in turn, the work
+ * buffer too, but the code is checked once. For no points nothing is written.
+ * Refusals, in this order: 18; 22; 19 against count times the argument words; 20
+ * for any argument; 21 for the work buffer, with no points too, and for an output
+ * buffer shorter than count times the output words. */
+uint64_t ifr_run_points(const uint8_t *code, size_t code_length,
+                        uint64_t count,
+                        const uint64_t *arguments, size_t arguments_length,
+                        uint64_t *work, size_t work_length,
+                        uint64_t *out, size_t out_length);
 
 /* Compiles the function with this id into the code buffer and runs the code's
  * bytes on the arguments. Success: the count of output words, which stand at the

@@ -5,7 +5,7 @@
 
 use std::fmt;
 
-/// A refusal: its number, 1 to 21, and its place.
+/// A refusal: its number, 1 to 22, and its place.
 #[derive(Clone, Copy, Debug, PartialEq, Eq)]
 pub struct Refusal {
     pub number: u32,
@@ -37,6 +37,19 @@ unsafe extern "C" {
     fn ifr_run(
         code: *const u8,
         code_length: usize,
+        arguments: *const u64,
+        arguments_length: usize,
+        work: *mut u64,
+        work_length: usize,
+        out: *mut u64,
+        out_length: usize,
+    ) -> u64;
+
+    #[cfg(feature = "points")]
+    fn ifr_run_points(
+        code: *const u8,
+        code_length: usize,
+        count: u64,
         arguments: *const u64,
         arguments_length: usize,
         work: *mut u64,
@@ -108,6 +121,34 @@ pub fn run(
         ifr_run(
             code.as_ptr(),
             code.len(),
+            arguments.as_ptr(),
+            arguments.len(),
+            work.as_mut_ptr(),
+            work.len(),
+            out.as_mut_ptr(),
+            out.len(),
+        )
+    })
+}
+
+/// Runs a code at `count` points: the count of all output words, or refusal 18 to 22.
+///
+/// The arguments of all points stand end to end, and so do their output words at the front of the
+/// output buffer. All is as after a [`run`] of each point in turn, but the code is checked once,
+/// and every argument and both buffers are judged before any word is written.
+#[cfg(feature = "points")]
+pub fn run_points(
+    code: &[u8],
+    count: u64,
+    arguments: &[u64],
+    work: &mut [u64],
+    out: &mut [u64],
+) -> Result<usize, Refusal> {
+    answer(unsafe {
+        ifr_run_points(
+            code.as_ptr(),
+            code.len(),
+            count,
             arguments.as_ptr(),
             arguments.len(),
             work.as_mut_ptr(),

@@ -69,6 +69,10 @@ referenceLimit = tableLimit * operandLimit / (4 + 3 * operandLimit) + 1
 abbrev pub portWordLimit : ℕ
 portWordLimit = portLimit * valueLimit
 
+-- points of one call
+abbrev pub pointLimit : ℕ
+pointLimit = 1024
+
 -- an index that no node has
 abbrev pub noNode : ℕ
 noNode = 0xFFFF

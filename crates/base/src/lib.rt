@@ -41,6 +41,8 @@ pub const TABLE_LIMIT: usize = 65536;
 pub const REFERENCE_LIMIT: usize = TABLE_LIMIT * OPERAND_LIMIT / (4 + 3 * OPERAND_LIMIT) + 1;
 // Words of all inputs, and of all outputs.
 pub const PORT_WORD_LIMIT: usize = PORT_LIMIT * VALUE_LIMIT;
+// Points of one call.
+pub const POINT_LIMIT: usize = 1024;
 // No node: an index that no node has.
 pub const NO_NODE: u16 = 0xFFFF;
 

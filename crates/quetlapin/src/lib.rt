@@ -337,6 +337,20 @@ pub extern "C" fn ifr_run(code: &[u8], arguments: &[u64], work: &mut [u64], out:
     ran_number(runner::run(code, arguments, work, out))
 }
 
+// Runs a code at many points, their arguments and their output words end to end: the count of all output words, or a
+// refusal.
+#[no_mangle]
+pub extern "C" fn ifr_run_points(
+    code: &[u8],
+    count: u64,
+    arguments: &[u64],
+    work: &mut [u64],
+    out: &mut [u64],
+) -> u64
+{
+    ran_number(points::run_points(code, count as usize, arguments, work, out))
+}
+
 // Compiles a function and runs its code on arguments: the count of output words, or a refusal, which leaves every byte
 // and word of the buffers.
 #[no_mangle]
