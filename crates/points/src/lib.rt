@@ -1,6 +1,11 @@
 // A layer's points in one call: the code is checked once, then run at each point.
+ghost use lib.ListN.{length};
+ghost use Rattle.runner.specs.Runs.{Answered, Refused18};
+ghost use Rattle.runner.specs.declared.Ran.the-variants.{Done};
+ghost use Rattle.points.specs.Points.{ranPoints};
+ghost use Rattle.points.specs.Runs.{RunnablePoints, AllRan};
+ghost use Rattle.points.specs.Demand3.{Demand3Points};
 ghost use mathlib.Core.Path.{_≡_};
-ghost use Prim.Native.Nat.{_+_, _*_};
 use base::POINT_LIMIT;
 use runner::Checked;
 use runner::Counts;
@@ -15,6 +20,8 @@ fn run_each(
     work: &mut [u64],
     out: &mut [u64],
 )
+    requires { ⌜ RunnablePoints (now code) counts count (now arguments) (length (now work)) (length (now out)) ⌝ }
+    ensures { λ _. ⌜ AllRan (now (code .entry)) counts count (now (arguments .entry)) (now (work .entry)) (now (out .entry)) (now (work .exit)) (now (out .exit)) ⌝ }
 {
     let mut from = 0;
     let mut to = 0;
@@ -22,7 +29,13 @@ fn run_each(
     while 0 < left {
         let next = from + counts.arguments;
         let end = to + counts.outputs;
-        runner::run_checked(code, counts, &arguments[from..next], work, &mut out[to..end]);
+        runner::run_checked(
+            code,
+            counts,
+            &arguments[from..next],
+            work,
+            &mut out[to..end],
+        );
         from = next;
         to = end;
         left -= 1;
@@ -37,6 +50,9 @@ pub fn run_points(
     work: &mut [u64],
     out: &mut [u64],
 ) -> Ran
+    ensures { λ r. ⌜ Answered (ranPoints (now (code .entry)) count (now (arguments .entry)) (now (work .entry)) (now (out .entry))) (now (work .entry)) (now (out .entry)) (now (work .exit)) (now (out .exit)) r ⌝ }
+    ensures { λ r. ⌜ Refused18 (now (code .entry)) r ⌝ }
+    ensures { λ r. ⌜ Demand3Points (λ n. r ≡ Done n) (now (code .entry)) count (now (arguments .entry)) (now (work .entry)) (now (out .entry)) (now (work .exit)) (now (out .exit)) ⌝ }
 {
     let Checked::Formed(counts) = runner::check_code(code) else {
         return Ran::Refused(18, 0);

@@ -346,8 +346,7 @@ pub extern "C" fn ifr_run_points(
     arguments: &[u64],
     work: &mut [u64],
     out: &mut [u64],
-) -> u64
-{
+) -> u64 {
     ran_number(points::run_points(code, count as usize, arguments, work, out))
 }
 

@@ -117,7 +117,7 @@ decoded s c e =
 
 -- ---- refusals
 
-refused : (g : Outcome Buffers) (n p : ℕ) (work out : List ℕ) → g ≡ fault n p → Answered g work out work out (Refused n p)
+pub refused : (g : Outcome Buffers) (n p : ℕ) (work out : List ℕ) → g ≡ fault n p → Answered g work out work out (Refused n p)
 unfolding answerOf workAfter outAfter
 refused g n p work out e = record { answer = rw e; work-after = rw e; out-after = rw e }
 
@@ -224,7 +224,7 @@ outputs-ready s c size room d h r =
 
 -- ---- lengths
 
-length-all : (is : List Instruction) (m : List ℕ) → length (executeAll is m) ≡ length m
+pub length-all : (is : List Instruction) (m : List ℕ) → length (executeAll is m) ≡ length m
 length-all [] m = refl
 length-all (i ∷ is) m = length-all is (execute i m) ∙ execute-length i m
 

@@ -30,7 +30,7 @@ check-exact s small {r} q = (
   },
 )
 
-is-fault : (g : Outcome Buffers) (n p : ℕ) → answerOf g ≡ Refused n p → g ≡ fault n p
+pub is-fault : (g : Outcome Buffers) (n p : ℕ) → answerOf g ≡ Refused n p → g ≡ fault n p
 unfolding answerOf
 is-fault (ok b) n p e = let z : _≡_ {A = ℕ} 0 1 = cc in absurd (omega arith)
 is-fault (fault i j) n p e = cc

@@ -1,0 +1,4 @@
+pub mod Calls
+pub mod Loop
+pub mod Judged
+pub mod Meaning

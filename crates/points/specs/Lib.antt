@@ -1,0 +1,4 @@
+pub mod Points
+pub mod Runs
+pub mod Demand3
+pub mod Cases
