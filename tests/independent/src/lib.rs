@@ -13,7 +13,7 @@ mod read;
 mod run;
 
 pub use compile::{Sums, code_length, compile, operations, words};
-pub use evaluate::evaluate;
+pub use evaluate::{Meaning, evaluate};
 pub use list::listing;
 pub use points::run_points;
 pub use ports::{MATRIX, Ports, SCALAR, VECTOR, ports, type_words};
