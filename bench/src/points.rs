@@ -23,7 +23,9 @@ fn arguments(list: &List, count: usize) -> Vec<u64> {
 /// The library's check is the time of a call of no points, which does nothing else.
 pub fn points() {
     println!("\n## Points\n");
-    println!("Nanoseconds for one instruction and point: library / independent. The check of the code is a share of the library's call.\n");
+    println!(
+        "Nanoseconds for one instruction and point: library / independent. The check of the code is a share of the library's call.\n"
+    );
     println!("| list | points | whole call | ratio | target | check | stack (at most 4,096) |");
     println!("|---|--:|--:|--:|--:|--:|--:|");
     let (mut work, mut own_work) = (vec![0; 8192], vec![0; 8192]);
@@ -31,8 +33,24 @@ pub fn points() {
         let code = &list.code[..];
         let none = medians(
             &format!("no points|{}", list.name),
-            &mut || keep(quetlapin::run_points(black_box(code), 0, &[], &mut work, &mut [])),
-            &mut || keep(independent::run_points(black_box(code), 0, &[], &mut own_work, &mut [])),
+            &mut || {
+                keep(quetlapin::run_points(
+                    black_box(code),
+                    0,
+                    &[],
+                    &mut work,
+                    &mut [],
+                ))
+            },
+            &mut || {
+                keep(independent::run_points(
+                    black_box(code),
+                    0,
+                    &[],
+                    &mut own_work,
+                    &mut [],
+                ))
+            },
         );
         for count in [1, 32, 1024] {
             let arguments = &arguments(&list, count)[..];
@@ -40,21 +58,41 @@ pub fn points() {
             let (mut out, mut own_out) = (vec![0; words], vec![0; words]);
             let points = count as u64;
             let got = quetlapin::run_points(code, points, arguments, &mut work, &mut out);
-            let wanted = independent::run_points(code, points, arguments, &mut own_work, &mut own_out);
+            let wanted =
+                independent::run_points(code, points, arguments, &mut own_work, &mut own_out);
             assert!(
-                got.ok() == wanted.ok() && wanted == Ok(words) && out == own_out && work == own_work,
+                got.ok() == wanted.ok()
+                    && wanted == Ok(words)
+                    && out == own_out
+                    && work == own_work,
                 "{}",
                 list.name
             );
             let mut library = || {
                 let code = black_box(code);
-                keep(quetlapin::run_points(code, points, black_box(arguments), &mut work, &mut out));
+                keep(quetlapin::run_points(
+                    code,
+                    points,
+                    black_box(arguments),
+                    &mut work,
+                    &mut out,
+                ));
             };
             let mut independent = || {
                 let code = black_box(code);
-                keep(independent::run_points(code, points, black_box(arguments), &mut own_work, &mut own_out));
+                keep(independent::run_points(
+                    code,
+                    points,
+                    black_box(arguments),
+                    &mut own_work,
+                    &mut own_out,
+                ));
             };
-            let times = medians(&format!("points|{}, {count}", list.name), &mut library, &mut independent);
+            let times = medians(
+                &format!("points|{}, {count}", list.name),
+                &mut library,
+                &mut independent,
+            );
             let stack = deepest(&mut library);
             let n = (list.instructions * count) as f64;
             println!(

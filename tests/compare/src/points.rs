@@ -29,7 +29,9 @@ impl Call {
         Call {
             code: code.to_vec(),
             count: count as u64,
-            arguments: (0..words).map(|k| (1.0 + k as f64 / 64.0).to_bits()).collect(),
+            arguments: (0..words)
+                .map(|k| (1.0 + k as f64 / 64.0).to_bits())
+                .collect(),
             room: Room {
                 work: u16::from_le_bytes([code[10], code[11]]) as usize,
                 out: count * output_words(code),
@@ -57,7 +59,12 @@ fn output_words(code: &[u8]) -> usize {
 
 /// Holds a call: the answer, both buffers, the same by runs of each point, and the meaning where there is one.
 fn compare(report: &mut Report, call: &Call, meaning: Option<&Meaning>) {
-    let Call { code, count, arguments, room } = call;
+    let Call {
+        code,
+        count,
+        arguments,
+        room,
+    } = call;
     let (mut work, mut out) = (Marked::words(room.work), Marked::words(room.out));
     let wanted = independent::run_points(code, *count, arguments, work.lent(), out.lent());
     let (mut got_work, mut got_out) = (Marked::words(room.work), Marked::words(room.out));
@@ -74,8 +81,18 @@ fn compare(report: &mut Report, call: &Call, meaning: Option<&Meaning>) {
     if wanted.is_ok() {
         let (mut work, mut out) = (Marked::words(room.work), Marked::words(room.out));
         let one_by_one = one_by_one(call, work.lent(), out.lent());
-        report.same_buffer("points: the work buffer, one by one", &work, &got_work, inputs);
-        report.same_buffer("points: the output buffer, one by one", &out, &got_out, inputs);
+        report.same_buffer(
+            "points: the work buffer, one by one",
+            &work,
+            &got_work,
+            inputs,
+        );
+        report.same_buffer(
+            "points: the output buffer, one by one",
+            &out,
+            &got_out,
+            inputs,
+        );
         report.same("points: the answer, one by one", &one_by_one, &got, inputs);
     } else {
         let untouched = work == Marked::words(room.work) && out == Marked::words(room.out);
@@ -87,7 +104,11 @@ fn compare(report: &mut Report, call: &Call, meaning: Option<&Meaning>) {
         );
     }
     if let (Ok(all), Some(meaning)) = (wanted, meaning) {
-        for (point, words) in got_out.front(all).chunks_exact(output_words(code)).enumerate() {
+        for (point, words) in got_out
+            .front(all)
+            .chunks_exact(output_words(code))
+            .enumerate()
+        {
             let meant = meaning.on(call.point(point));
             if meant != words {
                 let what = format!("points: the meaning of point {point}");
@@ -126,7 +147,11 @@ fn some_count(random: &mut Random) -> u64 {
 fn some_call(random: &mut Random, code: Vec<u8>) -> Call {
     let count = some_count(random);
     // What is lent with a huge count is for a few points.
-    let points = if count <= 1026 { count as usize } else { random.below(4) };
+    let points = if count <= 1026 {
+        count as usize
+    } else {
+        random.below(4)
+    };
     let words = argument_words(&code);
     let lent = match random.below(100) {
         0 => points + 1,
@@ -197,10 +222,16 @@ const FAULTS: [fn(&mut Call); 20] = [
     |call| call.count = 1 << 32,
     |call| call.count = 1 << 63,
     |call| call.count = u64::MAX,
-    |call| call.arguments.truncate(call.arguments.len().saturating_sub(1)),
+    |call| {
+        call.arguments
+            .truncate(call.arguments.len().saturating_sub(1))
+    },
     |call| call.arguments.push(0),
     |call| {
-        let less = call.arguments.len().saturating_sub(argument_words(&call.code));
+        let less = call
+            .arguments
+            .len()
+            .saturating_sub(argument_words(&call.code));
         call.arguments.truncate(less);
     },
     |call| {
@@ -309,7 +340,9 @@ fn two_points(report: &mut Report) {
     let a = independent::compile(&shapes::case_a().to_bytes(), 1, 20).expect("example A");
     let arguments = [3.0, 0.5, -2.0, 4.0].map(f64::to_bits);
     let (mut work, mut out) = ([7; 4], [7; 3]);
-    let got = as_independent(quetlapin::run_points(&a, 2, &arguments, &mut work, &mut out));
+    let got = as_independent(quetlapin::run_points(
+        &a, 2, &arguments, &mut work, &mut out,
+    ));
     let word = f64::to_bits;
     let wanted_work = [word(-2.0), word(4.0), word(-8.0), 7];
     let wanted_out = [word(1.5), word(-8.0), 7];
@@ -331,16 +364,41 @@ fn around(report: &mut Report, code: &[u8], meaning: Option<&Meaning>) {
         let few = count > 1000 && words + outputs > 50;
         let Room { work, out } = good.room;
         for room_work in [work, work.wrapping_sub(1), work + 5, 0] {
-            for room_out in [out, out.wrapping_sub(1), out + 5, 0, outputs, out.wrapping_sub(outputs)] {
+            for room_out in [
+                out,
+                out.wrapping_sub(1),
+                out + 5,
+                0,
+                outputs,
+                out.wrapping_sub(outputs),
+            ] {
                 let lent = room_work <= work + 5 && room_out <= out.max(outputs) + 5;
                 if lent && !(few && room_work != work) {
-                    let room = Room { work: room_work, out: room_out };
-                    compare(report, &Call { room, ..good.clone() }, None);
+                    let room = Room {
+                        work: room_work,
+                        out: room_out,
+                    };
+                    compare(
+                        report,
+                        &Call {
+                            room,
+                            ..good.clone()
+                        },
+                        None,
+                    );
                 }
             }
         }
         let all = good.arguments.len();
-        for length in [0, 1, words, all.wrapping_sub(1), all + 1, all.wrapping_sub(words), all + words] {
+        for length in [
+            0,
+            1,
+            words,
+            all.wrapping_sub(1),
+            all + 1,
+            all.wrapping_sub(words),
+            all + words,
+        ] {
             if length <= all + words + 1 {
                 let mut call = good.clone();
                 call.arguments.resize(length, 0);
@@ -348,7 +406,11 @@ fn around(report: &mut Report, code: &[u8], meaning: Option<&Meaning>) {
             }
         }
     }
-    for count in HUGE.into_iter().chain(wrapping(words)).chain(wrapping(outputs)) {
+    for count in HUGE
+        .into_iter()
+        .chain(wrapping(words))
+        .chain(wrapping(outputs))
+    {
         huge(report, code, count);
     }
 }
@@ -358,7 +420,9 @@ fn wrapping(words: usize) -> Vec<u64> {
     let words = words.max(1) as u64;
     // The odd part has an inverse; each step of Newton's doubles the bits that are right.
     let odd = words >> words.trailing_zeros();
-    let inverse = (0..6).fold(odd, |x, _| x.wrapping_mul(2u64.wrapping_sub(odd.wrapping_mul(x))));
+    let inverse = (0..6).fold(odd, |x, _| {
+        x.wrapping_mul(2u64.wrapping_sub(odd.wrapping_mul(x)))
+    });
     let mut counts = vec![inverse, inverse.wrapping_mul(2), inverse as u32 as u64];
     for bits in [32, 64] {
         let step = (1u128 << bits) >> words.trailing_zeros();

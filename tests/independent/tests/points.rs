@@ -107,7 +107,10 @@ fn huge_counts() {
     for point in 0..3 {
         let arguments = vec![0; 2 * point as usize];
         for count in [(1 << 63) + point, (1 << 31) + point, (1 << 32) + point] {
-            assert_eq!(refused(&CODE, count, &arguments, (3, 2 * point as usize)), 22);
+            assert_eq!(
+                refused(&CODE, count, &arguments, (3, 2 * point as usize)),
+                22
+            );
         }
     }
 }
