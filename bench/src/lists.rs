@@ -92,6 +92,18 @@ fn list(name: &str, code: &Code, target: f64) -> List {
     }
 }
 
+fn heat_exchanger(target: f64) -> List {
+    let table = generate::heat_exchanger::graph().to_bytes();
+    let code = independent::compile(&table, 6, usize::MAX).expect("within the limits");
+    List {
+        name: "heat exchanger".into(),
+        instructions: u16::from_le_bytes([code[8], code[9]]) as usize,
+        arguments: arguments(code[5].into()),
+        code,
+        target,
+    }
+}
+
 /// The lists of the benchmark.
 pub fn lists() -> Vec<List> {
     let mut lists = vec![];
@@ -104,14 +116,17 @@ pub fn lists() -> Vec<List> {
     for count in [10, 300, 500] {
         lists.push(list("matrices", &matrices(count), 1.2));
     }
-    let table = generate::heat_exchanger::graph().to_bytes();
-    let code = independent::compile(&table, 6, usize::MAX).expect("within the limits");
-    lists.push(List {
-        name: "heat exchanger".into(),
-        instructions: u16::from_le_bytes([code[8], code[9]]) as usize,
-        arguments: arguments(code[5].into()),
-        code,
-        target: 0.7,
-    });
+    lists.push(heat_exchanger(0.7));
     lists
+}
+
+/// The lists that are run at many points.
+#[cfg(feature = "points")]
+pub fn layer_lists() -> Vec<List> {
+    vec![
+        list("scalars", &scalars(300), 0.6),
+        list("vectors", &vectors(300), 0.6),
+        list("matrices", &matrices(300), 0.6),
+        heat_exchanger(0.6),
+    ]
 }

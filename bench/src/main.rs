@@ -4,6 +4,8 @@
 mod count;
 #[cfg(feature = "run")]
 mod lists;
+#[cfg(feature = "points")]
+mod points;
 #[cfg(feature = "run")]
 mod runs;
 mod stack;
@@ -28,11 +30,14 @@ fn main() {
     tables::compile();
     #[cfg(feature = "run")]
     runs::run();
+    #[cfg(feature = "points")]
+    points::points();
     #[cfg(feature = "evaluate")]
     runs::evaluate();
     for (name, there) in [
         ("compile", cfg!(feature = "compile")),
         ("run", cfg!(feature = "run")),
+        ("points", cfg!(feature = "points")),
         ("evaluate", cfg!(feature = "evaluate")),
     ] {
         if !there {

@@ -58,6 +58,7 @@ pub fn stack_cell(bytes: Option<usize>) -> String {
 }
 
 /// Tables whose last function calls others.
+#[cfg(any(feature = "compile", feature = "run"))]
 pub fn calls() -> [Case; 4] {
     [
         case("255 nodes called 16 times", shapes::case_n(0)),

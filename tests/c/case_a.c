@@ -1,4 +1,4 @@
-/* Case A of document 01 through the C header: checked, compiled, run, evaluated and refused. */
+/* Case A of document 01 through the C header: checked, compiled, run, run at two points, evaluated and refused. */
 #include <stdio.h>
 #include <string.h>
 
@@ -33,8 +33,9 @@ int main(void)
 {
     const uint64_t arguments[2] = {word(3.0), word(0.5)};
     const uint64_t too_large[2] = {word(3.0), 0x7FF0000000000000u};
+    const uint64_t two_points[4] = {word(3.0), word(0.5), word(-2.0), word(4.0)};
     uint8_t code[24];
-    uint64_t work[4], out[2], answer;
+    uint64_t work[4], out[3], answer;
     size_t i;
 
     expect("check accepts one function", ifg_check(table, sizeof table) == 1);
@@ -60,6 +61,21 @@ int main(void)
     expect("run answers 1", ifr_run(code, 20, arguments, 2, work, 4, out, 2) == 1);
     expect("3 times 0.5 is 1.5", out[0] == word(1.5) && out[1] == 7);
     expect("the work buffer holds the list's words", work[2] == word(1.5) && work[3] == 7);
+
+    for (i = 0; i < 4; i++)
+        work[i] = 7;
+    out[0] = out[1] = out[2] = 7;
+    answer = ifr_run_points(code, 20, 1025, two_points, 4, work, 4, out, 3);
+    expect("1,025 points are refused with 22", IFG_NUMBER(answer) == 22 && IFG_PLACE(answer) == 0);
+    expect("a refusal of points leaves the work buffer",
+           work[0] == 7 && work[1] == 7 && work[2] == 7 && work[3] == 7);
+    expect("a refusal of points leaves the output buffer", out[0] == 7 && out[1] == 7 && out[2] == 7);
+    expect("no points answer 0", ifr_run_points(code, 20, 0, NULL, 0, work, 4, NULL, 0) == 0);
+    expect("no points leave the work buffer", work[0] == 7 && work[2] == 7);
+    expect("two points answer 2", ifr_run_points(code, 20, 2, two_points, 4, work, 4, out, 3) == 2);
+    expect("two points give 1.5 and -8", out[0] == word(1.5) && out[1] == word(-8.0) && out[2] == 7);
+    expect("the work buffer holds the last point's words",
+           work[0] == word(-2.0) && work[1] == word(4.0) && work[2] == word(-8.0) && work[3] == 7);
 
     memset(code, 0xA5, sizeof code);
     out[0] = 7;

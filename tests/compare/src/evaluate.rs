@@ -17,7 +17,7 @@ pub fn compare(report: &mut Report, random: &mut Random, table: &[u8], id: u16) 
         _ => good.len() + random.below(30),
     };
     let arguments = some_arguments(random, argument_words(&good));
-    let room = some_room(random, &good);
+    let room = some_room(random, &good, 1);
 
     let (mut work, mut out) = (Marked::words(room.work), Marked::words(room.out));
     let mut code = Marked::bytes(length);

@@ -11,6 +11,8 @@ mod lister;
 #[cfg(any(feature = "compile", feature = "run"))]
 mod marked;
 mod options;
+#[cfg(feature = "points")]
+mod points;
 mod report;
 #[cfg(feature = "run")]
 mod run;
@@ -59,6 +61,8 @@ fn compare(options: &Options) -> bool {
         run::fixed(&mut report, &mut random);
         run::every_kind(&mut report, &mut random);
     }
+    #[cfg(feature = "points")]
+    points::fixed(&mut report);
     for _ in 0..options.tables {
         random_table(&mut report, &mut random);
     }
@@ -109,11 +113,20 @@ fn random_table(report: &mut Report, random: &mut Random) {
     #[cfg(feature = "run")]
     {
         if let Ok(code) = independent::compile(&table, id, usize::MAX) {
-            run::compiled(report, random, &table, id, &code);
-            run::compiled(report, random, &table, id, &code);
+            let meaning = independent::Meaning::of(&table, id);
+            run::compiled(report, random, &meaning, &code);
+            run::compiled(report, random, &meaning, &code);
             run::damaged_compiled(report, random, &code);
+            #[cfg(feature = "points")]
+            if random.chance(50) {
+                points::compiled(report, random, &meaning, &code);
+            }
         }
         run::list(report, random);
+    }
+    #[cfg(feature = "points")]
+    if random.chance(50) {
+        points::list(report, random);
     }
     #[cfg(feature = "evaluate")]
     {
@@ -130,6 +143,7 @@ fn all_met(report: &Report) -> bool {
         (true, Part::Check, 1, 13),
         (cfg!(feature = "compile"), Part::Compile, 1, 17),
         (cfg!(feature = "run"), Part::Run, 18, 21),
+        (cfg!(feature = "points"), Part::Points, 18, 22),
         (cfg!(feature = "evaluate"), Part::Evaluate, 1, 17),
         (cfg!(feature = "evaluate"), Part::Evaluate, 19, 21),
     ];

@@ -15,14 +15,16 @@ pub enum Part {
     Check,
     Compile,
     Run,
+    Points,
     Evaluate,
     Lister,
 }
 
-const PARTS: [Part; 5] = [
+const PARTS: [Part; 6] = [
     Part::Check,
     Part::Compile,
     Part::Run,
+    Part::Points,
     Part::Evaluate,
     Part::Lister,
 ];
@@ -33,7 +35,7 @@ const PRINTED: usize = 5;
 #[derive(Default)]
 pub struct Report {
     /// For each part, how often each refusal was met; at 0, how often none.
-    met: [[u64; 22]; 5],
+    met: [[u64; 23]; 6],
     pub differences: usize,
 }
 
@@ -123,7 +125,7 @@ impl Report {
         row("refusal", &|part| format!("{part:?}"));
         let lines: Vec<&str> = parts.iter().map(|_| "----------:").collect();
         println!("|----------|{}|", lines.join("|"));
-        for number in 0..22 {
+        for number in 0..23 {
             if parts
                 .iter()
                 .all(|&part| self.met[part as usize][number] == 0)

@@ -4,6 +4,7 @@ use generate::codes::{self, Code};
 use generate::graph::Graph;
 use generate::random::Random;
 use generate::{kinds, shapes};
+use independent::Meaning;
 
 use crate::check::as_independent;
 use crate::marked::Marked;
@@ -22,7 +23,7 @@ pub fn compare(
     code: &[u8],
     arguments: &[u64],
     room: Room,
-    meaning: Option<&dyn Fn() -> Vec<u64>>,
+    meaning: Option<&Meaning>,
 ) {
     let (mut work, mut out) = (Marked::words(room.work), Marked::words(room.out));
     let wanted = independent::run(code, arguments, work.lent(), out.lent());
@@ -42,7 +43,7 @@ pub fn compare(
     if let (Ok(count), Some(meaning)) = (wanted, meaning) {
         report.same(
             "run: the meaning",
-            &meaning()[..],
+            &meaning.on(arguments)[..],
             got_out.front(count),
             inputs,
         );
@@ -59,8 +60,8 @@ pub fn compare(
     report.hold(Part::Run, wanted, got, inputs);
 }
 
-/// The room that a code says it needs, exactly, or more, or less.
-pub fn some_room(random: &mut Random, code: &[u8]) -> Room {
+/// The room that a code says it needs for so many points, exactly, or more, or less.
+pub fn some_room(random: &mut Random, code: &[u8], points: usize) -> Room {
     let field = |at: usize| code.get(at).copied().unwrap_or(0) as usize;
     let (work, out) = (field(10) + 256 * field(11), field(6));
     let mut around = |need: usize| match random.below(100) {
@@ -71,7 +72,7 @@ pub fn some_room(random: &mut Random, code: &[u8]) -> Room {
     };
     Room {
         work: around(work.min(9000)),
-        out: around(out),
+        out: around(points * out),
     }
 }
 
@@ -102,11 +103,10 @@ pub fn argument_words(code: &[u8]) -> usize {
 }
 
 /// Runs a compiled function.
-pub fn compiled(report: &mut Report, random: &mut Random, table: &[u8], id: u16, code: &[u8]) {
+pub fn compiled(report: &mut Report, random: &mut Random, meaning: &Meaning, code: &[u8]) {
     let arguments = some_arguments(random, argument_words(code));
-    let room = some_room(random, code);
-    let meaning = || independent::evaluate(table, id, &arguments);
-    compare(report, code, &arguments, room, Some(&meaning));
+    let room = some_room(random, code, 1);
+    compare(report, code, &arguments, room, Some(meaning));
 }
 
 /// Runs a list that no compiler wrote, and a damaged one.
@@ -114,7 +114,7 @@ pub fn list(report: &mut Report, random: &mut Random) {
     let code = codes::random_code(random);
     let bytes = code.to_bytes();
     let arguments = some_arguments(random, argument_words(&bytes));
-    let room = some_room(random, &bytes);
+    let room = some_room(random, &bytes, 1);
     compare(report, &bytes, &arguments, room, None);
     let bytes = codes::damaged_code(random, &code);
     damaged(report, random, &bytes);
@@ -122,7 +122,7 @@ pub fn list(report: &mut Report, random: &mut Random) {
 
 fn damaged(report: &mut Report, random: &mut Random, bytes: &[u8]) {
     let arguments = some_arguments(random, argument_words(bytes));
-    let room = some_room(random, bytes);
+    let room = some_room(random, bytes, 1);
     compare(report, bytes, &arguments, room, None);
 }
 
@@ -166,6 +166,7 @@ pub fn every_kind(report: &mut Report, random: &mut Random) {
         let graph = shapes::kind_on_quotients(kind, ty);
         let table = graph.to_bytes();
         let code = independent::compile(&table, 1, usize::MAX).expect("within the limits");
+        let meaning = Meaning::of(&table, 1);
         let inputs = &graph.functions[0].inputs;
         let most = Room {
             work: 8192,
@@ -197,7 +198,6 @@ pub fn every_kind(report: &mut Report, random: &mut Random) {
                 arguments.extend(quotients.iter().map(|q| q.0.to_bits()));
                 arguments.extend(quotients.iter().map(|q| q.1.to_bits()));
             }
-            let meaning = || independent::evaluate(&table, 1, &arguments);
             let room = if k < 3 { most } else { exact_room(&code) };
             compare(report, &code, &arguments, room, Some(&meaning));
         }
@@ -298,8 +298,9 @@ fn shape(report: &mut Report, random: &mut Random, graph: &Graph) {
     for function in &graph.functions {
         let code = independent::compile(&table, function.id, usize::MAX);
         if let Ok(code) = code {
+            let meaning = Meaning::of(&table, function.id);
             for _ in 0..4 {
-                compiled(report, random, &table, function.id, &code);
+                compiled(report, random, &meaning, &code);
             }
         }
     }

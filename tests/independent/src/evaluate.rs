@@ -65,27 +65,49 @@ fn matrix(rows: [[f64; 4]; 4]) -> Value {
 ///
 /// The table is accepted, has the function, and the arguments are the words of its inputs.
 pub fn evaluate(table: &[u8], id: u16, arguments: &[u64]) -> Vec<u64> {
-    let graph = read(table).expect("an accepted table");
-    let judged = judge(&graph).expect("an accepted table");
-    let index = graph
-        .functions
-        .iter()
-        .position(|f| f.id == id)
-        .expect("the function stands in the table");
-    let mut inputs = Vec::new();
-    let mut rest = arguments;
-    for &ty in &graph.functions[index].inputs {
-        let (value, behind) = Value::take(ty, rest);
-        inputs.push(value);
-        rest = behind;
+    Meaning::of(table, id).on(arguments)
+}
+
+/// A function of an accepted table, to be evaluated more than once.
+pub struct Meaning<'a> {
+    graph: Graph<'a>,
+    judged: Judged,
+    index: usize,
+}
+
+impl Meaning<'_> {
+    pub fn of(table: &[u8], id: u16) -> Meaning<'_> {
+        let graph = read(table).expect("an accepted table");
+        let judged = judge(&graph).expect("an accepted table");
+        let index = graph
+            .functions
+            .iter()
+            .position(|f| f.id == id)
+            .expect("the function stands in the table");
+        Meaning {
+            graph,
+            judged,
+            index,
+        }
     }
-    let outputs = function(&graph, &judged, index, inputs);
-    let word = |x: f64| if x.is_nan() { NAN } else { x.to_bits() };
-    outputs
-        .iter()
-        .flat_map(Value::components)
-        .map(word)
-        .collect()
+
+    /// The meanings of its outputs on the words of its inputs.
+    pub fn on(&self, arguments: &[u64]) -> Vec<u64> {
+        let mut inputs = Vec::new();
+        let mut rest = arguments;
+        for &ty in &self.graph.functions[self.index].inputs {
+            let (value, behind) = Value::take(ty, rest);
+            inputs.push(value);
+            rest = behind;
+        }
+        let outputs = function(&self.graph, &self.judged, self.index, inputs);
+        let word = |x: f64| if x.is_nan() { NAN } else { x.to_bits() };
+        outputs
+            .iter()
+            .flat_map(Value::components)
+            .map(word)
+            .collect()
+    }
 }
 
 /// The meanings of a function's outputs on these inputs.

@@ -98,7 +98,20 @@ pub fn run_checked(
     work: &mut [u64],
     out: &mut [u64],
 ) -> Result<usize, Refusal> {
-    if arguments.len() != checked.argument_words {
+    judge_lent(checked, 1, arguments, work, out)?;
+    run_judged(checked, arguments, work, out);
+    Ok(checked.output_words)
+}
+
+/// Refusals 19 to 21 for the arguments and the buffers of this many runs.
+pub(crate) fn judge_lent(
+    checked: &CheckedCode,
+    count: usize,
+    arguments: &[u64],
+    work: &[u64],
+    out: &[u64],
+) -> Result<(), Refusal> {
+    if arguments.len() != count * checked.argument_words {
         return refuse(19, 0);
     }
     if !arguments
@@ -107,9 +120,19 @@ pub fn run_checked(
     {
         return refuse(20, 0);
     }
-    if work.len() < checked.words || out.len() < checked.output_words {
+    if work.len() < checked.words || out.len() < count * checked.output_words {
         return refuse(21, 0);
     }
+    Ok(())
+}
+
+/// Every instruction, then the outputs: the arguments and the buffers were judged.
+pub(crate) fn run_judged(
+    checked: &CheckedCode,
+    arguments: &[u64],
+    work: &mut [u64],
+    out: &mut [u64],
+) {
     let code = checked.code;
     let work = &mut work[..checked.words];
     work[..arguments.len()].copy_from_slice(arguments);
@@ -121,7 +144,6 @@ pub fn run_checked(
     for (word, address) in out.iter_mut().zip(code[at..].chunks_exact(2)) {
         *word = work[u16_at(address, 0)];
     }
-    Ok(checked.output_words)
 }
 
 fn float(word: u64) -> f64 {
