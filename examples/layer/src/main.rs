@@ -26,11 +26,11 @@ usage: layer [OPTIONS] TABLE HEIGHT PICTURE
   --help     print this
 
 The layer is 48 mm wide, from -4 to 44 in x and y. The function is compiled
-once and run in calls of 1,024 points. The grey of a point is its field, which
-goes by the distance to the surface: in the material from black, 2 mm deep or
-more, to dark grey, outside from light grey to white, 2 mm away or more. The
-strip below has a bar of 10 mm and these greys; a layer of fewer than 64 points
-along a side goes without it.
+once and run in calls of 1,024 points. The grey of a point is the field there,
+which goes by the distance to the nearest wall: negative, in the material, from
+dark grey at the wall's face to black at 2 mm or more; positive, outside, from
+light grey to white. The strip below has a bar of 10 mm and these greys; a layer
+of fewer than 64 points along a side goes without it.
 
 example: layer --size 768 examples/heat_exchanger.ifg 22 layer.png
 ";
