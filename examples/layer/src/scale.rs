@@ -78,7 +78,7 @@ pub fn strip(size: usize) -> Vec<u8> {
         strip.fill(x, top + line, 1, thick - 2 * line, grey(field));
     }
     // Small layers have no room for the unit.
-    let unit = if size < 160 { "" } else { " mm" };
+    let unit = if size < 168 { "" } else { " mm" };
     for (x, label) in [(from, format!("-2{unit}")), ((from + to) / 2, "0".into()), (to, format!("+2{unit}"))] {
         strip.fill(x - line.div_ceil(2), top + thick, line, dot, INK);
         strip.text(x, text, &label);
