@@ -1,90 +1,144 @@
-//! Draws a layer of the heat exchanger: the code is compiled once and run at every point, as a board does it.
-//!
-//! `layer TABLE HEIGHT PICTURE` writes the picture (PNG); `layer --check TABLE HEIGHT PICTURE` draws it and
-//! compares it with the one that is there.
+//! Draws a layer of the heat exchanger by the library; `layer --help` says how.
 
+mod draw;
 mod png;
+mod progress;
+mod scale;
 
+use std::ffi::OsString;
+use std::io::{Write, stdout};
+use std::path::PathBuf;
 use std::process::ExitCode;
+use std::time::Instant;
 
-/// The part's function in the table, and its argument and output words: a point and a placement to the field and
-/// the fluid.
-const EXCHANGER: u16 = 6;
+const HELP: &str = "\
+Draws a layer of the heat exchanger in examples/ as a picture (PNG) in greys.
 
-/// Points along each side of the picture, and the square in millimetres that it shows.
-const SIDE: usize = 384;
-const LOW: f64 = -4.0;
-const HIGH: f64 = 44.0;
+usage: layer [OPTIONS] TABLE HEIGHT PICTURE
 
-/// White, material, the warm fluid, the cold one.
-const COLOURS: [[u8; 3]; 4] = [[255, 255, 255], [54, 61, 69], [226, 114, 79], [94, 160, 209]];
+  TABLE      the graph table; its function 6 is the part: a point and a
+             placement to the field and the fluid
+  HEIGHT     the layer's height in millimetres; the part is from -2 to 82
+  PICTURE    the file that is written
 
-fn draw(table: &[u8], height: f64) -> Result<Vec<u8>, quetlapin::Refusal> {
-    let mut code = vec![0; 73_996];
-    let length = quetlapin::compile(table, EXCHANGER, &mut code)?;
-    let code = &code[..length];
-    let (mut work, mut out) = (vec![0; 8192], [0; 2]);
-    let mut pixels = Vec::with_capacity(SIDE * SIDE);
-    for row in 0..SIDE {
-        for column in 0..SIDE {
-            let at = |i: usize| LOW + (i as f64 + 0.5) * (HIGH - LOW) / SIDE as f64;
-            let mut arguments = vec![at(column), at(SIDE - 1 - row), height];
-            for i in 0..16 {
-                arguments.push(if i % 5 == 0 { 1.0 } else { 0.0 });
+  --size N   points along each side of the layer, 16 to 4096 (384)
+  --check    write nothing: draw, and compare with the PICTURE that is there
+  --help     print this
+
+The layer is 48 mm wide, from -4 to 44 in x and y. The function is compiled
+once and run in calls of 1,024 points. The grey of a point is the field there,
+which goes by the distance to the nearest wall: negative, in the material, from
+dark grey at the wall's face to black at 2 mm or more; positive, outside, from
+light grey to white. The strip below has a bar of 10 mm and these greys; a layer
+of fewer than 64 points along a side goes without it.
+
+example: layer --size 768 examples/heat_exchanger.ifg 22 layer.png
+";
+
+const SIZES: std::ops::RangeInclusive<usize> = 16..=4096;
+
+enum Failure {
+    Usage(String),
+    Other(String),
+}
+
+struct Order {
+    check: bool,
+    size: usize,
+    height: f64,
+    table: PathBuf,
+    picture: PathBuf,
+}
+
+/// What the command line asks for; nothing if it is help.
+fn order(arguments: impl Iterator<Item = OsString>) -> Result<Option<Order>, Failure> {
+    let usage = |text: String| Err(Failure::Usage(text));
+    let (mut check, mut size, mut options, mut names) = (false, 384, true, Vec::new());
+    let mut arguments = arguments;
+    while let Some(argument) = arguments.next() {
+        let text = argument.to_string_lossy().into_owned();
+        let (option, value) = match text.split_once('=') {
+            Some((option, value)) => (option, Some(OsString::from(value))),
+            None => (&text[..], None),
+        };
+        // A height may have a minus.
+        if !options || !text.starts_with('-') || text.parse::<f64>().is_ok() {
+            names.push(argument);
+            continue;
+        }
+        match (option, value) {
+            ("--help" | "-h", None) => return Ok(None),
+            ("--check", None) => check = true,
+            ("--", None) => options = false,
+            ("--size", value) => {
+                let Some(value) = value.or_else(|| arguments.next()) else {
+                    return usage("--size needs a number".into());
+                };
+                size = match value.to_str().and_then(|value| value.parse().ok()) {
+                    Some(size) if SIZES.contains(&size) => size,
+                    _ => return usage(format!("the size is a whole number from 16 to 4096, not {}", value.display())),
+                };
             }
-            let words: Vec<u64> = arguments.iter().map(|x: &f64| x.to_bits()).collect();
-            quetlapin::run(code, &words, &mut work, &mut out)?;
-            let (field, fluid) = (f64::from_bits(out[0]), f64::from_bits(out[1]));
-            pixels.push(match fluid {
-                _ if field < 0.0 => 1,
-                1.0 => 2,
-                -1.0 => 3,
-                _ => 0,
-            });
+            _ => return usage(format!("no such option: {text}")),
         }
     }
-    Ok(png::picture(SIDE, &pixels, &COLOURS))
+    let [table, height, picture] = &names[..] else {
+        return usage(format!("TABLE, HEIGHT and PICTURE are wanted, {} given", names.len()));
+    };
+    let height = match height.to_str().and_then(|height| height.parse::<f64>().ok()) {
+        Some(height) if height.is_finite() => height,
+        _ => return usage(format!("the height is a number of millimetres, not {}", height.display())),
+    };
+    Ok(Some(Order { check, size, height, table: table.into(), picture: picture.into() }))
+}
+
+/// Does what the command line asks for: the line that says so.
+fn run(order: &Order) -> Result<String, Failure> {
+    let other = |text: String| Failure::Other(text);
+    let (table, picture) = (order.table.display(), order.picture.display());
+    let bytes = std::fs::read(&order.table).map_err(|error| other(format!("{table}: {error}")))?;
+    let points = order.size * order.size;
+    let mut bar = progress::Bar::new();
+    let start = Instant::now();
+    let drawn = draw::layer(&bytes, order.height, order.size, |done| bar.show(done, points));
+    let seconds = start.elapsed().as_secs_f64();
+    bar.clear();
+    let mut greys = drawn.map_err(|why| other(format!("{table}: {why}")))?;
+    greys.extend(scale::strip(order.size));
+    let file = png::picture(order.size, &greys);
+    if order.check {
+        let there = std::fs::read(&order.picture).map_err(|error| other(format!("{picture}: {error}")))?;
+        return match there == file {
+            true => Ok(format!("layer: {picture} is what the library draws")),
+            false => Err(other(format!("{picture} is not what the library draws"))),
+        };
+    }
+    std::fs::write(&order.picture, file).map_err(|error| other(format!("{picture}: {error}")))?;
+    let (calls, speed) = (points.div_ceil(draw::CALL), points as f64 / seconds / 1e6);
+    let plural = if calls == 1 { "" } else { "s" };
+    Ok(format!(
+        "layer: {points} points in {calls} call{plural}, {seconds:.2} s, {speed:.2} million points a second: {picture}"
+    ))
 }
 
 fn main() -> ExitCode {
-    let mut arguments: Vec<String> = std::env::args().skip(1).collect();
-    let check = arguments.first().is_some_and(|first| first == "--check");
-    if check {
-        arguments.remove(0);
-    }
-    let [table, height, picture] = &arguments[..] else {
-        eprintln!("usage: layer [--check] TABLE HEIGHT PICTURE");
-        return ExitCode::FAILURE;
-    };
-    let Ok(height) = height.parse::<f64>() else {
-        eprintln!("layer: {height} is no height in millimetres");
-        return ExitCode::FAILURE;
-    };
-    let bytes = match std::fs::read(table) {
-        Ok(bytes) => bytes,
-        Err(error) => {
-            eprintln!("layer: {table}: {error}");
-            return ExitCode::FAILURE;
+    let done = order(std::env::args_os().skip(1)).and_then(|order| match order {
+        Some(order) => run(&order).map(|line| line + "\n"),
+        None => Ok(HELP.into()),
+    });
+    match done {
+        Ok(text) => {
+            // A reader that has gone is no failure.
+            let _ = stdout().write_all(text.as_bytes());
+            ExitCode::SUCCESS
         }
-    };
-    let drawn = match draw(&bytes, height) {
-        Ok(drawn) => drawn,
-        Err(refusal) => {
-            eprintln!("layer: {table}: {refusal}");
-            return ExitCode::FAILURE;
+        Err(Failure::Usage(text)) => {
+            eprintln!("layer: {text}\nusage: layer [OPTIONS] TABLE HEIGHT PICTURE (layer --help says more)");
+            ExitCode::from(2)
         }
-    };
-    if check {
-        if std::fs::read(picture).is_ok_and(|there| there == drawn) {
-            println!("layer: {picture} is what the library draws");
-            return ExitCode::SUCCESS;
+        Err(Failure::Other(text)) => {
+            eprintln!("layer: {text}");
+            ExitCode::FAILURE
         }
-        eprintln!("layer: {picture} is not what the library draws");
-        return ExitCode::FAILURE;
     }
-    if let Err(error) = std::fs::write(picture, drawn) {
-        eprintln!("layer: {picture}: {error}");
-        return ExitCode::FAILURE;
-    }
-    ExitCode::SUCCESS
 }

@@ -1,4 +1,4 @@
-//! A square PNG of four colours, two bits a pixel, not compressed.
+//! A PNG of 8-bit greys in deflate's stored blocks: no compressor, so the same greys are the same bytes everywhere.
 
 fn crc(bytes: &[u8]) -> u32 {
     let mut crc = !0u32;
@@ -29,29 +29,31 @@ fn chunk(out: &mut Vec<u8>, name: &[u8; 4], content: &[u8]) {
     out.extend(check.to_be_bytes());
 }
 
-pub fn picture(side: usize, pixels: &[u8], colours: &[[u8; 3]; 4]) -> Vec<u8> {
-    let mut rows = Vec::new();
-    for row in pixels.chunks(side) {
-        rows.push(0);
-        rows.extend(row.chunks(4).map(|four| four.iter().fold(0, |byte, pixel| byte << 2 | pixel)));
+/// The picture of whole rows of greys, each `width` long.
+pub fn picture(width: usize, greys: &[u8]) -> Vec<u8> {
+    let height = greys.len() / width;
+    let mut rows = Vec::with_capacity(greys.len() + height);
+    for row in greys.chunks(width) {
+        rows.push(0); // no filter
+        rows.extend(row);
     }
-    // Deflate's stored blocks, at most 65,535 bytes each.
+    // A stored block holds at most 65,535 bytes.
     let mut data = vec![0x78, 0x01];
-    let blocks: Vec<&[u8]> = rows.chunks(65535).collect();
-    for (i, block) in blocks.iter().enumerate() {
-        data.push(u8::from(i + 1 == blocks.len()));
+    let mut left = &rows[..];
+    while !left.is_empty() {
+        let (block, rest) = left.split_at(left.len().min(65535));
+        data.push(u8::from(rest.is_empty()));
         data.extend((block.len() as u16).to_le_bytes());
         data.extend((!(block.len() as u16)).to_le_bytes());
-        data.extend(*block);
+        data.extend(block);
+        left = rest;
     }
     data.extend(adler(&rows).to_be_bytes());
 
+    let mut head = [(width as u32).to_be_bytes(), (height as u32).to_be_bytes()].concat();
+    head.extend([8, 0, 0, 0, 0]); // 8 bits, grey
     let mut out = b"\x89PNG\r\n\x1A\n".to_vec();
-    let size = (side as u32).to_be_bytes();
-    let mut head = [size, size].concat();
-    head.extend([2, 3, 0, 0, 0]);
     chunk(&mut out, b"IHDR", &head);
-    chunk(&mut out, b"PLTE", &colours.concat());
     chunk(&mut out, b"IDAT", &data);
     chunk(&mut out, b"IEND", &[]);
     out
