@@ -1,10 +1,11 @@
--- Every answer is told whole: a success is below 2^32, a refusal has one of 01's numbers and a place below 2^32, and so no two answers
+-- Every answer is told whole: a success is below 2^32, a refusal has one of the numbers 1 to 22 and a place below 2^32, and so no two answers
 -- have the same number.
 use Prim.Native.Nat.{ℕ, _≤_}
 use mathlib.Core.Path.{_≡_, refl, ap, sym, _∙_, subst}
 use mathlib.Core.Bool.{Bool, true, false, _&&_}
 use mathlib.Core.List.{List}
 use mathlib.Core.Option.{Option, none, some}
+use mathlib.Core.Logic.{_⊎_, inl, inr}
 use native.Mathlib.Omega.{arith}
 use lib.Dec.{leb, eqb}
 use lib.ListN.{length}
@@ -30,11 +31,16 @@ use Rattle.lowering.specs.Answers as Answers
 use Rattle.lowering.specs.Answers.{within, compilable, codeOf, compiled, evaluated}
 use Rattle.lowering.specs.Demand3.{Within}
 use Rattle.lowering.proofs.Whole.{compilable-within, code-length, output-count, evaluated-is, runOrRefusal, withCode}
+use Rattle.points.specs.Points.{ranPoints}
+use Rattle.points.specs.Demand3.{Demand3Points}
+use Rattle.points.proofs.Judged.{Late, points-fault, points-count}
+use Rattle.points.proofs.Meaning.{demand3-points}
 use Rattle.checker.specs.Answers.{verdictOf}
 use Rattle.quetlapin.specs.Compiling as compiler
+use Rattle.runner.specs.declared.Ran.{Ran}
 use Rattle.runner.specs.Runs as runner
 use Rattle.quetlapin.specs.Answers as evaluation
-use Rattle.quetlapin.specs.Numbers.{numberOf, Refusal, Bounded, Told, counted, codeLength, runCount, evaluationCount, ofVerdict, ofCompiled, ofRan, ofEvaluated}
+use Rattle.quetlapin.specs.Numbers.{numberOf, Refusal, Bounded, Told, counted, codeLength, runCount, evaluationCount, ofVerdict, ofCompiled, ofRan, ofEvaluated, RunAnswered}
 
 -- ---- one answer, one number
 
@@ -158,6 +164,17 @@ ran-bounded code small arguments work out =
     (need-bounded count-told (leb (b .words) (length work) && leb (length (b .outputs)) (length out)) 21 _ (omega arith, omega arith, omega arith)
     (omega (arith, well-formed code small b .0 e .fit .outputs)))))
 
+pub points-bounded : (code : List ℕ) (points : ℕ) (arguments work out : List ℕ) → Bounded (runCount (ranPoints code points arguments work out))
+points-bounded code points arguments work out = go (ranPoints code points arguments work out) refl
+  where
+    refusal : {n p : ℕ} → ((decode code ≡ none) × (n ≡ 18) × (p ≡ 0)) ⊎ Late n p → Refusal n p
+    refusal (inl (d, a, b)) = (omega arith, omega arith, omega arith)
+    refusal (inr (a, b, c)) = (omega arith, omega arith, omega arith)
+
+    go : (o : Outcome Buffers) → ranPoints code points arguments work out ≡ o → Bounded (runCount o)
+    go (ok b) e = omega (arith, points-count code points arguments work out b e)
+    go (fault n p) e = refusal (points-fault code points arguments work out n p e)
+
 -- ---- the answers as enums are the same answers
 
 pub of-verdict : (o : Outcome ℕ) → ofVerdict (verdictOf o) ≡ o
@@ -185,3 +202,20 @@ module _ {o a : Outcome ℕ} (b : Bounded o) (e : a ≡ o) where
 
   pub told : {r : ℕ} → r ≡ numberOf a → Told o r
   told q = record { number = q ∙ ap numberOf e; bounds = b }
+
+-- the answer of a run, at one point or at many
+pub run-told : {g : Outcome Buffers} {work out work′ out′ : List ℕ} {a : Ran} {r : ℕ} → Bounded (runCount g) → runner.Answered g work out work′ out′ a
+    → r ≡ numberOf (ofRan a) → RunAnswered g work out work′ out′ r
+run-told b h e = record { answer = told b (ap ofRan (h .answer) ∙ of-ran _) e; work-after = h .work-after; out-after = h .out-after }
+
+-- what is told of a run at many points meets demand 3 at each
+pub told-points : (code : List ℕ) (points : ℕ) (arguments work out : List ℕ) {work′ out′ : List ℕ} {r : ℕ}
+    → RunAnswered (ranPoints code points arguments work out) work out work′ out′ r → Demand3Points (λ n. r ≡ n) code points arguments work out work′ out′
+unfolding runner.workAfter runner.outAfter
+told-points code points arguments work out a =
+    demand3-points code points arguments work out
+    (λ b g. (
+      a .answer .number ∙ ap (λ (o : Outcome Buffers). numberOf (runCount o)) g,
+      a .work-after ∙ ap (λ (o : Outcome Buffers). runner.workAfter o work) g,
+      a .out-after ∙ ap (λ (o : Outcome Buffers). runner.outAfter o out) g,
+    ))

@@ -27,9 +27,9 @@ abbrev pub numberOf : Outcome ℕ → ℕ
 numberOf (ok n) = n
 numberOf (fault n p) = refusalNumber n p
 
--- one of 01's numbers, and a place below 2^32
+-- one of 01's numbers or 02's 22, and a place below 2^32
 abbrev pub Refusal : ℕ → ℕ → Type 0
-Refusal n p = (1 ≤ n) × (n ≤ 21) × (p < 0x1_0000_0000)
+Refusal n p = (1 ≤ n) × (n ≤ 22) × (p < 0x1_0000_0000)
 
 -- a success is below 2^32 too
 abbrev pub Bounded : Outcome ℕ → Type 0
@@ -75,7 +75,7 @@ abbrev pub ofEvaluated : Evaluated → Outcome ℕ
 ofEvaluated (evaluated.Done n) = ok n
 ofEvaluated (evaluated.Refused n p) = fault n p
 
--- ---- with the buffers after it
+-- ---- with the buffers after it: of a run, at one point or at many
 
 pub record RunAnswered (g : Outcome Buffers) (work out work′ out′ : List ℕ) (r : ℕ) : Type 0 where
   pub answer : Told (runCount g) r

@@ -10,6 +10,8 @@ ghost use Rattle.graph.specs.Judge.{verdict};
 ghost use Rattle.lowering.specs.Answers.{compilable, compiled, evaluated};
 ghost use Rattle.lowering.specs.Demand3.{Demand3};
 ghost use Rattle.bytecode.specs.Answers.{ran};
+ghost use Rattle.points.specs.Points.{ranPoints};
+ghost use Rattle.points.specs.Demand3.{Demand3Points};
 ghost use Rattle.quetlapin.specs.Compiling as compiling;
 ghost use Rattle.quetlapin.specs.Compiling.{codeAfter};
 ghost use Rattle.quetlapin.specs.Measures.{named, Finds, Readies, measuredOf, upTo, countOf, operationCount, wordCount, codeCount};
@@ -346,7 +348,10 @@ pub extern "C" fn ifr_run_points(
     arguments: &[u64],
     work: &mut [u64],
     out: &mut [u64],
-) -> u64 {
+) -> u64
+    ensures { λ r. ⌜ RunAnswered (ranPoints (now (code .entry)) count (now (arguments .entry)) (now (work .entry)) (now (out .entry))) (now (work .entry)) (now (out .entry)) (now (work .exit)) (now (out .exit)) r ⌝ }
+    ensures { λ r. ⌜ Demand3Points (λ n. r ≡ n) (now (code .entry)) count (now (arguments .entry)) (now (work .entry)) (now (out .entry)) (now (work .exit)) (now (out .exit)) ⌝ }
+{
     ran_number(points::run_points(code, count as usize, arguments, work, out))
 }
 
