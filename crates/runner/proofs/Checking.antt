@@ -1,27 +1,30 @@
 -- One instruction of a code, checked by its kind's row of the port list.
 use Prim.Native.Nat.{ℕ, zero, suc, _+_, _-_, _*_, _≤_, _<_}
 use mathlib.Core.Path.{_≡_, refl, ap, sym, _∙_}
-use mathlib.Core.Bool.{Bool, true, false, _&&_}
+use mathlib.Core.Bool.{Bool, true, false, _&&_, cond}
 use mathlib.Core.List.{List}
 use mathlib.Core.Option.{Option, none}
 use native.Mathlib.Omega.{arith}
 use native.Mathlib.Numerals.{sub-one}
-use borrow.Author.Tests.{le-leb, lt-leb}
-use lib.Dec.{leb, ltb}
+use borrow.Author.Tests.{le-leb, lt-leb, leb-true, leb-false, eq-eqb, ne-eqb, eqb-true}
+use lib.Dec.{leb, ltb, eqb}
 use lib.ListN.{length, replicate}
 use Rattle.ports.specs.declared.Ports.{Ports}
-use Rattle.ports.specs.Kinds.{kindOf}
-use Rattle.ports.specs.Ports.{width, portsOf, own, types, takes, arity, constantIn, constantWords, resultWords, executable, typeFits, legalInstruction}
+use Rattle.ports.specs.Kinds.{Kind, kindOf}
+use Rattle.ports.specs.Ports.{width, portsOf, own, hasType, isType, types, takes, arity, constantIn, constantWords, resultWords, executable, typeFits, legalInstruction}
+use Rattle.ports.proofs.Table.{every-kind}
 use Rattle.ports.proofs.Laws.{words-given}
 use Rattle.value.specs.Values.{constantWord}
 use Rattle.base.specs.Lists.{every}
+use Rattle.base.proofs.Bools.{and-inv, and-false}
 use Rattle.base.specs.Bytes.{byte, u16, constants}
 use Rattle.base.specs.Outcome.{Part}
 use Rattle.bytecode.specs.Run.{Instruction}
 use Rattle.bytecode.specs.Code.{guard, addresses, allBelow, allLess, readOperands, readKind, readInstruction}
 use Rattle.executor.specs.Execution.{endOf, wordsGiven}
+use Rattle.runner.specs.declared.Progress.{Progress}
 use Rattle.runner.specs.declared.Progress.the-variants.{Passed, Refused}
-use Rattle.runner.specs.Checks.{passedOf, Begun}
+use Rattle.runner.specs.Checks.{followed, operandsPassed, constantPassed, passedOf, Begun}
 use Rattle.runner.proofs.Walks.{Walk}
 
 -- ---- loops
@@ -49,10 +52,68 @@ pub first-on : (s : List ℕ) (at n p q result : ℕ) → (n ≡ 0 → ⊥) → 
 first-on s at zero p q result h e = absurd (h refl)
 first-on s at (suc n) p q result h e = ap (λ (b : Bool). b && allBelow result (replicate n q) (addresses n s (at + 2))) e ∙ rw sub-one
 
-pub same-types : (s : List ℕ) (at n result : ℕ) {p q u v : ℕ} {r : Bool} → p ≡ u → q ≡ v
-    → r ≡ allBelow result (types n p q) (addresses n s at) → allBelow result (types n u v) (addresses n s at) ≡ r
-same-types s at n result {p} {q} {u} {v} e f h =
-    sym (h ∙ ap (λ (x : ℕ). allBelow result (types n x q) (addresses n s at)) e ∙ ap (λ (y : ℕ). allBelow result (types n u y) (addresses n s at)) f)
+-- ---- what follows
+
+module _ (s : List ℕ) (end : ℕ) (good : Bool) (next : ℕ) where
+  pub short : length s < end → Refused ≡ followed s end good next
+  unfolding followed
+  short l = rw (lt-leb end (length s) l)
+
+  pub wrong : good ≡ false → Refused ≡ followed s end good next
+  unfolding followed
+  wrong e = rw (e, and-false (leb end (length s)))
+
+  pub whole : end ≤ length s → good ≡ true → {a b : ℕ} → a ≡ end → b ≡ next → Passed (record { at = a; result = b }) ≡ followed s end good next
+  unfolding followed
+  whole l e p q = rw (le-leb end (length s) l, e, p, q) refl
+
+  -- the same as anything that is so in each case
+  pub followed-is : {o : Progress} → (length s < end → Refused ≡ o) → (end ≤ length s → good ≡ false → Refused ≡ o)
+      → (end ≤ length s → good ≡ true → Passed (record { at = end; result = next }) ≡ o) → followed s end good next ≡ o
+  followed-is {o} f g h = go (leb end (length s)) refl good refl
+    where
+      go : (b : Bool) → leb end (length s) ≡ b → (c : Bool) → good ≡ c → followed s end good next ≡ o
+      go false e c q = sym (short (leb-false end (length s) e)) ∙ f (leb-false end (length s) e)
+      go true e false q = sym (wrong q) ∙ g (leb-true end (length s) e) q
+      go true e true q = sym (whole (leb-true end (length s) e) q refl refl) ∙ h (leb-true end (length s) e) q
+
+pub both-below : (s : List ℕ) (at p q result : ℕ) → leb (u16 s at + width p) result ≡ true → leb (u16 s (at + 2) + width q) result ≡ true
+    → allBelow result (types 2 p q) (addresses 2 s at) ≡ true
+both-below s at p q result e f = rw (e, f) refl
+
+pub second-off : (s : List ℕ) (at p q result : ℕ) → leb (u16 s (at + 2) + width q) result ≡ false → allBelow result (types 2 p q) (addresses 2 s at) ≡ false
+second-off s at p q result f = rw f (and-false (leb (u16 s at + width p) result))
+
+pub as-many : (s : List ℕ) (at p q result next : ℕ) {m n : ℕ} → n ≡ m → operandsPassed s at m p q result next ≡ operandsPassed s at n p q result next
+as-many s at p q result next e = ap (λ (k : ℕ). operandsPassed s at k p q result next) (sym e)
+
+-- ---- rows: what an instruction has, by its operands
+
+-- none: the words of a constant; some: no constant, and where there is T they are all of it
+abbrev shaped : Ports → Bool
+shaped r =
+    cond (eqb (r .operands) 0) (cond (executable (r .form)) (eqb (constantIn (r .form) (r .words)) (r .words)) true)
+    (executable (r .form) && eqb (constantIn (r .form) (r .words)) 0 && cond (hasType r) (eqb (r .first) 0 && eqb (r .rest) 0) true)
+
+every-shaped : (k : Kind) → shaped (portsOf k) ≡ true
+every-shaped = every-kind (λ k. shaped (portsOf k)) refl
+
+of-operands : (r : Ports) → shaped r ≡ true → (r .operands ≡ 0 → ⊥)
+    → (executable (r .form) ≡ true) × (constantIn (r .form) (r .words) ≡ 0) × (cond (hasType r) (eqb (r .first) 0 && eqb (r .rest) 0) true ≡ true)
+of-operands r e n =
+    let some = executable (r .form) && eqb (constantIn (r .form) (r .words)) 0 && cond (hasType r) (eqb (r .first) 0 && eqb (r .rest) 0) true in
+    let none = cond (executable (r .form)) (eqb (constantIn (r .form) (r .words)) (r .words)) true in
+    let z : some ≡ true = ap (λ (b : Bool). cond b none some) (sym (ne-eqb (r .operands) 0 n)) ∙ e in
+    let (x, y) = and-inv (executable (r .form) && eqb (constantIn (r .form) (r .words)) 0) (cond (hasType r) (eqb (r .first) 0 && eqb (r .rest) 0) true) z in
+    let (u, v) = and-inv (executable (r .form)) (eqb (constantIn (r .form) (r .words)) 0) x in
+    (u, eqb-true _ _ v, y)
+
+of-constant : (r : Ports) → shaped r ≡ true → r .operands ≡ 0 → executable (r .form) ≡ true → constantIn (r .form) (r .words) ≡ r .words
+of-constant r e n can =
+    let some = executable (r .form) && eqb (constantIn (r .form) (r .words)) 0 && cond (hasType r) (eqb (r .first) 0 && eqb (r .rest) 0) true in
+    let same = eqb (constantIn (r .form) (r .words)) (r .words) in
+    eqb-true _ _
+    (ap (λ (b : Bool). cond b same true) (sym can) ∙ ap (λ (b : Bool). cond b (cond (executable (r .form)) same true) some) (sym (eq-eqb (r .operands) 0 n)) ∙ e)
 
 -- ---- tests passed and failed
 
@@ -107,18 +168,18 @@ module _ (s : List ℕ) (at result : ℕ) (row : Ports) (h : Begun s at result r
   begun : passedOf result (readInstruction s at result) ≡ passedOf result (readKind k t s (at + 2) result)
   begun = pass result _ (le-leb (at + 2) (length s) (h .bytes))
 
-  pub not-executable : executable (row .form) ≡ false → Refused ≡ passedOf result (readInstruction s at result)
+  not-executable : executable (row .form) ≡ false → Refused ≡ passedOf result (readInstruction s at result)
   not-executable e = sym (begun ∙ fail result _ (legal-is ∙ ap (λ (b : Bool). b && typeFits row t) e))
+
+  wrong-type : typeFits row t ≡ false → Refused ≡ passedOf result (readInstruction s at result)
+  wrong-type e = sym (begun ∙ fail result _ (legal-is ∙ ap (λ (b : Bool). executable (row .form) && b) e ∙ and-false (executable (row .form))))
 
   module _ (can : executable (row .form) ≡ true) where
     legal-by : legalInstruction (kindOf k) t ≡ typeFits row t
     legal-by = legal-is ∙ ap (λ (b : Bool). b && typeFits row t) can
 
-    pub wrong-type : typeFits row t ≡ false → Refused ≡ passedOf result (readInstruction s at result)
-    wrong-type e = sym (begun ∙ fail result _ (legal-by ∙ e))
-
     module _ (right : typeFits row t ≡ true) where
-      pub too-short : length s < at + 2 + (2 * n + 8 * c) → Refused ≡ passedOf result (readInstruction s at result)
+      too-short : length s < at + 2 + (2 * n + 8 * c) → Refused ≡ passedOf result (readInstruction s at result)
       too-short l =
           let e : endOf k (at + 2) ≡ at + 2 + (2 * n + 8 * c) = end-is in
           sym (begun ∙ pass result _ (legal-by ∙ right) ∙ fail result _ (lt-leb (endOf k (at + 2)) (length s) (omega arith)))
@@ -130,15 +191,15 @@ module _ (s : List ℕ) (at result : ℕ) (row : Ports) (h : Begun s at result r
             let e : endOf k (at + 2) ≡ at + 2 + (2 * n + 8 * c) = end-is in
             begun ∙ pass result _ (legal-by ∙ right) ∙ pass result _ (le-leb (endOf k (at + 2)) (length s) (omega arith))
 
-        pub too-high : allBelow result (types n (own t (row .first)) (own t (row .rest))) (addresses n s (at + 2)) ≡ false
+        too-high : allBelow result (types n (own t (row .first)) (own t (row .rest))) (addresses n s (at + 2)) ≡ false
             → Refused ≡ passedOf result (readInstruction s at result)
         too-high e = sym (fitted ∙ fail result _ (below-is ∙ e))
 
         module _ (below : allBelow result (types n (own t (row .first)) (own t (row .rest))) (addresses n s (at + 2)) ≡ true) where
-          pub not-allowed : every constantWord (constants c s (at + 2 + 2 * n)) ≡ false → Refused ≡ passedOf result (readInstruction s at result)
+          not-allowed : every constantWord (constants c s (at + 2 + 2 * n)) ≡ false → Refused ≡ passedOf result (readInstruction s at result)
           not-allowed e = sym (fitted ∙ pass result _ (below-is ∙ below) ∙ fail result _ (allowed-is ∙ e))
 
-          pub right-here : every constantWord (constants c s (at + 2 + 2 * n)) ≡ true → {a b : ℕ}
+          right-here : every constantWord (constants c s (at + 2 + 2 * n)) ≡ true → {a b : ℕ}
               → a ≡ at + 2 + (2 * n + 8 * c) → b ≡ result + resultWords row t
               → Passed (record { at = a; result = b }) ≡ passedOf result (readInstruction s at result)
           unfolding passedOf
@@ -148,3 +209,82 @@ module _ (s : List ℕ) (at result : ℕ) (row : Ports) (h : Begun s at result r
               ap (λ (x : ℕ). Passed (record { at = x; result = b })) p
               ∙ ap (λ (y : ℕ). Passed (record { at = endOf k (at + 2); result = y })) q
               ∙ sym (fitted ∙ pass result _ (below-is ∙ below) ∙ pass result _ (allowed-is ∙ e))
+
+-- ---- an instruction, by what its row says
+
+own-none : (p : ℕ) → own 0 p ≡ p
+own-none zero = refl
+own-none (suc p) = ap (λ (b : Bool). cond b 0 (suc p)) (ne-eqb (suc p) 0 (λ e. absurd (omega arith)))
+
+module _ (s : List ℕ) (at result : ℕ) (row : Ports) (h : Begun s at result row) where
+  abbrev type : ℕ
+  type = byte s (at + 1)
+
+  shape : shaped row ≡ true
+  shape = ap shaped (h .row-is) ∙ every-shaped (kindOf (byte s at))
+
+  fits-typed : hasType row ≡ true → typeFits row type ≡ isType type
+  fits-typed e = ap (λ (b : Bool). cond b (isType type) (eqb type 0)) e
+
+  fits-plain : hasType row ≡ false → typeFits row type ≡ eqb type 0
+  fits-plain e = ap (λ (b : Bool). cond b (isType type) (eqb type 0)) e
+
+  -- operands, and no constant
+  operands-here : (row .operands ≡ 0 → ⊥) → typeFits row type ≡ true → (u v next : ℕ) → own type (row .first) ≡ u → own type (row .rest) ≡ v
+      → next ≡ result + resultWords row type
+      → operandsPassed s (at + 2) (row .operands) u v result next ≡ passedOf result (readInstruction s at result)
+  operands-here n right u v next eu ev en =
+      let (can, z, w) = of-operands row shape n in
+      let below : allBelow result (types (row .operands) (own type (row .first)) (own type (row .rest))) (addresses (row .operands) s (at + 2))
+      ≡ allBelow result (types (row .operands) u v) (addresses (row .operands) s (at + 2)) =
+      rw (eu, ev) refl in
+      followed-is s (at + 2 + 2 * row .operands) (allBelow result (types (row .operands) u v) (addresses (row .operands) s (at + 2))) next
+      (λ l. too-short s at result row h (sym z) can right (omega arith))
+      (λ l e. too-high s at result row h (sym z) can right (omega arith) (below ∙ e))
+      (λ l e. right-here s at result row h (sym z) can right (omega arith) (below ∙ e) refl (omega arith) en)
+
+  pub typed-here : hasType row ≡ true → isType type ≡ true → (next : ℕ) → next ≡ result + width type
+      → operandsPassed s (at + 2) (row .operands) type type result next ≡ passedOf result (readInstruction s at result)
+  typed-here e f next q =
+      let (x, y) = and-inv (eqb (row .words) 0) (leb 1 (row .operands)) e in
+      let some : 1 ≤ row .operands = leb-true 1 (row .operands) y in
+      let n : row .operands ≡ 0 → ⊥ = λ z. omega arith in
+      let (can, z, w) = of-operands row shape n in
+      let (a, b) = and-inv (eqb (row .first) 0) (eqb (row .rest) 0) (ap (λ (b : Bool). cond b (eqb (row .first) 0 && eqb (row .rest) 0) true) (sym e) ∙ w) in
+      operands-here n (fits-typed e ∙ f) type type next
+      (ap (own type) (eqb-true (row .first) 0 a)) (ap (own type) (eqb-true (row .rest) 0 b))
+      (q ∙ ap (λ (b : Bool). result + cond b (width type) (row .words)) (sym e))
+
+  pub typed-wrong : hasType row ≡ true → isType type ≡ false → Refused ≡ passedOf result (readInstruction s at result)
+  typed-wrong e f = wrong-type s at result row h refl (fits-typed e ∙ f)
+
+  module _ (e : hasType row ≡ false) where
+    pub plain-wrong : (type ≡ 0 → ⊥) → Refused ≡ passedOf result (readInstruction s at result)
+    plain-wrong n = wrong-type s at result row h refl (fits-plain e ∙ ne-eqb type 0 n)
+
+    pub plain-none : executable (row .form) ≡ false → Refused ≡ passedOf result (readInstruction s at result)
+    plain-none f = not-executable s at result row h refl f
+
+    module _ (z : type ≡ 0) (next : ℕ) (q : next ≡ result + row .words) where
+      right : typeFits row type ≡ true
+      right = fits-plain e ∙ eq-eqb type 0 z
+
+      words : next ≡ result + resultWords row type
+      words = q ∙ ap (λ (b : Bool). result + cond b (width type) (row .words)) (sym e)
+
+      pub plain-here : (row .operands ≡ 0 → ⊥) → operandsPassed s (at + 2) (row .operands) (row .first) (row .rest) result next ≡ passedOf result (readInstruction s at result)
+      plain-here n =
+          operands-here n right (row .first) (row .rest) next
+          (ap (λ (x : ℕ). own x (row .first)) z ∙ own-none (row .first)) (ap (λ (x : ℕ). own x (row .rest)) z ∙ own-none (row .rest)) words
+
+      pub constant-here : executable (row .form) ≡ true → row .operands ≡ 0 → constantPassed s (at + 2) (row .words) next ≡ passedOf result (readInstruction s at result)
+      constant-here can n =
+          let ec = sym (of-constant row shape n can) in
+          let from : at + 2 ≡ at + 2 + 2 * row .operands = omega arith in
+          let moved : every constantWord (constants (row .words) s (at + 2 + 2 * row .operands)) ≡ every constantWord (constants (row .words) s (at + 2)) =
+          ap (λ (a : ℕ). every constantWord (constants (row .words) s a)) (sym from) in
+          let below = no-operand s (at + 2) (row .operands) (own type (row .first)) (own type (row .rest)) result n in
+          followed-is s (at + 2 + 8 * row .words) (every constantWord (constants (row .words) s (at + 2))) next
+          (λ l. too-short s at result row h ec can right (omega arith))
+          (λ l f. not-allowed s at result row h ec can right (omega arith) below (moved ∙ f))
+          (λ l f. right-here s at result row h ec can right (omega arith) below (moved ∙ f) (omega arith) words)

@@ -1,17 +1,21 @@
 -- The check of a code: its counts, or that it is not well formed.
-use Prim.Native.Nat.{ℕ, _+_, _^_, _≤_, _<_}
+use Prim.Native.Nat.{ℕ, _+_, _*_, _^_, _≤_, _<_}
 use mathlib.Core.Path.{_≡_}
+use mathlib.Core.Bool.{Bool, _&&_, cond}
 use mathlib.Core.List.{List}
 use mathlib.Core.Option.{Option, none, some}
 use mathlib.Core.Logic.{_↔_}
+use lib.Dec.{leb}
 use lib.ListN.{length}
 use Rattle.ports.specs.declared.Ports.{Ports}
 use Rattle.ports.specs.Kinds.{kindOf}
-use Rattle.ports.specs.Ports.{portsOf}
-use Rattle.base.specs.Bytes.{byte, u16}
+use Rattle.ports.specs.Ports.{portsOf, types}
+use Rattle.base.specs.Bytes.{byte, u16, constants}
+use Rattle.base.specs.Lists.{every}
 use Rattle.base.specs.Outcome.{Part}
 use Rattle.bytecode.specs.Run.{Instruction, BoardList}
-use Rattle.bytecode.specs.Code.{nextWord, Listed}
+use Rattle.value.specs.Values.{constantWord}
+use Rattle.bytecode.specs.Code.{addresses, allBelow, nextWord, Listed}
 use Rattle.bytecode.specs.WellFormed.{Codes}
 use Rattle.runner.specs.declared.Counts.{Counts}
 use Rattle.runner.specs.declared.Checked.{Checked}
@@ -35,6 +39,18 @@ pub record Exactly (s : List ℕ) (r : Checked) : Type 0 where
 -- the counts that a header says
 abbrev pub headerCounts : List ℕ → Counts
 headerCounts s = record { arguments = byte s 5; outputs = byte s 6; instructions = u16 s 8; words = u16 s 10 }
+
+-- what follows bytes that end within the code and are as they should be
+unfoldable pub followed : List ℕ → (end : ℕ) → Bool → (next : ℕ) → Progress
+followed s end good next = cond (leb end (length s) && good) (Passed (record { at = end; result = next })) Refused
+
+-- operands of these types, their words all before `result`
+abbrev pub operandsPassed : List ℕ → (at count first rest result next : ℕ) → Progress
+operandsPassed s at count first rest result next = followed s (at + 2 * count) (allBelow result (types count first rest) (addresses count s at)) next
+
+-- the words of a constant
+abbrev pub constantPassed : List ℕ → (at count next : ℕ) → Progress
+constantPassed s at count next = followed s (at + 8 * count) (every constantWord (constants count s at)) next
 
 -- what stands behind an instruction, and behind all of them
 

@@ -11,7 +11,7 @@ ghost use Rattle.value.specs.Values.{argumentWord};
 ghost use Rattle.bytecode.specs.Code as Code;
 ghost use Rattle.bytecode.specs.Code.{addresses, allBelow, allLess, readInstruction, readInstructions, countsFit, decode};
 ghost use Rattle.bytecode.specs.Answers.{ran};
-ghost use Rattle.runner.specs.Checks.{passedOf, endedOf, checkedOf, Exactly, Begun, headerCounts};
+ghost use Rattle.runner.specs.Checks.{operandsPassed, constantPassed, passedOf, endedOf, checkedOf, Exactly, Begun, headerCounts};
 ghost use Rattle.runner.specs.Runs.{Answered, Refused18, Runnable, OutputsReady, memoryOf, outputsOf};
 use base::HEADER_LENGTH;
 use ports::Ports;
@@ -98,38 +98,106 @@ fn outputs_less(s: &[u8], from: usize, count: usize, words: usize) -> bool
     true
 }
 
+// Operands at `at`, and what follows them.
+fn check_operands(
+    s: &[u8],
+    at: usize,
+    count: usize,
+    first: u8,
+    rest: u8,
+    result: usize,
+    next: usize,
+) -> Progress
+    requires { ⌜ (at ≤ length (now s)) × (count < 256) ⌝ }
+    ensures { λ r. ⌜ r ≡ operandsPassed (now (s .entry)) at count first rest result next ⌝ }
+{
+    let size = 2 * count;
+    if s.len() - at < size {
+        return Progress::Refused;
+    }
+    if !all_below(s, at, count, first, rest, result) {
+        return Progress::Refused;
+    }
+    Progress::Passed(Cursor {
+        at: at + size,
+        result: next,
+    })
+}
+
+// Two operands, as most kinds have: the place behind them does not wait for the row, and the check takes half the time.
+fn check_two(s: &[u8], at: usize, first: u8, second: u8, result: usize, next: usize) -> Progress
+    requires { ⌜ at ≤ length (now s) ⌝ }
+    ensures { λ r. ⌜ r ≡ operandsPassed (now (s .entry)) at 2 first second result next ⌝ }
+{
+    if s.len() - at < 4 {
+        return Progress::Refused;
+    }
+    if result < base::u16_at(s, at) + ports::width(first) {
+        return Progress::Refused;
+    }
+    if result < base::u16_at(s, at + 2) + ports::width(second) {
+        return Progress::Refused;
+    }
+    Progress::Passed(Cursor {
+        at: at + 4,
+        result: next,
+    })
+}
+
+// The words of a constant at `at`, and what follows them.
+fn check_constant(s: &[u8], at: usize, count: usize, next: usize) -> Progress
+    requires { ⌜ (at ≤ length (now s)) × (count < 256) ⌝ }
+    ensures { λ r. ⌜ r ≡ constantPassed (now (s .entry)) at count next ⌝ }
+{
+    let size = 8 * count;
+    if s.len() - at < size {
+        return Progress::Refused;
+    }
+    if !value::constants_allowed(s, at, count) {
+        return Progress::Refused;
+    }
+    Progress::Passed(Cursor {
+        at: at + size,
+        result: next,
+    })
+}
+
 // One instruction, its kind byte at `at`, by its kind's row.
 fn check_instruction(s: &[u8], at: usize, result: usize, row: Ports) -> Progress
     requires { ⌜ Begun (now s) at result row ⌝ }
     ensures { λ r. ⌜ r ≡ passedOf result (readInstruction (now (s .entry)) at result) ⌝ }
 {
+    let t = s[at + 1];
+    let p = at + 2;
+    let n = row.operands as usize;
+    if ports::has_type(row) {
+        if !ports::is_type(t) {
+            return Progress::Refused;
+        }
+        let next = result + ports::width(t);
+        if n == 2 {
+            return check_two(s, p, t, t, result, next);
+        }
+        return check_operands(s, p, n, t, t, result, next);
+    }
+    if t != 0 {
+        return Progress::Refused;
+    }
+    let words = row.words as usize;
+    let next = result + words;
     let form = row.form;
     if !ports::executable(form) {
         return Progress::Refused;
     }
-    let t = s[at + 1];
-    if !ports::type_fits(row, t) {
-        return Progress::Refused;
+    if n == 0 {
+        return check_constant(s, p, words, next);
     }
-    let p = at + 2;
-    let n = row.operands as usize;
-    let c = ports::constant_words(row);
-    let size = 2 * n + 8 * c;
-    if s.len() - p < size {
-        return Progress::Refused;
+    let first = row.first;
+    let rest = row.rest;
+    if n == 2 {
+        return check_two(s, p, first, rest, result, next);
     }
-    let first = ports::own(t, row.first);
-    let rest = ports::own(t, row.rest);
-    if !all_below(s, p, n, first, rest, result) {
-        return Progress::Refused;
-    }
-    if !value::constants_allowed(s, p + 2 * n, c) {
-        return Progress::Refused;
-    }
-    Progress::Passed(Cursor {
-        at: p + size,
-        result: result + ports::result_words(row, t),
-    })
+    check_operands(s, p, n, first, rest, result, next)
 }
 
 // All instructions, from behind the header and the word `first` on: what stands behind them.
