@@ -2,3 +2,4 @@ pub mod Calls
 pub mod Loop
 pub mod Judged
 pub mod Meaning
+pub mod Witness

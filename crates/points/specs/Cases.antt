@@ -10,20 +10,11 @@ use Rattle.value.specs.Results.{results}
 use Rattle.bytecode.specs.Run.{execute}
 use Rattle.bytecode.specs.Code.{decode, guard, then}
 use Rattle.bytecode.specs.Answers.{Buffers, ran}
-use Rattle.lowering.specs.Cases.{codeA}
+use Rattle.lowering.specs.Cases.{codeA, three, half, threeHalves}
 use Rattle.points.specs.Points.{oneByOne, ranPoints}
 
-abbrev quarter : ℕ
+abbrev pub quarter : ℕ
 quarter = 0x3FD0_0000_0000_0000
-
-abbrev half : ℕ
-half = 0x3FE0_0000_0000_0000
-
-abbrev threeHalves : ℕ
-threeHalves = 0x3FF8_0000_0000_0000
-
-abbrev three : ℕ
-three = 0x4008_0000_0000_0000
 
 abbrev infinite : ℕ
 infinite = 0x7FF0_0000_0000_0000

@@ -16,8 +16,11 @@ abbrev μ-loop : tie.MeasureT-loop
 
 -- ---- places: the entry, the turn, the call in it, and what follows
 
+abbrev known : tie.After-slice-known2 Inv-loop μ-loop → tie.After-shared-slice-known Inv-loop μ-loop
+known p = p .before .before .before
+
 abbrev entry : tie.At-loop Inv-loop μ-loop → tie.Start Inv-loop μ-loop
-entry p = p .before .before .before .before .before
+entry p = known (p .before) .before
 
 abbrev turn : tie.After-struct-known2 Inv-loop μ-loop → tie.In-loop Inv-loop μ-loop
 turn p = p .before .before
@@ -25,13 +28,16 @@ turn p = p .before .before
 abbrev asked : tie.After-run-checked-arg2 Inv-loop μ-loop → tie.After-struct-known2 Inv-loop μ-loop
 asked p = p .before .before
 
+abbrev lent : tie.After-slice-known4 Inv-loop μ-loop → tie.After-work Inv-loop μ-loop
+lent p = p .before .before .before
+
 abbrev ran : tie.After-slice-known4 Inv-loop μ-loop → tie.After-run-checked Inv-loop μ-loop
-ran p = p .before .before .before .before
+ran p = lent p .before
 
 -- ---- needs
 
 loop-holds : tie.Need-loop-holds Inv-loop μ-loop
-loop-holds c = let b = c .before .before .before .before in start _ _ _ _ _ _ (b .pre)
+loop-holds c = start _ _ _ _ _ _ (known c .before .pre)
 
 -- the words of the next point
 fits : (i : tie.In-loop Inv-loop μ-loop) → let b = entry (i .before) in let l = i .before .loop in

@@ -44,8 +44,11 @@ held p = p .before
 abbrev allowed : tie.Else4 → tie.Else3
 allowed p = p .before .before
 
+abbrev lent : tie.After-slice-known4 → tie.After-work
+lent p = p .before .before .before
+
 abbrev done : tie.After-slice-known4 → tie.After-run-each
-done p = p .before .before .before .before
+done p = lent p .before
 
 abbrev ready : tie.After-run-each → tie.Else5
 ready p = p .before .before .before
