@@ -12,7 +12,7 @@ use lib.Dec.{leb, eqb}
 use lib.ListN.{length}
 use Rattle.base.specs.Limits.{pointLimit, portWordLimit}
 use Rattle.base.specs.Lists.{every}
-use Rattle.base.specs.Outcome.{Outcome, ok, fault, _>>=_, _>>_, need, orElse}
+use Rattle.base.specs.Outcome.{Outcome, ok, fault, _>>=_, _>>_, need}
 use Rattle.base.specs.Bytes.{Bytes}
 use Rattle.base.proofs.Bools.{and-inv, and-false}
 use Rattle.base.proofs.Outcomes.{no-fault, passed, ok-is}
@@ -23,7 +23,7 @@ use Rattle.bytecode.specs.Answers.{Buffers}
 use Rattle.bytecode.specs.WellFormed.{Codes}
 use Rattle.bytecode.proofs.Decoded.{well-formed, not-well-formed}
 use Rattle.runner.specs.declared.Counts.{Counts}
-use Rattle.runner.specs.declared.Checked.the-variants.{Formed, Malformed}
+use Rattle.runner.specs.declared.Checked.the-variants.{Malformed}
 use Rattle.runner.specs.declared.Ran.{Ran}
 use Rattle.runner.specs.declared.Ran.the-variants.{Done, Refused}
 use Rattle.runner.specs.Checks.{countsOf, checkedOf}

@@ -1,7 +1,6 @@
 -- The loop over the points: the calls that are left, on the buffers as they are, end where all end.
 use Prim.Native.Nat.{ℕ, zero, suc, _+_, _-_, _*_, _≤_, _<_}
-use mathlib.Core.Path.{_≡_, refl, ap, sym, _∙_, subst}
-use mathlib.Core.Bool.{true}
+use mathlib.Core.Path.{_≡_, refl, ap, sym, _∙_}
 use mathlib.Core.List.{List, _++_, append-assoc}
 use native.Mathlib.Nat.{zero-mul, suc-mul, zero-add}
 use native.Mathlib.Numerals.{sub-one}
@@ -9,14 +8,14 @@ use native.Mathlib.Omega.{arith}
 use lib.ListN.{length, take, drop, length-append, length-drop, take-append-drop}
 use lib.Seq.{length-take-le, take-at, drop-at, drop-drop}
 use Rattle.base.specs.Lists.{every}
-use Rattle.base.specs.Outcome.{Outcome, ok}
+use Rattle.base.specs.Outcome.{ok}
 use Rattle.base.proofs.Outcomes.{takes}
 use Rattle.value.specs.Values.{argumentWord}
 use Rattle.bytecode.specs.Code.{decode}
 use Rattle.bytecode.specs.Answers.{Buffers, ran}
 use Rattle.runner.specs.declared.Counts.{Counts}
 use Rattle.runner.specs.Runs.{Runnable, memoryOf, outputsOf}
-use Rattle.runner.proofs.Decoding.{Decoded, decoded}
+use Rattle.runner.proofs.Decoding.{decoded}
 use Rattle.points.specs.Points.{oneByOne}
 use Rattle.points.specs.Runs.{RunnablePoints, AllRan}
 use Rattle.points.proofs.Calls.{every-parted, call-runs, memory-size, outputs-size}

@@ -1,6 +1,6 @@
 -- Demand 3 for each point. Every call runs the list of the function, so it gives what the graph means at its point, whatever the call before
 -- left in the work buffer.
-use Prim.Native.Nat.{ℕ, _*_, _≤_, _<_}
+use Prim.Native.Nat.{ℕ, _*_, _≤_}
 use mathlib.Core.Path.{_≡_, refl, ap, sym, _∙_, subst}
 use mathlib.Core.Bool.{_&&_}
 use mathlib.Core.List.{List, reverse}
@@ -33,8 +33,8 @@ use Rattle.runner.specs.declared.Ran.{Ran}
 use Rattle.runner.specs.declared.Ran.the-variants.{Done}
 use Rattle.runner.specs.Runs.{answerOf, workAfter, outAfter, Answered}
 use Rattle.points.specs.Points.{oneByOne, ranPoints}
-use Rattle.points.specs.Demand3.{inputWords, outputWords, LentPoints, MeantPoints, Demand3Points}
-use Rattle.points.proofs.Calls.{Called, AllCalled, Keeping, Parted, each-parted, all-called}
+use Rattle.points.specs.Demand3.{inputWords, outputWords, LentPoints, Demand3Points}
+use Rattle.points.proofs.Calls.{Called, AllCalled, Keeping, each-parted, all-called}
 
 module _ (s : List ℕ) (c : ℕ) (functions : List Function) (x : Chosen) (w : Within s c functions x) where
   abbrev words : ℕ

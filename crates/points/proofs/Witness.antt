@@ -1,6 +1,6 @@
 -- What demand 3 asks of points can be so: case A at 3 and 0.5, then at 0.5 and 0.5, with buffers longer than need be. What it then gives is 1.5
 -- and 0.25.
-use Prim.Native.Nat.{ℕ, _<_}
+use Prim.Native.Nat.{ℕ}
 use mathlib.Core.Path.{_≡_, refl, sym, _∙_}
 use mathlib.Core.List.{List, [], _∷_, reverse}
 use mathlib.Core.Option.{some}

@@ -1,6 +1,5 @@
 -- `points::run_each`, point by point.
 use Prim.Native.Nat.{_+_, _≤_}
-use mathlib.Core.Path.{ap, sym, _∙_}
 use native.Mathlib.Omega.{arith}
 use denote.Ref.{now}
 use lib.ListN.{length}

@@ -1,7 +1,6 @@
 -- `quetlapin::ifr_run_points`: the run at all points, its answer as a number.
 use borrow.Author.Needs.{needs}
 use mathlib.Core.Path.{_≡_, ap, _∙_}
-use native.Mathlib.Omega.{arith}
 use denote.Ref.{now}
 use Rattle.points.specs.Points.{ranPoints}
 use Rattle.quetlapin.specs.Numbers.{Bounded, runCount, ofRan}
