@@ -8,10 +8,10 @@ use mathlib.Core.Logic.{_⊎_, inl, inr, ⊎-elim}
 use native.Mathlib.Omega.{arith}
 use native.Mathlib.Nat.{add-zero, add-suc, suc-add}
 use lib.Dec.{eqb}
-use lib.ListN.{length, getD, getElem?, length-map}
+use lib.ListN.{length, take, drop, getD, getElem?, length-map}
 use borrow.Author.Tests.{eqb-true, eq-eqb, ne-eqb}
 use Rattle.base.specs.Lists.{Each, Is, every, member, wordAt, span, wordsAt}
-use Rattle.base.proofs.Bools.{and-inv, and-inv-false, cond-or}
+use Rattle.base.proofs.Bools.{and-inv, and-inv-false, and-both, cond-or}
 
 module _ {A : Type 0} where
   pub some-is : {a b : A} → some a ≡ some b → a ≡ b
@@ -20,6 +20,16 @@ module _ {A : Type 0} where
   pub each-append : (P : A → Type 0) (xs ys : List A) → Each P xs → Each P ys → Each P (xs ++ ys)
   each-append P [] ys h k = k
   each-append P (x ∷ xs) ys (p, h) k = (p, each-append P xs ys h k)
+
+  pub each-take : (P : A → Type 0) (n : ℕ) (xs : List A) → Each P xs → Each P (take n xs)
+  each-take P zero xs h = tt
+  each-take P (suc n) [] h = tt
+  each-take P (suc n) (x ∷ xs) (p, h) = (p, each-take P n xs h)
+
+  pub each-drop : (P : A → Type 0) (n : ℕ) (xs : List A) → Each P xs → Each P (drop n xs)
+  each-drop P zero xs h = h
+  each-drop P (suc n) [] h = tt
+  each-drop P (suc n) (x ∷ xs) (p, h) = each-drop P n xs h
 
   -- past the end stands nothing
   pub past-end : (xs : List A) (i : ℕ) → getElem? xs i ≡ none → length xs ≤ i
@@ -49,6 +59,14 @@ each-less [] m n h e = tt
 each-less (x ∷ xs) m n h e = let p : x < m = e .0 in (omega arith, each-less xs m n h (e .1))
 
 -- ---- tests of every element
+
+pub every-each : (pass : ℕ → Bool) (ws : List ℕ) → every pass ws ≡ true → Each (λ w. pass w ≡ true) ws
+every-each pass [] e = tt
+every-each pass (w ∷ ws) e = let (a, b) = and-inv (pass w) (every pass ws) e in (a, every-each pass ws b)
+
+pub each-every : (pass : ℕ → Bool) (ws : List ℕ) → Each (λ w. pass w ≡ true) ws → every pass ws ≡ true
+each-every pass [] h = refl
+each-every pass (w ∷ ws) (a, h) = and-both (pass w) (every pass ws) a (each-every pass ws h)
 
 -- one that does not pass the test, where not all do
 pub not-every : (pass : ℕ → Bool) (ws : List ℕ) → every pass ws ≡ false → (w : ℕ) × Is w ws × (pass w ≡ false)

@@ -2,8 +2,8 @@
 -- keep; so once all is judged none refuses.
 use Prim.Native.Nat.{ℕ, zero, suc, _+_, _-_, _*_, _≤_, _<_}
 use mathlib.Core.Path.{_≡_, refl, ap, sym, _∙_, subst}
-use mathlib.Core.Bool.{Bool, true}
-use mathlib.Core.List.{List, [], _∷_, _++_}
+use mathlib.Core.Bool.{true}
+use mathlib.Core.List.{List, _++_}
 use mathlib.Core.Option.{Option}
 use native.Mathlib.Nat.{zero-mul, suc-mul}
 use native.Mathlib.Omega.{arith}
@@ -11,7 +11,7 @@ use lib.ListN.{length, take, drop, length-append, length-drop}
 use lib.Seq.{length-take-le, take-at, drop-at, drop-drop, getD-append-add, getD-drop, sets, length-sets}
 use Rattle.base.specs.Lists.{wordAt, every, Each}
 use Rattle.base.specs.Outcome.{Outcome, ok, fault}
-use Rattle.base.proofs.Bools.{and-inv, and-both}
+use Rattle.base.proofs.Lists.{each-take, each-drop, each-every, every-each}
 use Rattle.base.proofs.Outcomes.{takes}
 use Rattle.value.specs.Values.{argumentWord}
 use Rattle.bytecode.specs.Run.{BoardList, run}
@@ -34,37 +34,6 @@ part-next size i xs =
     let e : suc i * size ≡ i * size + size = suc-mul i size in
     let z : suc i * size ≡ size + i * size = omega arith in
     ap (λ (k : ℕ). take size (drop k xs)) z ∙ ap (take size) (sym (drop-drop (i * size) size xs))
-
--- arguments that are allowed, whole and in parts
-pub record Parted (Allowed : List ℕ → Type 0) : Type 0 where
-  pub front : (n : ℕ) (xs : List ℕ) → Allowed xs → Allowed (take n xs)
-  pub back : (n : ℕ) (xs : List ℕ) → Allowed xs → Allowed (drop n xs)
-
-pub each-parted : (P : ℕ → Type 0) → Parted (Each P)
-each-parted P = record { front = front; back = back }
-  where
-    front : (n : ℕ) (xs : List ℕ) → Each P xs → Each P (take n xs)
-    front zero xs h = tt
-    front (suc n) [] h = tt
-    front (suc n) (x ∷ xs) (h, k) = (h, front n xs k)
-
-    back : (n : ℕ) (xs : List ℕ) → Each P xs → Each P (drop n xs)
-    back zero xs h = h
-    back (suc n) [] h = tt
-    back (suc n) (x ∷ xs) (h, k) = back n xs k
-
-pub every-parted : (pass : ℕ → Bool) → Parted (λ xs. every pass xs ≡ true)
-every-parted pass = record { front = front; back = back }
-  where
-    front : (n : ℕ) (xs : List ℕ) → every pass xs ≡ true → every pass (take n xs) ≡ true
-    front zero xs e = refl
-    front (suc n) [] e = refl
-    front (suc n) (x ∷ xs) e = let (a, b) = and-inv (pass x) (every pass xs) e in and-both _ _ a (front n xs b)
-
-    back : (n : ℕ) (xs : List ℕ) → every pass xs ≡ true → every pass (drop n xs) ≡ true
-    back zero xs e = e
-    back (suc n) [] e = refl
-    back (suc n) (x ∷ xs) e = let (a, b) = and-inv (pass x) (every pass xs) e in back n xs b
 
 -- ---- one call, and all
 
@@ -135,10 +104,10 @@ module _ (Good Kept : List ℕ → List ℕ → Type 0) (keeping : Keeping Kept)
         out-rest = rest-all;
       }
 
-module _ (s : List ℕ) (n m words : ℕ) (Good Kept : List ℕ → List ℕ → Type 0) (Allowed : List ℕ → Type 0) (keeping : Keeping Kept) (parted : Parted Allowed)
-    (call : (arguments work out : List ℕ) → length arguments ≡ n → Allowed arguments → words ≤ length work → length out ≡ m
+module _ (s : List ℕ) (n m words : ℕ) (Good Kept : List ℕ → List ℕ → Type 0) (Allowed : ℕ → Type 0) (keeping : Keeping Kept)
+    (call : (arguments work out : List ℕ) → length arguments ≡ n → Each Allowed arguments → words ≤ length work → length out ≡ m
     → Called Good Kept m (ran s arguments work out) arguments work) where
-  pub all-called : (points : ℕ) (arguments work out : List ℕ) → length arguments ≡ points * n → Allowed arguments → words ≤ length work
+  pub all-called : (points : ℕ) (arguments work out : List ℕ) → length arguments ≡ points * n → Each Allowed arguments → words ≤ length work
       → points * m ≤ length out → AllCalled Good Kept n m points (oneByOne s n m points arguments work out) arguments work out
   unfolding oneByOne
   all-called zero arguments work out l f w o =
@@ -155,12 +124,12 @@ module _ (s : List ℕ) (n m words : ℕ) (Good Kept : List ℕ → List ℕ →
       let sn : suc points * n ≡ points * n + n = suc-mul points n in
       let sm : suc points * m ≡ points * m + m = suc-mul points m in
       let a =
-      call (take n arguments) work (take m out) (length-take-le n arguments (omega arith)) (parted .front n arguments f) w
+      call (take n arguments) work (take m out) (length-take-le n arguments (omega arith)) (each-take Allowed n arguments f) w
       (length-take-le m out (omega arith)) in
       let lo = length-drop m out in
       let lw = keeping .size work (a .after .work) (a .kept) in
       let b =
-      all-called points (drop n arguments) (a .after .work) (drop m out) (length-drop n arguments ∙ omega arith) (parted .back n arguments f)
+      all-called points (drop n arguments) (a .after .work) (drop m out) (length-drop n arguments ∙ omega arith) (each-drop Allowed n arguments f)
       (omega arith) (omega arith) in
       one-more Good Kept keeping n m points arguments work out (omega arith) a b
       (takes (ran s (take n arguments) work (take m out)) _ (a .after) (a .is)
@@ -176,6 +145,10 @@ answered-ok (ok b) k h =
     let c : k ≡ b .count = cc in
     rw (h .work-after, h .out-after, c) refl
 answered-ok (fault n p) k h = let z : _≡_ {A = ℕ} 0 1 = cc in absurd (omega arith)
+
+-- 20 lets it pass
+abbrev pub Passes : ℕ → Type 0
+Passes w = argumentWord w ≡ true
 
 module _ {s : List ℕ} {c : Counts} (d : Decoded s c) where
   pub memory-size : (arguments work : List ℕ) → length (memoryOf (decode s) arguments work) ≡ length work
@@ -200,15 +173,16 @@ module _ {s : List ℕ} {c : Counts} (d : Decoded s c) where
       → c .words ≤ length work → points * c .outputs ≤ length out
       → AllCalled (λ xs ys. Unit {0}) (λ l m. length m ≡ length l) (c .arguments) (c .outputs) points
       (oneByOne s (c .arguments) (c .outputs) points arguments work out) arguments work out
-  none-refused =
-      all-called s (c .arguments) (c .outputs) (c .words) (λ xs ys. Unit {0}) (λ l m. length m ≡ length l) (λ xs. every argumentWord xs ≡ true)
-      (record { none = λ l. refl; both = λ l m n p q. q ∙ p; size = λ l m p. p }) (every-parted argumentWord)
+  none-refused points arguments work out l f =
+      all-called s (c .arguments) (c .outputs) (c .words) (λ xs ys. Unit {0}) (λ l m. length m ≡ length l) Passes
+      (record { none = λ l. refl; both = λ l m n p q. q ∙ p; size = λ l m p. p })
       (λ arguments work out l f w o.
       record {
         after = record { count = c .outputs; work = memoryOf (decode s) arguments work; out = outputsOf (decode s) arguments work out };
-        is = call-runs arguments work out l f w (omega arith);
+        is = call-runs arguments work out l (each-every argumentWord arguments f) w (omega arith);
         count = refl;
         size = outputs-size arguments work out ∙ o;
         good = tt;
         kept = memory-size arguments work;
       })
+      points arguments work out l (every-each argumentWord arguments f)

@@ -9,6 +9,7 @@ use lib.ListN.{length, take, drop, length-append, length-drop, take-append-drop}
 use lib.Seq.{length-take-le, take-at, drop-at, drop-drop}
 use Rattle.base.specs.Lists.{every}
 use Rattle.base.specs.Outcome.{ok}
+use Rattle.base.proofs.Lists.{each-take, each-drop, each-every, every-each}
 use Rattle.base.proofs.Outcomes.{takes}
 use Rattle.value.specs.Values.{argumentWord}
 use Rattle.bytecode.specs.Code.{decode}
@@ -18,7 +19,7 @@ use Rattle.runner.specs.Runs.{Runnable, memoryOf, outputsOf}
 use Rattle.runner.proofs.Decoding.{decoded}
 use Rattle.points.specs.Points.{oneByOne}
 use Rattle.points.specs.Runs.{RunnablePoints, AllRan}
-use Rattle.points.proofs.Calls.{every-parted, call-runs, memory-size, outputs-size}
+use Rattle.points.proofs.Calls.{Passes, call-runs, memory-size, outputs-size}
 
 -- ---- a part of a slice, from a start for so many words
 
@@ -81,7 +82,8 @@ module _ (s : List ℕ) (c : Counts) (points : ℕ) (arguments work₀ out₀ : 
         record {
           formed = h .formed;
           arguments-all = ap length e ∙ length-take-le (c .arguments) (drop from arguments) (omega arith);
-          allowed = ap (every argumentWord) e ∙ every-parted argumentWord .front (c .arguments) (drop from arguments) (every-parted argumentWord .back from arguments (h .allowed));
+          allowed = ap (every argumentWord) e ∙ each-every argumentWord (take (c .arguments) (drop from arguments))
+              (each-take Passes (c .arguments) (drop from arguments) (each-drop Passes from arguments (every-each argumentWord arguments (h .allowed))));
           work-room = omega arith;
           out-room = omega arith;
         }

@@ -34,7 +34,7 @@ use Rattle.runner.specs.declared.Ran.the-variants.{Done}
 use Rattle.runner.specs.Runs.{answerOf, workAfter, outAfter, Answered}
 use Rattle.points.specs.Points.{oneByOne, ranPoints}
 use Rattle.points.specs.Demand3.{inputWords, outputWords, LentPoints, Demand3Points}
-use Rattle.points.proofs.Calls.{Called, AllCalled, Keeping, each-parted, all-called}
+use Rattle.points.proofs.Calls.{Called, AllCalled, Keeping, all-called}
 
 module _ (s : List ℕ) (c : ℕ) (functions : List Function) (x : Chosen) (w : Within s c functions x) where
   abbrev words : ℕ
@@ -74,7 +74,7 @@ module _ (s : List ℕ) (c : ℕ) (functions : List Function) (x : Chosen) (w : 
 
     pub all : AllCalled Means Kept (inputWords x) (outputWords x) points calls arguments work out
     all =
-        all-called (codeOf x) (inputWords x) (outputWords x) words Means Kept (Each Finite) keeping (each-parted Finite) call points arguments work out
+        all-called (codeOf x) (inputWords x) (outputWords x) words Means Kept Finite keeping call points arguments work out
         (l .count) (l .finite) (l .work-fits) (l .out-fits)
 
     -- nothing is refused

@@ -1,5 +1,5 @@
 -- Values are of their types, and their words stand for them.
-use Prim.Native.Nat.{ℕ, zero, suc, _*_, _^_, _%_, _<_}
+use Prim.Native.Nat.{ℕ, suc, _*_, _^_, _%_, _<_}
 use mathlib.Core.Path.{_≡_, refl, ap, ap₂, sym, _∙_, subst}
 use mathlib.Core.Logic.{_⊎_, inl, inr}
 use mathlib.Core.Bool.{Bool, true, false, not}
@@ -27,7 +27,7 @@ use Rattle.value.specs.Steps.{scalar, matrix}
 use Rattle.value.specs.Results.{operand, vectorOf, results}
 use Rattle.value.proofs.Held.{zero-held, one-held, scalar-held, vector-held, matrix-held, operand-held, each-typed}
 use Rattle.value.specs.Typed.{TypeCode, Finite, Held, RowHeld, VecHeld, MatHeld, ValueHeld, Of, Typed}
-use Rattle.base.proofs.Lists.{whole}
+use Rattle.base.proofs.Lists.{whole, each-take, each-drop}
 
 -- ---- words
 
@@ -226,25 +226,15 @@ pub values-typed : (ts ws : List ℕ) → Each TypeCode ts → Typed ts (valuesO
 values-typed [] ws h = tt
 values-typed (t ∷ ts) ws (c, h) = (value-of t (take (width t) ws) c, values-typed ts (drop (width t) ws) h)
 
-each-take : (n : ℕ) (ws : List ℕ) → Each Finite ws → Each Finite (take n ws)
-each-take zero ws h = tt
-each-take (suc n) [] h = tt
-each-take (suc n) (w ∷ ws) (f, h) = (f, each-take n ws h)
-
-each-drop : (n : ℕ) (ws : List ℕ) → Each Finite ws → Each Finite (drop n ws)
-each-drop zero ws h = h
-each-drop (suc n) [] h = tt
-each-drop (suc n) (w ∷ ws) (f, h) = each-drop n ws h
-
 pub words-of-values : (ts ws : List ℕ) → Each Finite ws → length ws ≡ widths ts → allWords (valuesOf ts ws) ≡ ws
 words-of-values [] [] f l = refl
 words-of-values [] (w ∷ ws) f l = absurd (omega arith)
 words-of-values (t ∷ ts) ws f l =
     let front = take (width t) ws in
     let size : length front ≡ width t = length-take-le (width t) ws (omega arith) in
-    let a : wordsOf (valueOf t front) ≡ front = words-of-value t front (each-take (width t) ws f) size in
+    let a : wordsOf (valueOf t front) ≡ front = words-of-value t front (each-take Finite (width t) ws f) size in
     let b : allWords (valuesOf ts (drop (width t) ws)) ≡ drop (width t) ws =
-    words-of-values ts (drop (width t) ws) (each-drop (width t) ws f) (simp length-drop (omega arith)) in
+    words-of-values ts (drop (width t) ws) (each-drop Finite (width t) ws f) (simp length-drop (omega arith)) in
     ap₂ (λ (x y : List ℕ). x ++ y) a b ∙ take-append-drop (width t) ws
 
 -- ---- values at an address
