@@ -79,7 +79,7 @@ returns : tie.Need-returns
 returns c = let p = c .before .before in answered p (refused-18 _ _ _ _ _ (sym (p .check-code .ensures .0) ∙ c .enum-told .given .1))
 
 returns-2 : tie.Need-returns-2
-returns-2 c = let p = c .before in answered (entry p) (refused-22 _ _ _ _ _ (list p) (c .if1 .taken))
+returns-2 c = let p = c .before in answered (entry p) (refused-22 _ _ _ _ _ (list p) (omega (arith, c .if1 .taken)))
 
 mul-if2 : tie.Need-mul-if2
 mul-if2 c =
@@ -105,7 +105,7 @@ returns-5 c =
     let e = c .before .before in
     let d = counted e in
     let p = few d .before in
-    answered (entry p) (refused-work _ _ _ _ _ (list p) (few d .if1 .left) (d .if2 .left) (finite e) (c .if4 .taken))
+    answered (entry p) (refused-work _ _ _ _ _ (list p) (few d .if1 .left) (d .if2 .left) (finite e) (omega (arith, c .if4 .taken)))
 
 mul-words : tie.Need-mul-words
 mul-words c =
@@ -118,7 +118,7 @@ returns-6 c =
     let e = allowed (held (c .before)) in
     let d = counted e in
     let p = few d .before in
-    answered (entry p) (refused-out _ _ _ _ _ (list p) (few d .if1 .left) (d .if2 .left) (finite e) (c .if5 .taken))
+    answered (entry p) (refused-out _ _ _ _ _ (list p) (few d .if1 .left) (d .if2 .left) (finite e) (omega (arith, c .if5 .taken)))
 
 run-each-requires : tie.Need-run-each-requires
 run-each-requires c κs =
@@ -131,8 +131,8 @@ run-each-requires c κs =
       formed = sym (entry p .check-code .ensures .0) ∙ p .before .counts .given .1;
       arguments-all = d .if2 .left;
       allowed = finite e;
-      work-room = h .if4 .left;
-      out-room = g .if5 .left;
+      work-room = omega (arith, h .if4 .left);
+      out-room = omega (arith, g .if5 .left);
     }
 
 returns-7 : tie.Need-returns-7
@@ -144,7 +144,7 @@ returns-7 c =
     let d = counted e in
     let p = few d .before in
     answered (entry p)
-    (completed _ _ _ _ _ (list p) (few d .if1 .left) (d .if2 .left) (finite e) (h .if4 .left) (g .if5 .left) (r .run-each .ensures))
+    (completed _ _ _ _ _ (list p) (few d .if1 .left) (d .if2 .left) (finite e) (omega (arith, h .if4 .left)) (omega (arith, g .if5 .left)) (r .run-each .ensures))
 
 pub run-points-spec : {M : Type 1} → statement M
 run-points-spec =
