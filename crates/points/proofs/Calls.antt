@@ -4,23 +4,20 @@ use Prim.Native.Nat.{ℕ, zero, suc, _+_, _-_, _*_, _≤_, _<_}
 use mathlib.Core.Path.{_≡_, refl, ap, sym, _∙_, subst}
 use mathlib.Core.Bool.{true}
 use mathlib.Core.List.{List, _++_}
-use mathlib.Core.Option.{Option}
 use native.Mathlib.Nat.{zero-mul, suc-mul}
 use native.Mathlib.Omega.{arith}
 use lib.ListN.{length, take, drop, length-append, length-drop}
-use lib.Seq.{length-take-le, take-at, drop-at, drop-drop, getD-append-add, getD-drop, sets, length-sets}
+use lib.Seq.{length-take-le, take-at, drop-at, drop-drop, getD-append-add, getD-drop}
 use Rattle.base.specs.Lists.{wordAt, every, Each}
-use Rattle.base.specs.Outcome.{Outcome, ok, fault}
+use Rattle.base.specs.Outcome.{Outcome, ok}
 use Rattle.base.proofs.Lists.{each-take, each-drop, each-every, every-each}
 use Rattle.base.proofs.Outcomes.{takes}
 use Rattle.value.specs.Values.{argumentWord}
-use Rattle.bytecode.specs.Run.{BoardList, run}
 use Rattle.bytecode.specs.Code.{decode}
 use Rattle.bytecode.specs.Answers.{Buffers, ran}
 use Rattle.runner.specs.declared.Counts.{Counts}
-use Rattle.runner.specs.declared.Ran.the-variants.{Done}
-use Rattle.runner.specs.Runs.{answerOf, workAfter, outAfter, Answered, memoryOf, outputsOf}
-use Rattle.runner.proofs.Decoding.{Decoded, completed, length-all}
+use Rattle.runner.specs.Runs.{memoryOf, outputsOf}
+use Rattle.runner.proofs.Decoding.{Decoded, ran-ok, memory-length, outputs-length}
 use Rattle.points.specs.Points.{oneByOne}
 use Rattle.points.specs.Demand3.{part}
 
@@ -137,37 +134,11 @@ module _ (s : List ℕ) (n m words : ℕ) (Good Kept : List ℕ → List ℕ →
 
 -- ---- a code that is well formed
 
--- an answer that is a count is an outcome without a refusal
-pub answered-ok : (g : Outcome Buffers) {work out work′ out′ : List ℕ} (k : ℕ) → Answered g work out work′ out′ (Done k)
-    → g ≡ ok (record { count = k; work = work′; out = out′ })
-unfolding answerOf workAfter outAfter
-answered-ok (ok b) k h =
-    let c : k ≡ b .count = cc in
-    rw (h .work-after, h .out-after, c) refl
-answered-ok (fault n p) k h = let z : _≡_ {A = ℕ} 0 1 = cc in absurd (omega arith)
-
 -- 20 lets it pass
 abbrev pub Passes : ℕ → Type 0
 Passes w = argumentWord w ≡ true
 
 module _ {s : List ℕ} {c : Counts} (d : Decoded s c) where
-  pub memory-size : (arguments work : List ℕ) → length (memoryOf (decode s) arguments work) ≡ length work
-  unfolding memoryOf
-  memory-size arguments work =
-      ap (λ (x : Option BoardList). length (memoryOf x arguments work)) (d .is)
-      ∙ length-all (d .list .instructions) (sets work 0 arguments)
-      ∙ length-sets work 0 arguments
-
-  pub outputs-size : (arguments work out : List ℕ) → length (outputsOf (decode s) arguments work out) ≡ length out
-  unfolding outputsOf
-  outputs-size arguments work out = ap (λ (x : Option BoardList). length (outputsOf x arguments work out)) (d .is) ∙ length-sets out 0 (run (d .list) arguments work .outputs)
-
-  pub call-runs : (arguments work out : List ℕ) → length arguments ≡ c .arguments → every argumentWord arguments ≡ true → c .words ≤ length work
-      → c .outputs ≤ length out
-      → ran s arguments work out
-      ≡ ok (record { count = c .outputs; work = memoryOf (decode s) arguments work; out = outputsOf (decode s) arguments work out })
-  call-runs arguments work out l f w o = answered-ok (ran s arguments work out) (c .outputs) (completed s arguments work out d l f w o refl refl)
-
   -- once all is judged, none of the calls refuses
   pub none-refused : (points : ℕ) (arguments work out : List ℕ) → length arguments ≡ points * c .arguments → every argumentWord arguments ≡ true
       → c .words ≤ length work → points * c .outputs ≤ length out
@@ -179,10 +150,10 @@ module _ {s : List ℕ} {c : Counts} (d : Decoded s c) where
       (λ arguments work out l f w o.
       record {
         after = record { count = c .outputs; work = memoryOf (decode s) arguments work; out = outputsOf (decode s) arguments work out };
-        is = call-runs arguments work out l (each-every argumentWord arguments f) w (omega arith);
+        is = ran-ok s arguments work out d l (each-every argumentWord arguments f) w (omega arith);
         count = refl;
-        size = outputs-size arguments work out ∙ o;
+        size = outputs-length (decode s) arguments work out ∙ o;
         good = tt;
-        kept = memory-size arguments work;
+        kept = memory-length (decode s) arguments work;
       })
       points arguments work out l (every-each argumentWord arguments f)

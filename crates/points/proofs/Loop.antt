@@ -16,10 +16,10 @@ use Rattle.bytecode.specs.Code.{decode}
 use Rattle.bytecode.specs.Answers.{Buffers, ran}
 use Rattle.runner.specs.declared.Counts.{Counts}
 use Rattle.runner.specs.Runs.{Runnable, memoryOf, outputsOf}
-use Rattle.runner.proofs.Decoding.{decoded}
+use Rattle.runner.proofs.Decoding.{decoded, ran-ok, memory-length, outputs-length}
 use Rattle.points.specs.Points.{oneByOne}
 use Rattle.points.specs.Runs.{RunnablePoints, AllRan}
-use Rattle.points.proofs.Calls.{Passes, call-runs, memory-size, outputs-size}
+use Rattle.points.proofs.Calls.{Passes}
 
 -- ---- a part of a slice, from a start for so many words
 
@@ -97,14 +97,14 @@ module _ (s : List ℕ) (c : Counts) (points : ℕ) (arguments work₀ out₀ : 
       one : ran s (take (c .arguments) (drop from arguments)) work (take (c .outputs) (drop to out)) ≡ ok (record { count = c .outputs; work = work′; out = ys′ })
       one =
           let r = runnable more ew size in
-          rw (sym ew, sym ey, em, eo) (call-runs (decoded s c (h .formed)) ws work ys (r .arguments-all) (r .allowed) (r .work-room) (r .out-room))
+          rw (sym ew, sym ey, em, eo) (ran-ok s ws work ys (decoded s c (h .formed)) (r .arguments-all) (r .allowed) (r .work-room) (r .out-room))
 
       front : length (take to out ++ ys′) ≡ to + c .outputs
       front =
           let (a, b) = next-fits more in
           let x = length-append (take to out) ys′ in
           let y = length-take-le to out (omega arith) in
-          let z : length ys′ ≡ length ys = ap length eo ∙ outputs-size (decoded s c (h .formed)) ws work ys in
+          let z : length ys′ ≡ length ys = ap length eo ∙ outputs-length (decode s) ws work ys in
           let k = size in
           omega arith
 
@@ -128,7 +128,6 @@ module _ (s : List ℕ) (c : Counts) (points : ℕ) (arguments work₀ out₀ : 
           go (suc k) l a o f =
               let sa = suc-mul k (c .arguments) in
               let so = suc-mul k (c .outputs) in
-              let d = decoded s c (h .formed) in
               let fits = next-fits more .1 in
               let x = length-append (take to out ++ ys′) (drop (to + c .outputs) out) in
               let y = length-drop (to + c .outputs) out in
@@ -137,7 +136,7 @@ module _ (s : List ℕ) (c : Counts) (points : ℕ) (arguments work₀ out₀ : 
               (record {
                 arguments-left = omega arith;
                 outputs-left = omega arith;
-                work-same = ap length em ∙ memory-size d ws work ∙ g .work-same;
+                work-same = ap length em ∙ memory-length (decode s) ws work ∙ g .work-same;
                 out-same = ap length et ∙ omega arith ∙ g .out-same;
                 rest = λ r e.
                     let count : to + (c .outputs + r .count) ≡ to + c .outputs + r .count = omega arith in

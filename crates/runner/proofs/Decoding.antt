@@ -157,22 +157,22 @@ module _ (s arguments work out : List ℕ) where
             let o = d .outputs in
             short (ap (λ (b : Bool). leb (d .list .words) (length work) && b) (lt-leb (length (d .list .outputs)) (length out) (omega arith)) ∙ and-false (leb (d .list .words) (length work)))
 
-        pub completed : c .words ≤ length work → c .outputs ≤ length out → {work′ out′ : List ℕ} → work′ ≡ memoryOf (decode s) arguments work
-            → out′ ≡ outputsOf (decode s) arguments work out → Answered (ran s arguments work out) work out work′ out′ (Done (c .outputs))
-        unfolding answerOf workAfter outAfter memoryOf outputsOf ran _>>=_ _>>_ need
-        completed w o {work′} {out′} e1 e2 =
+        -- past all refusals the run is the list's
+        pub ran-ok : c .words ≤ length work → c .outputs ≤ length out
+            → ran s arguments work out
+            ≡ ok (record { count = c .outputs; work = memoryOf (decode s) arguments work; out = outputsOf (decode s) arguments work out })
+        unfolding memoryOf outputsOf ran _>>=_ _>>_ need
+        ran-ok w o =
             let dw = d .words in
             let do′ = d .outputs in
             let h1 = le-leb (d .list .words) (length work) (omega arith) in
             let h2 = le-leb (length (d .list .outputs)) (length out) (omega arith) in
-            let b = d .list in
-            let g : ran s arguments work out ≡ ok (record { count = length (b .outputs); work = run b arguments work .memory; out = sets out 0 (run b arguments work .outputs) }) =
-            rw (d .is, eq-eqb (length arguments) (b .arguments) (count ∙ d .arguments), f, h1, h2) in
-            record {
-              answer = rw g (ap Done (d .outputs));
-              work-after = rw g (e1 ∙ ap (λ (x : Option BoardList). memoryOf x arguments work) (d .is));
-              out-after = rw g (e2 ∙ ap (λ (x : Option BoardList). outputsOf x arguments work out) (d .is));
-            }
+            rw (d .is, eq-eqb (length arguments) (d .list .arguments) (count ∙ d .arguments), f, h1, h2, d .outputs) refl
+
+        pub completed : c .words ≤ length work → c .outputs ≤ length out → {work′ out′ : List ℕ} → work′ ≡ memoryOf (decode s) arguments work
+            → out′ ≡ outputsOf (decode s) arguments work out → Answered (ran s arguments work out) work out work′ out′ (Done (c .outputs))
+        unfolding answerOf workAfter outAfter
+        completed w o e1 e2 = let g = ran-ok w o in record { answer = rw g refl; work-after = rw g e1; out-after = rw g e2 }
 
 -- ---- the run of a code that was checked
 
@@ -224,7 +224,7 @@ outputs-ready s c size room d h r =
 
 -- ---- lengths
 
-pub length-all : (is : List Instruction) (m : List ℕ) → length (executeAll is m) ≡ length m
+length-all : (is : List Instruction) (m : List ℕ) → length (executeAll is m) ≡ length m
 length-all [] m = refl
 length-all (i ∷ is) m = length-all is (execute i m) ∙ execute-length i m
 
@@ -235,3 +235,13 @@ length-after (some l) m = length-all (l .instructions) m
 
 pub length-copy : {m : List ℕ} (work arguments : List ℕ) → m ≡ sets work 0 arguments → length m ≡ length work
 length-copy work arguments e = ap length e ∙ length-sets work 0 arguments
+
+pub memory-length : (o : Option BoardList) (arguments work : List ℕ) → length (memoryOf o arguments work) ≡ length work
+unfolding memoryOf
+memory-length none arguments work = refl
+memory-length (some b) arguments work = length-all (b .instructions) (sets work 0 arguments) ∙ length-sets work 0 arguments
+
+pub outputs-length : (o : Option BoardList) (arguments work out : List ℕ) → length (outputsOf o arguments work out) ≡ length out
+unfolding outputsOf
+outputs-length none arguments work out = refl
+outputs-length (some b) arguments work out = length-sets out 0 (run b arguments work .outputs)
