@@ -1,3 +1,4 @@
+pub mod Sequential
 pub mod Memory
 pub mod Back
 pub mod Decoded

@@ -1,5 +1,7 @@
 pub mod Run
+pub mod Origin
+pub mod Ranges
 pub mod Code
+pub mod Sequential
 pub mod WellFormed
 pub mod Answers
-pub mod Origin
