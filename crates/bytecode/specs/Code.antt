@@ -1,35 +1,42 @@
--- The bytes of a board list, and the reading of them: what is not well formed reads as `none`.
+-- The bytes of a board list of either version, and the reading of them: what is not well formed reads as `none`.
 use Prim.Native.Nat.{ℕ, zero, suc, _+_, _*_}
-use mathlib.Core.Bool.{Bool, true, false, _&&_}
+use mathlib.Core.Bool.{Bool, true, false, _&&_, cond}
 use mathlib.Core.List.{List, [], _∷_, _++_}
 use mathlib.Core.Option.{Option, none, some}
 use lib.Dec.{leb, ltb, eqb}
 use lib.ListN.{length}
 use Rattle.ports.specs.Kinds.{kindOf}
-use Rattle.ports.specs.Ports.{width, widths, takes, gives, arity, constantWords, legalInstruction}
+use Rattle.ports.specs.Ports.{takes, arity, constantWords, legalInstruction}
 use Rattle.value.specs.Values.{constantWord}
 use Rattle.base.specs.Lists.{every}
 use Rattle.base.specs.Bytes.{byte, u16, constants, bytesOf, allBytes}
 use Rattle.base.specs.Outcome.{Part}
-use Rattle.bytecode.specs.Run.{Instruction, BoardList}
 use Rattle.base.specs.Limits.{portWordLimit, withinLimits, headerLength}
+use Rattle.bytecode.specs.Run.{Instruction, BoardList, spans}
+use Rattle.bytecode.specs.Ranges.{any, Range, inside, behind, resultValue}
+use Rattle.bytecode.specs.Version.{Version, number, versionOf, addressed}
 
 -- ---- writing
 
-abbrev pub instructionCode : Instruction → List ℕ
-instructionCode i = i .kind ∷ i .type ∷ allBytes 2 (i .operands) ++ allBytes 8 (i .constants)
+-- the result's address stands in front of the operands where the version has it
+abbrev pub resultCode : Version → ℕ → List ℕ
+resultCode v a = cond (addressed v) (bytesOf 2 a) []
 
-abbrev pub instructionsCode : List Instruction → List ℕ
-instructionsCode [] = []
-instructionsCode (i ∷ is) = instructionCode i ++ instructionsCode is
+abbrev pub instructionCode : Version → Instruction → List ℕ
+instructionCode v i = i .kind ∷ i .type ∷ resultCode v (i .result) ++ (allBytes 2 (i .operands) ++ allBytes 8 (i .constants))
 
-abbrev pub headerCode : ℕ → ℕ → ℕ → ℕ → List ℕ
-headerCode arguments outputs count words = 0x49 ∷ 0x46 ∷ 0x52 ∷ 1 ∷ 0 ∷ arguments ∷ outputs ∷ 0 ∷ bytesOf 2 count ++ bytesOf 2 words
+abbrev pub instructionsCode : Version → List Instruction → List ℕ
+instructionsCode v [] = []
+instructionsCode v (i ∷ is) = instructionCode v i ++ instructionsCode v is
 
-unfoldable pub encode : BoardList → List ℕ
-encode b =
-    headerCode (b .arguments) (length (b .outputs)) (length (b .instructions)) (b .words)
-    ++ instructionsCode (b .instructions)
+abbrev pub headerCode : ℕ → ℕ → ℕ → ℕ → ℕ → List ℕ
+headerCode version arguments outputs count words =
+    0x49 ∷ 0x46 ∷ 0x52 ∷ version ∷ 0 ∷ arguments ∷ outputs ∷ 0 ∷ bytesOf 2 count ++ bytesOf 2 words
+
+unfoldable pub encode : Version → BoardList → List ℕ
+encode v b =
+    headerCode (number v) (b .arguments) (length (b .outputs)) (length (b .instructions)) (b .words)
+    ++ instructionsCode v (b .instructions)
     ++ allBytes 2 (b .outputs)
 
 -- ---- reading
@@ -50,71 +57,78 @@ abbrev pub addresses : ℕ → List ℕ → ℕ → List ℕ
 addresses zero s at = []
 addresses (suc n) s at = u16 s at ∷ addresses n s (at + 2)
 
--- the words of each operand stand all before `next`
-abbrev pub allBelow : ℕ → List ℕ → List ℕ → Bool
-allBelow next [] xs = true
-allBelow next (t ∷ ts) [] = true
-allBelow next (t ∷ ts) (a ∷ xs) = leb (a + width t) next && allBelow next ts xs
+-- `written` has the arguments' words and those of the results so far. Version 1: every word before the next result; version 2: an argument's
+-- word, or one that was written before
+abbrev pub readable : Version → List Range → ℕ → Bool
+readable v written a = cond (addressed v) (any (λ r. inside r a) written) (ltb a (behind written))
 
-abbrev pub allLess : ℕ → List ℕ → Bool
-allLess n [] = true
-allLess n (a ∷ xs) = ltb a n && allLess n xs
+-- the address of the result of an instruction, whose kind and type byte stand before `at`
+abbrev pub resultAt : Version → List ℕ → ℕ → List Range → ℕ
+resultAt v s at written = cond (addressed v) (u16 s at) (behind written)
 
-abbrev pub readOperands : ℕ → ℕ → List ℕ → List ℕ → ℕ → ℕ → Option (Part Instruction)
-readOperands k t operands consts result end =
-    guard (allBelow result (takes (kindOf k) t) operands)
+-- and its bytes
+abbrev pub resultBytes : Version → ℕ
+resultBytes v = cond (addressed v) 2 0
+
+abbrev pub readOperands : Version → List Range → ℕ → ℕ → ℕ → List ℕ → List ℕ → ℕ → Option (Part Instruction)
+readOperands v written k t result operands consts end =
+    guard (every (readable v written) (spans (takes (kindOf k) t) operands))
     (guard (every constantWord consts)
     (some (record { it = record { kind = k; type = t; operands = operands; constants = consts; result = result }; next = end })))
 
-abbrev pub readKind : ℕ → ℕ → List ℕ → ℕ → ℕ → Option (Part Instruction)
-readKind k t s at result =
+abbrev pub readKind : Version → List Range → ℕ → ℕ → List ℕ → ℕ → Option (Part Instruction)
+readKind v written k t s at =
     let n = arity (kindOf k) in
     let c = constantWords (kindOf k) in
-    let end = at + 2 * n + 8 * c in
+    let from = at + resultBytes v in
+    let end = from + 2 * n + 8 * c in
     guard (legalInstruction (kindOf k) t)
-    (guard (leb end (length s)) (readOperands k t (addresses n s at) (constants c s (at + 2 * n)) result end))
+    (guard (leb end (length s)) (readOperands v written k t (resultAt v s at written) (addresses n s from) (constants c s (from + 2 * n)) end))
 
--- an instruction at a place, whose result takes the next words
-abbrev pub readInstruction : List ℕ → ℕ → ℕ → Option (Part Instruction)
-readInstruction s at result = guard (leb (at + 2) (length s)) (readKind (byte s at) (byte s (at + 1)) s (at + 2) result)
+abbrev pub readInstruction : Version → List Range → List ℕ → ℕ → Option (Part Instruction)
+readInstruction v written s at = guard (leb (at + 2) (length s)) (readKind v written (byte s at) (byte s (at + 1)) s (at + 2))
 
--- the word behind an instruction's results
-abbrev pub nextWord : ℕ → Instruction → ℕ
-nextWord next i = next + widths (gives (kindOf (i .kind)) (i .type))
-
--- the instructions, the place behind them, and the word behind their results
+-- the instructions, the place behind them, and the words that are written
 pub record Listed : Type 0 where
   pub instructions : List Instruction
   pub at : ℕ
-  pub words : ℕ
+  pub written : List Range
 
-abbrev pub readInstructions : ℕ → List ℕ → ℕ → ℕ → Option Listed
-readInstructions zero s at next = some (record { instructions = []; at = at; words = next })
-readInstructions (suc n) s at next =
-    then (readInstruction s at next)
+abbrev pub readInstructions : Version → ℕ → List ℕ → ℕ → List Range → Option Listed
+readInstructions v zero s at written = some (record { instructions = []; at = at; written = written })
+readInstructions v (suc n) s at written =
+    then (readInstruction v written s at)
     (λ i.
-    then (readInstructions n s (i .next) (nextWord next (i .it)))
-    (λ r. some (record { instructions = i .it ∷ r .instructions; at = r .at; words = r .words })))
+    then (readInstructions v n s (i .next) (resultValue (i .it) ∷ written))
+    (λ r. some (record { instructions = i .it ∷ r .instructions; at = r .at; written = r .written })))
 
--- the word count is exact, the outputs are the last bytes, and their addresses are below the word count
-abbrev pub readOutputs : List ℕ → ℕ → ℕ → ℕ → Listed → Option BoardList
-readOutputs s arguments outputs words l =
+-- the word count is the highest argument or result word plus one, the outputs are the last bytes, and their words are readable
+abbrev pub readOutputs : Version → List ℕ → ℕ → ℕ → ℕ → Listed → Option BoardList
+readOutputs v s arguments outputs words l =
     let xs = addresses outputs s (l .at) in
-    guard (eqb (l .words) words)
+    guard (eqb (behind (l .written)) words)
     (guard (eqb (l .at + 2 * outputs) (length s))
-    (guard (allLess words xs) (some (record { arguments = arguments; instructions = l .instructions; words = words; outputs = xs }))))
+    (guard (every (readable v (l .written)) xs) (some (record { arguments = arguments; instructions = l .instructions; words = words; outputs = xs }))))
 
 -- counts that a code may have
 abbrev pub countsFit : ℕ → ℕ → ℕ → ℕ → Bool
 countsFit arguments outputs count words = leb arguments portWordLimit && leb 1 outputs && leb outputs portWordLimit && withinLimits count words
 
-abbrev pub readCounts : List ℕ → ℕ → ℕ → ℕ → ℕ → Option BoardList
-readCounts s arguments outputs count words =
-    guard (countsFit arguments outputs count words) (then (readInstructions count s headerLength arguments) (readOutputs s arguments outputs words))
+-- the arguments take the first words
+abbrev pub argumentWords : ℕ → List Range
+argumentWords n = record { first = 0; width = n } ∷ []
 
--- mark, version and zero byte
+abbrev pub readCounts : Version → List ℕ → ℕ → ℕ → ℕ → ℕ → Option BoardList
+readCounts v s arguments outputs count words =
+    guard (countsFit arguments outputs count words)
+    (then (readInstructions v count s headerLength (argumentWords arguments)) (readOutputs v s arguments outputs words))
+
+-- mark and zero byte
 abbrev pub codeMarked : List ℕ → Bool
-codeMarked s = eqb (byte s 0) 0x49 && eqb (byte s 1) 0x46 && eqb (byte s 2) 0x52 && eqb (u16 s 3) 1 && eqb (byte s 7) 0
+codeMarked s = eqb (byte s 0) 0x49 && eqb (byte s 1) 0x46 && eqb (byte s 2) 0x52 && eqb (byte s 7) 0
 
+-- by the version that the header names
 unfoldable pub decode : List ℕ → Option BoardList
-decode s = guard (leb headerLength (length s)) (guard (codeMarked s) (readCounts s (byte s 5) (byte s 6) (u16 s 8) (u16 s 10)))
+decode s =
+    guard (leb headerLength (length s))
+    (guard (codeMarked s) (then (versionOf (u16 s 3)) (λ v. readCounts v s (byte s 5) (byte s 6) (u16 s 8) (u16 s 10))))

@@ -1,6 +1,7 @@
 pub mod Run
 pub mod Origin
 pub mod Ranges
+pub mod Version
 pub mod Code
 pub mod Sequential
 pub mod WellFormed

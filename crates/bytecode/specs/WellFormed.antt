@@ -1,47 +1,56 @@
--- Board lists that have a code: what `decode` asks, as statements.
-use Prim.Native.Nat.{ℕ, _+_, _≤_, _<_}
+-- Board lists that have a code in a version: what `decode` asks, as statements.
+use Prim.Native.Nat.{ℕ, _≤_, _<_}
 use mathlib.Core.Path.{_≡_}
 use mathlib.Core.Bool.{true}
 use mathlib.Core.List.{List, [], _∷_}
 use lib.ListN.{length}
 use Rattle.ports.specs.Kinds.{kindOf}
-use Rattle.ports.specs.Ports.{width, takes, constantWords, legalInstruction}
+use Rattle.ports.specs.Ports.{takes, constantWords, legalInstruction}
 use Rattle.base.specs.Lists.{every, Word, Each}
+use Rattle.base.specs.Limits.{operationLimit, wordLimit, portWordLimit, addressLimit}
 use Rattle.value.specs.Values.{constantWord}
 use Rattle.bytecode.specs.Run.{Instruction, BoardList}
-use Rattle.base.specs.Limits.{operationLimit, wordLimit, portWordLimit}
-use Rattle.bytecode.specs.Code.{nextWord, encode}
+use Rattle.bytecode.specs.Origin.{operandPlaces}
+use Rattle.bytecode.specs.Ranges.{Range, behind, resultValue}
+use Rattle.bytecode.specs.Version.{Version, version1, version2}
+use Rattle.bytecode.specs.Code.{readable, argumentWords, encode}
 
--- addresses of values of these types, whose words stand before `next`
-abbrev pub Below : ℕ → List ℕ → List ℕ → Type 0
-Below next [] [] = Unit {0}
-Below next [] (a ∷ xs) = ⊥
-Below next (t ∷ ts) [] = ⊥
-Below next (t ∷ ts) (a ∷ xs) = (a + width t ≤ next) × Below next ts xs
+-- the words that are written after these instructions
+abbrev pub writtenBy : List Range → List Instruction → List Range
+writtenBy written [] = written
+writtenBy written (i ∷ is) = writtenBy (resultValue i ∷ written) is
 
-pub record Fit (next : ℕ) (i : Instruction) : Type 0 where
+-- the result takes the next words, or those at the address that the instruction carries
+abbrev pub ResultAt : Version → List Range → ℕ → Type 0
+ResultAt version1 written a = a ≡ behind written
+ResultAt version2 written a = a < addressLimit
+
+pub record Formed (v : Version) (written : List Range) (i : Instruction) : Type 0 where
   pub legal : legalInstruction (kindOf (i .kind)) (i .type) ≡ true
-  pub operands : Below next (takes (kindOf (i .kind)) (i .type)) (i .operands)
+  pub arity : length (i .operands) ≡ length (takes (kindOf (i .kind)) (i .type))
+  pub small : Each (λ a. a < addressLimit) (i .operands)
+  pub reads : Each (λ a. readable v written a ≡ true) (operandPlaces i)
   pub count : length (i .constants) ≡ constantWords (kindOf (i .kind))
   pub words : Each Word (i .constants)
   pub constants : every constantWord (i .constants) ≡ true
-  pub result : i .result ≡ next
+  pub result : ResultAt v written (i .result)
 
--- each result takes the next words
-abbrev pub AllFit : ℕ → List Instruction → ℕ → Type 0
-AllFit next [] end = next ≡ end
-AllFit next (i ∷ is) end = Fit next i × AllFit (nextWord next i) is end
+abbrev pub AllFormed : Version → List Range → List Instruction → Type 0
+AllFormed v written [] = Unit {0}
+AllFormed v written (i ∷ is) = Formed v written i × AllFormed v (resultValue i ∷ written) is
 
-pub record FitList (b : BoardList) : Type 0 where
+pub record FormedList (v : Version) (b : BoardList) : Type 0 where
   pub arguments : b .arguments ≤ portWordLimit
   pub some-output : 1 ≤ length (b .outputs)
   pub outputs : length (b .outputs) ≤ portWordLimit
   pub count : length (b .instructions) ≤ operationLimit
   pub words : b .words ≤ wordLimit
-  pub instructions : AllFit (b .arguments) (b .instructions) (b .words)
-  pub below : Each (λ a. a < b .words) (b .outputs)
+  pub instructions : AllFormed v (argumentWords (b .arguments)) (b .instructions)
+  pub highest : behind (writtenBy (argumentWords (b .arguments)) (b .instructions)) ≡ b .words
+  pub small : Each (λ a. a < addressLimit) (b .outputs)
+  pub reads : Each (λ a. readable v (writtenBy (argumentWords (b .arguments)) (b .instructions)) a ≡ true) (b .outputs)
 
--- 01's well formed: the bytes are the code of such a list
-pub record Codes (s : List ℕ) (b : BoardList) : Type 0 where
-  pub fit : FitList b
-  pub bytes : s ≡ encode b
+-- well formed: the bytes are the code of such a list
+pub record Codes (v : Version) (s : List ℕ) (b : BoardList) : Type 0 where
+  pub formed : FormedList v b
+  pub bytes : s ≡ encode v b
