@@ -21,7 +21,9 @@ use Rattle.base.proofs.Bools.{and-both}
 use Rattle.bytecode.specs.Run.{Instruction, BoardList}
 use Rattle.bytecode.specs.Origin.{operandPlaces}
 use Rattle.bytecode.specs.Ranges.{Range, behind, resultValue}
-use Rattle.bytecode.specs.Version.{Version, version1, version2, number, versionOf}
+use Rattle.bytecode.specs.declared.Version.{Version}
+use Rattle.bytecode.specs.declared.Version.the-variants.{V1, V2}
+use Rattle.bytecode.specs.Version.{number, versionOf}
 use Rattle.bytecode.specs.Code.{resultCode, instructionCode, instructionsCode, headerCode, encode, guard, then, addresses, readable, resultAt, resultBytes, readOperands, readKind, readInstruction, readInstructions, readOutputs, countsFit, argumentWords, readCounts, codeMarked, decode}
 use Rattle.bytecode.specs.WellFormed.{writtenBy, ResultAt, Formed, AllFormed, FormedList}
 use Rattle.base.proofs.Stands.{cons, cons-head, cons-tail, split, all-length, Here, u16-read, constants-read}
@@ -48,18 +50,18 @@ every-true t [] h = refl
 every-true t (x ∷ xs) (p, h) = and-both (t x) (every t xs) p (every-true t xs h)
 
 pub version-number : (v : Version) → versionOf (number v) ≡ some v
-version-number version1 = refl
-version-number version2 = refl
+version-number V1 = refl
+version-number V2 = refl
 
 -- ---- an instruction
 
 result-length : (v : Version) (x : ℕ) → length (resultCode v x) ≡ resultBytes v
-result-length version1 x = refl
-result-length version2 x = refl
+result-length V1 x = refl
+result-length V2 x = refl
 
 result-read : (s : List ℕ) (v : Version) (at : ℕ) (written : List Range) (x : ℕ) → ResultAt v written x → Here s at (resultCode v x) → resultAt v s at written ≡ x
-result-read s version1 at written x e h = sym e
-result-read s version2 at written x l h = u16-read s x at l h
+result-read s V1 at written x e h = sym e
+result-read s V2 at written x l h = u16-read s x at l h
 
 module _ (v : Version) where
   pub instruction-length : (i : Instruction) → length (instructionCode v i) ≡ 2 + resultBytes v + 2 * length (i .operands) + 8 * length (i .constants)

@@ -23,7 +23,9 @@ use Rattle.base.proofs.Stands.{constants-length, constants-words, all-length, H
 use Rattle.base.proofs.Outcomes.{passed-fault, no-fault}
 use Rattle.bytecode.specs.Run.{Instruction, BoardList, run, spans}
 use Rattle.bytecode.specs.Ranges.{Range, behind, resultValue}
-use Rattle.bytecode.specs.Version.{Version, version1, version2, number, versionOf}
+use Rattle.bytecode.specs.declared.Version.{Version}
+use Rattle.bytecode.specs.declared.Version.the-variants.{V1, V2}
+use Rattle.bytecode.specs.Version.{number, versionOf}
 use Rattle.bytecode.specs.Code.{resultCode, instructionCode, instructionsCode, headerCode, encode, guard, then, addresses, readable, resultAt, resultBytes, readInstruction, Listed, readInstructions, countsFit, argumentWords, codeMarked, decode}
 use Rattle.bytecode.specs.WellFormed.{writtenBy, ResultAt, Formed, AllFormed, Codes}
 use Rattle.bytecode.specs.Answers.{Buffers, ran}
@@ -70,16 +72,16 @@ module _ (s : List ℕ) (small : Bytes s) where
   addresses-small (suc n) at = (u16-small at, addresses-small n (at + 2))
 
   result-placed : (v : Version) (at : ℕ) (written : List Range) → ResultAt v written (resultAt v s at written)
-  result-placed version1 at written = refl
-  result-placed version2 at written = u16-small at
+  result-placed V1 at written = refl
+  result-placed V2 at written = u16-small at
 
   result-here : (v : Version) (at : ℕ) (written : List Range) → Here s at (resultCode v (resultAt v s at written))
-  result-here version1 at written = refl
-  result-here version2 at written = u16-here s small at
+  result-here V1 at written = refl
+  result-here V2 at written = u16-here s small at
 
   result-size : (v : Version) (x : ℕ) → length (resultCode v x) ≡ resultBytes v
-  result-size version1 x = refl
-  result-size version2 x = refl
+  result-size V1 x = refl
+  result-size V2 x = refl
 
   module _ (v : Version) where
     -- what was read is well formed, and its code stands from `at` up to the next
@@ -146,7 +148,7 @@ module _ (s : List ℕ) (small : Bytes s) where
   version-is : (v : Version) → versionOf (u16 s 3) ≡ some v → u16 s 3 ≡ number v
   version-is v e = go (eqb (u16 s 3) 1) refl (eqb (u16 s 3) 2) refl e
     where
-      go : (x : Bool) → eqb (u16 s 3) 1 ≡ x → (y : Bool) → eqb (u16 s 3) 2 ≡ y → cond x (some version1) (cond y (some version2) none) ≡ some v → u16 s 3 ≡ number v
+      go : (x : Bool) → eqb (u16 s 3) 1 ≡ x → (y : Bool) → eqb (u16 s 3) 2 ≡ y → cond x (some V1) (cond y (some V2) none) ≡ some v → u16 s 3 ≡ number v
       go true p y q e = eqb-true _ _ p ∙ ap number (some-is e)
       go false p true q e = eqb-true _ _ q ∙ ap number (some-is e)
       go false p false q e = let z : _≡_ {A = ℕ} 0 1 = cc in absurd (omega arith)
@@ -169,8 +171,8 @@ module _ (s : List ℕ) (small : Bytes s) where
       (join s (bytesOf 2 (u16 s 8)) (bytesOf 2 (u16 s 10)) 8 (u16-here s small 8) (u16-here s small 10)))))))))
 
   number-small : (v : Version) → number v < 256
-  number-small version1 = omega arith
-  number-small version2 = omega arith
+  number-small V1 = omega arith
+  number-small V2 = omega arith
 
   -- in one of the versions
   abbrev pub Coded : BoardList → Type 0

@@ -16,7 +16,9 @@ use Rattle.ports.proofs.Laws.{length-takes}
 use Rattle.ports.proofs.Table.{every-kind}
 use Rattle.bytecode.specs.Run.{Instruction, BoardList}
 use Rattle.bytecode.specs.Ranges.{Range, resultValue}
-use Rattle.bytecode.specs.Version.{Version, version1, version2, number}
+use Rattle.bytecode.specs.declared.Version.{Version}
+use Rattle.bytecode.specs.declared.Version.the-variants.{V1, V2}
+use Rattle.bytecode.specs.Version.{number}
 use Rattle.bytecode.specs.Code.{instructionCode, instructionsCode, headerCode, encode, resultBytes, argumentWords}
 use Rattle.bytecode.specs.WellFormed.{AllFormed, FormedList}
 use Rattle.bytecode.proofs.Back.{instruction-length}
@@ -26,8 +28,8 @@ kind-length : (k : Kind) → 2 + 2 * arity k + 8 * constantWords k ≤ 130
 kind-length k = leb-true _ _ (every-kind (λ k. leb (2 + 2 * arity k + 8 * constantWords k) 130) refl k)
 
 result-most : (v : Version) → resultBytes v ≤ 2
-result-most version1 = omega arith
-result-most version2 = omega arith
+result-most V1 = omega arith
+result-most V2 = omega arith
 
 module _ (v : Version) where
   instructions-length : (is : List Instruction) (written : List Range) → AllFormed v written is → length (instructionsCode v is) ≤ (130 + resultBytes v) * length is

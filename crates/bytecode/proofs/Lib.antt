@@ -1,5 +1,5 @@
-pub mod Sequential
 pub mod Memory
+pub mod Sequential
 pub mod Back
 pub mod Decoded
 pub mod Origins

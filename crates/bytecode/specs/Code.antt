@@ -14,7 +14,8 @@ use Rattle.base.specs.Outcome.{Part}
 use Rattle.base.specs.Limits.{portWordLimit, withinLimits, headerLength}
 use Rattle.bytecode.specs.Run.{Instruction, BoardList, spans}
 use Rattle.bytecode.specs.Ranges.{any, Range, inside, behind, resultValue}
-use Rattle.bytecode.specs.Version.{Version, number, versionOf, addressed}
+use Rattle.bytecode.specs.declared.Version.{Version}
+use Rattle.bytecode.specs.Version.{number, versionOf, addressed}
 
 -- ---- writing
 

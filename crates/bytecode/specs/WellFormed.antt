@@ -12,7 +12,8 @@ use Rattle.value.specs.Values.{constantWord}
 use Rattle.bytecode.specs.Run.{Instruction, BoardList}
 use Rattle.bytecode.specs.Origin.{operandPlaces}
 use Rattle.bytecode.specs.Ranges.{Range, behind, resultValue}
-use Rattle.bytecode.specs.Version.{Version, version1, version2}
+use Rattle.bytecode.specs.declared.Version.{Version}
+use Rattle.bytecode.specs.declared.Version.the-variants.{V1, V2}
 use Rattle.bytecode.specs.Code.{readable, argumentWords, encode}
 
 -- the words that are written after these instructions
@@ -22,8 +23,8 @@ writtenBy written (i ∷ is) = writtenBy (resultValue i ∷ written) is
 
 -- the result takes the next words, or those at the address that the instruction carries
 abbrev pub ResultAt : Version → List Range → ℕ → Type 0
-ResultAt version1 written a = a ≡ behind written
-ResultAt version2 written a = a < addressLimit
+ResultAt V1 written a = a ≡ behind written
+ResultAt V2 written a = a < addressLimit
 
 pub record Formed (v : Version) (written : List Range) (i : Instruction) : Type 0 where
   pub legal : legalInstruction (kindOf (i .kind)) (i .type) ≡ true

@@ -94,18 +94,6 @@ fit-known (i ∷ is) next stop k o (x, f) h l =
     let (p, q) = fit-known is (nextWord next i) stop (suc k) (after k i o) f (known-after o next k i h (x .result) (omega arith)) (omega arith) in
     ((spans-known o next h (takes (kindOf (i .kind)) (i .type)) (i .operands) (x .operands), p), q)
 
--- ---- what is to be asked of another list
-
-pub record Routed (b b′ : BoardList) (xs : List Numbered) : Type 0 where
-  pub arguments : b′ .arguments ≡ b .arguments
-  pub within : b .arguments ≤ b′ .words
-  pub listed : b′ .instructions ≡ map (λ x. x .instruction) xs
-  pub rooms : Each (λ x. Roomy (b′ .words) (x .instruction)) xs
-  pub carries : Carries (readings 0 (b .instructions) (start (b .arguments) (b .words))) (start (b .arguments) (b′ .words)) xs
-  pub outputs :
-      map (originAt (final 0 (b .instructions) (start (b .arguments) (b .words)))) (b .outputs)
-      ≡ map (originAt (finalOf xs (start (b .arguments) (b′ .words)))) (b′ .outputs)
-
 pub routed-follows : (early : List Function) (f : Function) → AllSound (f ∷ early) → (b′ : BoardList) (xs : List Numbered) → Routed (boardListOf early f) b′ xs
     → Follows (boardListOf early f) b′ xs
 routed-follows early f sound b′ xs r =
