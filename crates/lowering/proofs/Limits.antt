@@ -10,24 +10,27 @@ use lib.Dec.{eqb}
 use lib.ListN.{length, length-append, replicate, length-replicate, length-map}
 use Rattle.ports.specs.Ports.{width, widths}
 use Rattle.value.specs.Values.{valuesOf}
-use Rattle.base.specs.Lists.{span, Each}
-use Rattle.base.proofs.Lists.{span-length, span-below, each-append}
+use Rattle.base.specs.Lists.{Each}
+use Rattle.base.proofs.Lists.{each-less}
 use Rattle.value.specs.Typed.{TypeCode}
 use Rattle.value.proofs.Laws.{values-typed, type-cases}
 use Rattle.graph.specs.Graph.{Payload, consts, refs, calls, Node, Function}
 use Rattle.graph.specs.Types.{outputTypes}
 use Rattle.graph.specs.Sums.{sum, nodeOperations, functionOperations, operationsOf, nodeWords, resultWords, resultWordsOf, functionWords}
 use Rattle.graph.specs.Sound.{Sound, AllSound}
-use Rattle.bytecode.specs.Run.{places, spans}
+use Rattle.bytecode.specs.Run.{places}
 use Rattle.graph.specs.Schedule.{schedule}
 use Rattle.lowering.specs.Compile.{Written, address, Inline, inlineNode, also, inlineNodes, inlineFunction, inlined, boardListOf}
-use Rattle.bytecode.specs.Code.{encode, decode}
-use Rattle.bytecode.specs.WellFormed.{Below, AllFit, FitList}
+use Rattle.bytecode.specs.Code.{argumentWords, encode, decode}
+use Rattle.bytecode.specs.declared.Version.the-variants.{V1}
+use Rattle.bytecode.specs.Sequential.{AllFit}
+use Rattle.bytecode.specs.WellFormed.{writtenBy, FormedList}
+use Rattle.bytecode.proofs.Sequential.{spans-below, below-readable, all-fit-formed}
 use Rattle.graph.proofs.Order.{scheduled}
 use Rattle.lowering.proofs.Simulate.{stand-below}
 use Rattle.lowering.proofs.Promise.{whole-served}
 use Rattle.bytecode.proofs.Back.{decode-encode}
-use Rattle.base.specs.Limits.{operationLimit, wordLimit}
+use Rattle.base.specs.Limits.{operationLimit, wordLimit, addressLimit}
 
 -- ---- operations
 
@@ -35,35 +38,35 @@ abbrev Counts : Inline → (ℕ → ℕ) → Type 0
 Counts go ops = (c : ℕ) (ins : List ℕ) (next : ℕ) → length (go c ins next .code) ≤ ops c
 
 module _ (go : Inline) (ops : ℕ → ℕ) (h : Counts go ops) (ins : List ℕ) where
-  node-count : (ws : List Written) (next : ℕ) (n : Node) (p : Payload) → length (inlineNode go (address ins ws) next n p .code) ≤ nodeOperations ops p
+  node-count : (ws : List Written) (next : ℕ) (n : Node) (p : Payload) → length (inlineNode widths go (address ins ws) next n p .code) ≤ nodeOperations ops p
   node-count ws next n (consts cs) = omega arith
   node-count ws next n (refs rs) = omega arith
   node-count ws next n (calls c rs) = let a = h c (map (address ins ws) rs) next in omega arith
 
-  nodes-count : (ns : List Node) (ws : List Written) (next : ℕ) → length (inlineNodes go ins ns ws next .code) ≤ sum (λ n. nodeOperations ops (n .payload)) ns
+  nodes-count : (ns : List Node) (ws : List Written) (next : ℕ) → length (inlineNodes widths go ins ns ws next .code) ≤ sum (λ n. nodeOperations ops (n .payload)) ns
   nodes-count [] ws next = omega arith
   nodes-count (n ∷ ns) ws next =
-      let o = inlineNode go (address ins ws) next n (n .payload) in
-      let b = inlineNodes go ins ns (also n o ws) (o .next) in
+      let o = inlineNode widths go (address ins ws) next n (n .payload) in
+      let b = inlineNodes widths go ins ns (also n o ws) (o .next) in
       let a : length (o .code) ≤ nodeOperations ops (n .payload) = node-count ws next n (n .payload) in
       let c : length (b .code) ≤ sum (λ n. nodeOperations ops (n .payload)) ns = nodes-count ns (also n o ws) (o .next) in
       let d : length (o .code ++ b .code) ≡ length (o .code) + length (b .code) = length-append (o .code) (b .code) in
       omega arith
 
-function-count : (early : List Function) (f : Function) → Sound early f → Counts (inlined early) (operationsOf early) → (ins : List ℕ) (next : ℕ)
-    → length (inlineFunction (inlined early) f ins next .code) ≤ functionOperations (operationsOf early) f
+function-count : (early : List Function) (f : Function) → Sound early f → Counts (inlined widths early) (operationsOf early) → (ins : List ℕ) (next : ℕ)
+    → length (inlineFunction widths (inlined widths early) f ins next .code) ≤ functionOperations (operationsOf early) f
 function-count early f sound h ins next =
-    let a = nodes-count (inlined early) (operationsOf early) h ins (schedule (f .nodes)) [] next in
+    let a = nodes-count (inlined widths early) (operationsOf early) h ins (schedule (f .nodes)) [] next in
     let e = scheduled early f sound .total (λ n. nodeOperations (operationsOf early) (n .payload)) in
-    subst (λ (x : ℕ). length (inlineFunction (inlined early) f ins next .code) ≤ x) e a
+    subst (λ (x : ℕ). length (inlineFunction widths (inlined widths early) f ins next .code) ≤ x) e a
 
-pub inlined-count : (early : List Function) → AllSound early → Counts (inlined early) (operationsOf early)
+pub inlined-count : (early : List Function) → AllSound early → Counts (inlined widths early) (operationsOf early)
 unfolding inlined operationsOf
 inlined-count [] s c ins next = omega arith
 inlined-count (f ∷ early) (s, ss) c ins next = pickOne (eqb (f .id) c) (inlined-count early ss)
   where
-    pickOne : (b : Bool) → Counts (inlined early) (operationsOf early)
-        → length (cond b (inlineFunction (inlined early) f ins next) (inlined early c ins next) .code)
+    pickOne : (b : Bool) → Counts (inlined widths early) (operationsOf early)
+        → length (cond b (inlineFunction widths (inlined widths early) f ins next) (inlined widths early c ins next) .code)
         ≤ cond b (functionOperations (operationsOf early) f) (operationsOf early c)
     pickOne true h = function-count early f s h ins next
     pickOne false h = h c ins next
@@ -74,33 +77,33 @@ abbrev Sizes : Inline → (ℕ → ℕ) → Type 0
 Sizes go size = (c : ℕ) (ins : List ℕ) (next : ℕ) → go c ins next .next ≡ next + size c
 
 module _ (go : Inline) (size : ℕ → ℕ) (h : Sizes go size) (ins : List ℕ) where
-  node-size : (ws : List Written) (next : ℕ) (n : Node) (p : Payload) → inlineNode go (address ins ws) next n p .next ≡ next + nodeWords size n p
+  node-size : (ws : List Written) (next : ℕ) (n : Node) (p : Payload) → inlineNode widths go (address ins ws) next n p .next ≡ next + nodeWords size n p
   node-size ws next n (consts cs) = refl
   node-size ws next n (refs rs) = refl
   node-size ws next n (calls c rs) = h c (map (address ins ws) rs) next
 
-  nodes-size : (ns : List Node) (ws : List Written) (next : ℕ) → inlineNodes go ins ns ws next .next ≡ next + sum (λ n. nodeWords size n (n .payload)) ns
+  nodes-size : (ns : List Node) (ws : List Written) (next : ℕ) → inlineNodes widths go ins ns ws next .next ≡ next + sum (λ n. nodeWords size n (n .payload)) ns
   nodes-size [] ws next = omega arith
   nodes-size (n ∷ ns) ws next =
-      let o = inlineNode go (address ins ws) next n (n .payload) in
-      let b = inlineNodes go ins ns (also n o ws) (o .next) in
+      let o = inlineNode widths go (address ins ws) next n (n .payload) in
+      let b = inlineNodes widths go ins ns (also n o ws) (o .next) in
       let a : o .next ≡ next + nodeWords size n (n .payload) = node-size ws next n (n .payload) in
       let c : b .next ≡ o .next + sum (λ n. nodeWords size n (n .payload)) ns = nodes-size ns (also n o ws) (o .next) in
       omega arith
 
-function-size : (early : List Function) (f : Function) → Sound early f → Sizes (inlined early) (resultWordsOf early) → (ins : List ℕ) (next : ℕ)
-    → inlineFunction (inlined early) f ins next .next ≡ next + resultWords (resultWordsOf early) f
+function-size : (early : List Function) (f : Function) → Sound early f → Sizes (inlined widths early) (resultWordsOf early) → (ins : List ℕ) (next : ℕ)
+    → inlineFunction widths (inlined widths early) f ins next .next ≡ next + resultWords (resultWordsOf early) f
 function-size early f sound h ins next =
-    nodes-size (inlined early) (resultWordsOf early) h ins (schedule (f .nodes)) [] next
+    nodes-size (inlined widths early) (resultWordsOf early) h ins (schedule (f .nodes)) [] next
     ∙ ap (λ (x : ℕ). next + x) (scheduled early f sound .total (λ n. nodeWords (resultWordsOf early) n (n .payload)))
 
-pub inlined-size : (early : List Function) → AllSound early → Sizes (inlined early) (resultWordsOf early)
+pub inlined-size : (early : List Function) → AllSound early → Sizes (inlined widths early) (resultWordsOf early)
 unfolding inlined resultWordsOf
 inlined-size [] s c ins next = omega arith
 inlined-size (f ∷ early) (s, ss) c ins next = pickOne (eqb (f .id) c) (inlined-size early ss)
   where
-    pickOne : (b : Bool) → Sizes (inlined early) (resultWordsOf early)
-        → cond b (inlineFunction (inlined early) f ins next) (inlined early c ins next) .next
+    pickOne : (b : Bool) → Sizes (inlined widths early) (resultWordsOf early)
+        → cond b (inlineFunction widths (inlined widths early) f ins next) (inlined widths early c ins next) .next
         ≡ next + cond b (resultWords (resultWordsOf early) f) (resultWordsOf early c)
     pickOne true h = function-size early f s h ins next
     pickOne false h = h c ins next
@@ -129,17 +132,6 @@ wides-bounds (t ∷ ts) (c, h) =
     let (d, e) = wides-bounds ts h in
     (omega arith, omega arith)
 
-spans-below : (hi : ℕ) (ts at : List ℕ) → Below hi ts at → Each (λ x. x < hi) (spans ts at) × (length (spans ts at) ≡ widths ts)
-spans-below hi [] [] h = (tt, refl)
-spans-below hi [] (a ∷ at) h = absurd h
-spans-below hi (t ∷ ts) [] h = absurd h
-spans-below hi (t ∷ ts) (a ∷ at) (p, h) =
-    let (b, c) = spans-below hi ts at h in
-    let d : length (span a (width t)) ≡ width t = span-length a (width t) in (
-      each-append (λ x. x < hi) (span a (width t)) (spans ts at) (span-below (width t) a hi p) b,
-      length-append (span a (width t)) (spans ts at) ∙ omega arith,
-    )
-
 -- ---- the whole
 
 -- the run of any values of the types lays the same list
@@ -154,16 +146,16 @@ laid early f sound =
     let m : List ℕ = replicate (b .words) 0 in
     let room : length m ≡ b .words = length-replicate (b .words) 0 in
     let r = whole-served early f sound args (values-typed (f .inputs) [] (sound .0 .resolved .formed .inputTypes)) m (omega arith) in
-    let ports = inlineFunction (inlined early) f (places 0 (f .inputs)) (widths (f .inputs)) .ports in
+    let ports = inlineFunction widths (inlined widths early) f (places 0 (f .inputs)) (widths (f .inputs)) .ports in
     let both = spans-below (b .words) outs ports (stand-below _ (b .words) outs ports (r .values) (r .typed) (r .stand)) in
     (r .fit, both .0, both .1)
 
 pub output-words : (early : List Function) (f : Function) → AllSound (f ∷ early) → length (boardListOf early f .outputs) ≡ widths (outputTypes (f .outputs))
 output-words early f sound = laid early f sound .2
 
-pub fit-list : (early : List Function) (f : Function) → AllSound (f ∷ early) → functionOperations (operationsOf early) f ≤ operationLimit → functionWords early f ≤ wordLimit
-    → FitList (boardListOf early f)
-fit-list early f sound ops words =
+pub formed-list : (early : List Function) (f : Function) → AllSound (f ∷ early) → functionOperations (operationsOf early) f ≤ operationLimit → functionWords early f ≤ wordLimit
+    → FormedList V1 (boardListOf early f)
+formed-list early f sound ops words =
     let b = boardListOf early f in
     let formed = sound .0 .resolved .formed in
     let outs = outputTypes (f .outputs) in
@@ -176,17 +168,20 @@ fit-list early f sound ops words =
     let ls : 1 ≤ length (f .outputs) = formed .some-output in
     let n : length (b .instructions) ≤ functionOperations (operationsOf early) f = count-of early f sound in
     let w : b .words ≡ functionWords early f = words-of early f sound in
+    let (instructions, highest) = all-fit-formed (b .instructions) (argumentWords (b .arguments)) (b .arguments) (b .words) (omega arith) (omega arith) (laid early f sound .0) in
     record {
       arguments = omega arith;
       some-output = omega arith;
       outputs = omega arith;
       count = omega arith;
       words = omega arith;
-      instructions = laid early f sound .0;
-      below = laid early f sound .1;
+      instructions = instructions;
+      highest = highest;
+      small = each-less (b .outputs) (b .words) addressLimit (omega arith) (laid early f sound .1);
+      reads = below-readable (writtenBy (argumentWords (b .arguments)) (b .instructions)) (b .words) (b .outputs) highest (laid early f sound .1);
     }
 
 -- within the limits the code is well formed, and stands for the board list
 pub code-of : (early : List Function) (f : Function) → AllSound (f ∷ early) → functionOperations (operationsOf early) f ≤ operationLimit → functionWords early f ≤ wordLimit
-    → decode (encode (boardListOf early f)) ≡ some (boardListOf early f)
-code-of early f sound ops words = decode-encode (boardListOf early f) (fit-list early f sound ops words)
+    → decode (encode V1 (boardListOf early f)) ≡ some (boardListOf early f)
+code-of early f sound ops words = decode-encode V1 (boardListOf early f) (formed-list early f sound ops words)

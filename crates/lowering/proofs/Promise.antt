@@ -46,14 +46,14 @@ pub record Runs (early : List Function) (f : Function) (args : List Value) (m : 
 -- the run of the instructions, once the arguments stand
 pub whole-served : (early : List Function) (f : Function) → AllSound (f ∷ early) → (args : List Value) → Typed (f .inputs) args → (m : List ℕ)
     → boardListOf early f .words ≤ length m
-    → Served (sets m 0 (allWords args)) (widths (f .inputs)) (inlineFunction (inlined early) f (places 0 (f .inputs)) (widths (f .inputs)))
+    → Served (sets m 0 (allWords args)) (widths (f .inputs)) (inlineFunction widths (inlined widths early) f (places 0 (f .inputs)) (widths (f .inputs)))
     (outputTypes (f .outputs)) (functionMeans (meaningOf early) f args)
 whole-served early f (sound, sounds) args typed m l =
     let ins = places 0 (f .inputs) in
     let start = widths (f .inputs) in
     let m′ = sets m 0 (allWords args) in
     let count : length (allWords args) ≡ start = typed-widths (f .inputs) args typed in
-    let up : start ≤ inlineFunction (inlined early) f ins start .next = nodes-up (inlined early) (inlined-up early) ins (schedule (f .nodes)) [] start in
+    let up : start ≤ inlineFunction widths (inlined widths early) f ins start .next = nodes-up (inlined widths early) (inlined-up early) ins (schedule (f .nodes)) [] start in
     let same : length m′ ≡ length m = length-sets m 0 (allWords args) in
     let stood : Stand m′ start ins args =
     stand-placed m′ start (f .inputs) args 0 typed (omega arith) (sets-words (allWords args) m 0 (omega arith)) in
@@ -64,10 +64,10 @@ pub runs : (early : List Function) (f : Function) → AllSound (f ∷ early) →
 runs early f sound args typed m l =
     let ins = places 0 (f .inputs) in
     let start = widths (f .inputs) in
-    let o = inlineFunction (inlined early) f ins start in
+    let o = inlineFunction widths (inlined widths early) f ins start in
     let m′ = sets m 0 (allWords args) in
     let count : length (allWords args) ≡ start = typed-widths (f .inputs) args typed in
-    let up : start ≤ o .next = nodes-up (inlined early) (inlined-up early) ins (schedule (f .nodes)) [] start in
+    let up : start ≤ o .next = nodes-up (inlined widths early) (inlined-up early) ins (schedule (f .nodes)) [] start in
     let same : length m′ ≡ length m = length-sets m 0 (allWords args) in
     let first : Keeps 0 start m m′ = keeps-sets m 0 start (allWords args) (omega arith) in
     let r = whole-served early f sound args typed m l in

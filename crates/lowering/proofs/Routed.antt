@@ -24,11 +24,10 @@ use Rattle.graph.specs.Sound.{AllSound}
 use Rattle.graph.specs.Meaning.{functionMeans, meaningOf}
 use Rattle.bytecode.specs.Run.{Instruction, BoardList, run, spans}
 use Rattle.lowering.specs.Compile.{boardListOf}
-use Rattle.bytecode.specs.Code.{nextWord}
-use Rattle.bytecode.specs.WellFormed.{Below, AllFit}
-use Rattle.bytecode.specs.Origin.{Origin, unwritten, result, Known, originAt, resultWidth, made, after, start, readings, final, Numbered, finalOf, Carries, Roomy}
+use Rattle.bytecode.specs.Sequential.{nextWord, Below, AllFit}
+use Rattle.bytecode.specs.Origin.{Origin, unwritten, result, Known, originAt, resultWidth, made, after, start, readings, final, Numbered, Roomy, Routed}
 use Rattle.lowering.proofs.Promise.{runs}
-use Rattle.bytecode.proofs.Back.{below-length, fit-up}
+use Rattle.bytecode.proofs.Sequential.{below-length, fit-up}
 use Rattle.lowering.proofs.Limits.{laid}
 use Rattle.bytecode.proofs.Origins.{start-argument, start-length, Follows, same-outputs}
 

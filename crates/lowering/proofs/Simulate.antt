@@ -32,8 +32,7 @@ use Rattle.base.proofs.Bools.{and-inv, and-both, or-left, or-right, cond-or}
 use Rattle.bytecode.specs.Run.{Instruction, valuesAt, execute, executeAll, places}
 use Rattle.graph.specs.Schedule.{ready, schedule}
 use Rattle.lowering.specs.Compile.{Written, portsAt, address, Inlined, Inline, single, inlineNode, Body, also, inlineNodes, inlineFunction, inlined}
-use Rattle.bytecode.specs.Code.{nextWord}
-use Rattle.bytecode.specs.WellFormed.{Below, AllFit}
+use Rattle.bytecode.specs.Sequential.{nextWord, Below, AllFit}
 use Rattle.bytecode.proofs.Memory.{Keeps, keeps-none, keeps-sets, keeps-then, StandsAt, Stand, stays, values-at, stand-placed, execute-append}
 use Rattle.base.proofs.Stores.{sets-words}
 use Rattle.graph.proofs.Order.{Ordered, scheduled, schedule-within, reads-in, in-is}
@@ -44,26 +43,26 @@ abbrev pub Up : Inline → Type 0
 Up go = (c : ℕ) (ins : List ℕ) (next : ℕ) → next ≤ go c ins next .next
 
 module _ (go : Inline) (up : Up go) (ins : List ℕ) where
-  node-up : (written : List Written) (next : ℕ) (n : Node) (p : Payload) → next ≤ inlineNode go (address ins written) next n p .next
+  node-up : (written : List Written) (next : ℕ) (n : Node) (p : Payload) → next ≤ inlineNode widths go (address ins written) next n p .next
   node-up written next n (consts ws) = omega arith
   node-up written next n (refs rs) = omega arith
   node-up written next n (calls c rs) = up c (map (address ins written) rs) next
 
-  pub nodes-up : (ns : List Node) (written : List Written) (next : ℕ) → next ≤ inlineNodes go ins ns written next .next
+  pub nodes-up : (ns : List Node) (written : List Written) (next : ℕ) → next ≤ inlineNodes widths go ins ns written next .next
   nodes-up [] written next = omega arith
   nodes-up (n ∷ ns) written next =
-      let o = inlineNode go (address ins written) next n (n .payload) in
+      let o = inlineNode widths go (address ins written) next n (n .payload) in
       let a : next ≤ o .next = node-up written next n (n .payload) in
-      let b : o .next ≤ inlineNodes go ins ns (also n o written) (o .next) .next = nodes-up ns (also n o written) (o .next) in
+      let b : o .next ≤ inlineNodes widths go ins ns (also n o written) (o .next) .next = nodes-up ns (also n o written) (o .next) in
       omega arith
 
-pub inlined-up : (early : List Function) → Up (inlined early)
+pub inlined-up : (early : List Function) → Up (inlined widths early)
 unfolding inlined
 inlined-up [] c ins next = omega arith
 inlined-up (f ∷ early) c ins next = pickUp (eqb (f .id) c) (inlined-up early) (inlined-up early c ins next)
   where
-    pickUp : (b : Bool) → Up (inlined early) → next ≤ inlined early c ins next .next → next ≤ cond b (inlineFunction (inlined early) f ins next) (inlined early c ins next) .next
-    pickUp true u h = nodes-up (inlined early) u ins (schedule (f .nodes)) [] next
+    pickUp : (b : Bool) → Up (inlined widths early) → next ≤ inlined widths early c ins next .next → next ≤ cond b (inlineFunction widths (inlined widths early) f ins next) (inlined widths early c ins next) .next
+    pickUp true u h = nodes-up (inlined widths early) u ins (schedule (f .nodes)) [] next
     pickUp false u h = h
 
 -- ---- what is served: values of the types, at the ports, and nothing else changed
@@ -124,7 +123,7 @@ single-served :
     → Single (kindOf kind) type constants → Below next (takes (kindOf kind) type) operands
     → valuesAt m (takes (kindOf kind) type) operands ≡ vs → Typed (takes (kindOf kind) type) vs
     → next + widths (gives (kindOf kind) type) ≤ length m → means ≡ some (results (kindOf kind) constants vs)
-    → Served m next (single kind type operands constants next) (gives (kindOf kind) type) means
+    → Served m next (single widths kind type operands constants next) (gives (kindOf kind) type) means
 unfolding execute
 single-served kind type operands constants next m vs means own below e h l q =
     let k = kindOf kind in
@@ -239,18 +238,18 @@ module _ (early : List Function) (f : Function) (args : List Value) (ins : List 
 
   -- ---- a node
 
-  module _ (sound : Sound early f) (serves : Simulates (inlined early) (meaningOf early) early) (inputs : Typed (f .inputs) args) where
+  module _ (sound : Sound early f) (serves : Simulates (inlined widths early) (meaningOf early) early) (inputs : Typed (f .inputs) args) where
     module _ (k : ℕ) (m : List ℕ) (next : ℕ) (ws : List Written) (stood : Stand m next ins args) (known : Known k m next ws) where
       abbrev NodeServed : Node → Payload → Type 0
       NodeServed n p =
-          Served m next (inlineNode (inlined early) (address ins ws) next n p) (givesOf early n p) (nodeMeans (meaningOf early) (f .nodes) args (suc k) (n .id))
+          Served m next (inlineNode widths (inlined widths early) (address ins ws) next n p) (givesOf early n p) (nodeMeans (meaningOf early) (f .nodes) args (suc k) (n .id))
 
       -- its payload, with what that says of the node
       payload-served :
           (n : Node) (p : Payload) → legal (kindOf (n .kind)) (n .type) ≡ true → FormedPayload (kindOf (n .kind)) p → Shaped early n p → Wired (refType early f) (wantsOf early n p) (readsOf p) → ready (writtenIds ws) (readsOf p) ≡ true
           → ((vs : List Value) → all (refMeans args (nodeMeans (meaningOf early) (f .nodes) args k)) (readsOf p) ≡ some vs
           → nodeMeans (meaningOf early) (f .nodes) args (suc k) (n .id) ≡ payloadMeans (meaningOf early) (n .kind) p vs)
-          → inlineNode (inlined early) (address ins ws) next n p .next ≤ length m → NodeServed n p
+          → inlineNode widths (inlined widths early) (address ins ws) next n p .next ≤ length m → NodeServed n p
       payload-served n (consts cs) legal formed shape wired e q l =
           single-served (n .kind) (n .type) [] cs next m [] _ (constant-single (kindOf (n .kind)) (n .type) cs legal formed) (rw shape tt) (no-values m (takes (kindOf (n .kind)) (n .type))) (rw shape tt) l (q [] refl)
       payload-served n (refs rs) legal formed shape wired e q l =
@@ -272,7 +271,7 @@ module _ (early : List Function) (f : Function) (args : List Value) (ins : List 
 
       node-served :
           (n : Node) → Is n (f .nodes) → ready (writtenIds ws) (reads n) ≡ true
-          → inlineNode (inlined early) (address ins ws) next n (n .payload) .next ≤ length m → NodeServed n (n .payload)
+          → inlineNode widths (inlined widths early) (address ins ws) next n (n .payload) .next ≤ length m → NodeServed n (n .payload)
       node-served n h e l =
           let formed = is-each FormedNode (f .nodes) (sound .resolved .formed .nodes) n h in
           payload-served n (n .payload) (formed .legal) (formed .payload) (sound .resolved .shaped n h) (sound .resolved .wired n h) e (λ vs. node-means (meaningOf early) (f .nodes) args k n vs (sound .resolved .own n h)) l
@@ -289,15 +288,15 @@ module _ (early : List Function) (f : Function) (args : List Value) (ins : List 
 
     nodes-end :
         (ns : List Node) (ws : List Written) (next : ℕ) (m : List ℕ) → ((n : Node) → Is n ns → Is n (f .nodes)) → Ordered (writtenIds ws) ns
-        → Stand m next ins args → Known (length ws) m next ws → inlineNodes (inlined early) ins ns ws next .next ≤ length m
-        → Ended m next ns ws (inlineNodes (inlined early) ins ns ws next)
+        → Stand m next ins args → Known (length ws) m next ws → inlineNodes widths (inlined widths early) ins ns ws next .next ≤ length m
+        → Ended m next ns ws (inlineNodes widths (inlined widths early) ins ns ws next)
     nodes-end [] ws next m within ordered stood known l =
         record { count = omega arith; old = λ i h. h; has = λ n h. absurd h; fit = refl; kept = keeps-none next next m; known = known }
     nodes-end (n ∷ ns) ws next m within (fit, ordered) stood known l =
-        let o = inlineNode (inlined early) (address ins ws) next n (n .payload) in
-        let b = inlineNodes (inlined early) ins ns (also n o ws) (o .next) in
-        let up : next ≤ o .next = node-up (inlined early) (inlined-up early) ins ws next n (n .payload) in
-        let up′ : o .next ≤ b .next = nodes-up (inlined early) (inlined-up early) ins ns (also n o ws) (o .next) in
+        let o = inlineNode widths (inlined widths early) (address ins ws) next n (n .payload) in
+        let b = inlineNodes widths (inlined widths early) ins ns (also n o ws) (o .next) in
+        let up : next ≤ o .next = node-up (inlined widths early) (inlined-up early) ins ws next n (n .payload) in
+        let up′ : o .next ≤ b .next = nodes-up (inlined widths early) (inlined-up early) ins ns (also n o ws) (o .next) in
         let r = node-served (length ws) m next ws stood known n (within n (inl refl)) fit (omega arith) in
         let m′ = executeAll (o .code) m in
         let size : length m′ ≡ length m = r .kept .size in
@@ -342,13 +341,13 @@ module _ (early : List Function) (f : Function) (args : List Value) (ins : List 
         (all-ready b has ts rs w)
 
     pub function-served :
-        (next : ℕ) (m : List ℕ) → Stand m next ins args → inlineFunction (inlined early) f ins next .next ≤ length m
-        → Served m next (inlineFunction (inlined early) f ins next) (outputTypes (f .outputs)) (functionMeans (meaningOf early) f args)
+        (next : ℕ) (m : List ℕ) → Stand m next ins args → inlineFunction widths (inlined widths early) f ins next .next ≤ length m
+        → Served m next (inlineFunction widths (inlined widths early) f ins next) (outputTypes (f .outputs)) (functionMeans (meaningOf early) f args)
     function-served next m stood l =
-        let b = inlineNodes (inlined early) ins (schedule (f .nodes)) [] next in
+        let b = inlineNodes widths (inlined widths early) ins (schedule (f .nodes)) [] next in
         let right = scheduled early f sound in
         let h = nodes-end (schedule (f .nodes)) [] next m (λ n i. schedule-within (f .nodes) n i) (right .ordered) stood tt l in
-        let up : next ≤ b .next = nodes-up (inlined early) (inlined-up early) ins (schedule (f .nodes)) [] next in
+        let up : next ≤ b .next = nodes-up (inlined widths early) (inlined-up early) ins (schedule (f .nodes)) [] next in
         let m′ = executeAll (b .code) m in
         let depth : length (b .written) ≡ length (f .nodes) = h .count ∙ add-zero _ ∙ right .size in
         let known : Known (length (f .nodes)) m′ (b .next) (b .written) = subst (λ (k : ℕ). Known k m′ (b .next) (b .written)) depth (h .known) in
@@ -360,20 +359,20 @@ module _ (early : List Function) (f : Function) (args : List Value) (ins : List 
 
 -- ---- the functions
 
-pub serves : (early : List Function) → AllSound early → Simulates (inlined early) (meaningOf early) early
+pub serves : (early : List Function) → AllSound early → Simulates (inlined widths early) (meaningOf early) early
 unfolding inlined meaningOf
 serves [] sound c g e args ins next m typed stood l = let z : _≡_ {A = ℕ} 0 1 = cc in absurd (omega arith)
 serves (f ∷ early) (s, sound) c g e args ins next m typed stood l =
     pickOne (eqb (f .id) c) e (serves early sound) l
   where
     pickOne :
-        (b : Bool) → cond b (some f) (findFunction c early) ≡ some g → Simulates (inlined early) (meaningOf early) early
-        → cond b (inlineFunction (inlined early) f ins next) (inlined early c ins next) .next ≤ length m
-        → Served m next (cond b (inlineFunction (inlined early) f ins next) (inlined early c ins next)) (outputTypes (g .outputs))
+        (b : Bool) → cond b (some f) (findFunction c early) ≡ some g → Simulates (inlined widths early) (meaningOf early) early
+        → cond b (inlineFunction widths (inlined widths early) f ins next) (inlined widths early c ins next) .next ≤ length m
+        → Served m next (cond b (inlineFunction widths (inlined widths early) f ins next) (inlined widths early c ins next)) (outputTypes (g .outputs))
         (cond b (functionMeans (meaningOf early) f args) (meaningOf early c args))
     pickOne true e ih l =
         let q : f ≡ g = cc in
         subst
-        (λ (x : Function). Served m next (inlineFunction (inlined early) f ins next) (outputTypes (x .outputs)) (functionMeans (meaningOf early) f args)) q
+        (λ (x : Function). Served m next (inlineFunction widths (inlined widths early) f ins next) (outputTypes (x .outputs)) (functionMeans (meaningOf early) f args)) q
         (function-served early f args ins s ih (subst (λ (x : Function). Typed (x .inputs) args) (sym q) typed) next m stood l)
     pickOne false e ih l = ih c g e args ins next m typed stood l

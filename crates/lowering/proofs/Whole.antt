@@ -33,13 +33,14 @@ use Rattle.lowering.specs.Compile.{boardListOf}
 use Rattle.base.specs.Limits.{operationLimit, wordLimit, portWordLimit}
 use Rattle.base.proofs.Stores.{front}
 use Rattle.bytecode.specs.Code.{decode}
-use Rattle.bytecode.specs.WellFormed.{FitList}
+use Rattle.bytecode.specs.declared.Version.the-variants.{V1}
+use Rattle.bytecode.specs.WellFormed.{FormedList}
 use Rattle.bytecode.proofs.Length.{encode-length}
 use Rattle.lowering.specs.Answers.{within, compilable, codeOf, compiled, Evaluated, evaluated}
 use Rattle.bytecode.specs.Answers.{Buffers, ran}
 use Rattle.lowering.specs.Demand3.{Within, Lent, Meant, Demand3}
 use Rattle.lowering.proofs.Promise.{runs}
-use Rattle.lowering.proofs.Limits.{words-of, output-words, fit-list, code-of}
+use Rattle.lowering.proofs.Limits.{words-of, output-words, formed-list, code-of}
 
 -- a function that the compiler finds is within the limits
 pub compilable-within : (s : List ℕ) (c : ℕ) (x : Chosen) → Bytes s → compilable s c ≡ ok x → (functions : List Function) × Within s c functions x
@@ -88,11 +89,11 @@ module _ (s : List ℕ) (c : ℕ) (functions : List Function) (x : Chosen) (w : 
   outputs-are : length (listOf x .outputs) ≡ widths (outputTypes (x .function .outputs))
   outputs-are = output-words (x .early) (x .function) sound
 
-  fits : FitList (listOf x)
-  fits = fit-list (x .early) (x .function) sound (w .operations) (w .words)
+  fits : FormedList V1 (listOf x)
+  fits = formed-list (x .early) (x .function) sound (w .operations) (w .words)
 
   pub code-length : length (codeOf x) ≤ 12 + 130 * operationLimit + 2 * portWordLimit
-  code-length = encode-length (listOf x) fits
+  code-length = encode-length V1 (listOf x) fits
 
   pub output-count : widths (outputTypes (x .function .outputs)) ≤ portWordLimit
   output-count = let l = fits .outputs in let e = outputs-are in omega arith

@@ -10,6 +10,7 @@ use Rattle.graph.specs.Graph.{Function}
 use Rattle.graph.specs.Judge.{table}
 use Rattle.graph.specs.Sums.{functionOperations, operationsOf, functionWords}
 use Rattle.graph.specs.Table.{Chosen, chosen}
+use Rattle.bytecode.specs.declared.Version.the-variants.{V1}
 use Rattle.bytecode.specs.Code.{encode}
 use Rattle.bytecode.specs.Answers.{ran}
 use Rattle.lowering.specs.Compile.{boardListOf}
@@ -31,7 +32,7 @@ compilable s c = do
   within latest c
 
 abbrev pub codeOf : Chosen → List ℕ
-codeOf x = encode (boardListOf (x .early) (x .function))
+codeOf x = encode V1 (boardListOf (x .early) (x .function))
 
 -- the code's length, and the buffer with the code at its front
 pub record Compiled : Type 0 where

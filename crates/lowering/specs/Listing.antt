@@ -10,6 +10,7 @@ use Rattle.graph.specs.Judge.{table}
 use Rattle.graph.specs.Sums.{functionOperations, operationsOf, functionWords}
 use Rattle.lowering.specs.Compile.{boardListOf}
 use Rattle.base.specs.Limits.{operationLimit, wordLimit, withinLimits}
+use Rattle.bytecode.specs.declared.Version.the-variants.{V1}
 use Rattle.bytecode.specs.Code.{encode}
 
 -- ---- numbers and words as bytes
@@ -94,7 +95,7 @@ functionLine early f =
     ++ wordsText
     ++ limited wordLimit words
     ++ codeText
-    ++ codeLengthText (withinLimits operations words) (encode (boardListOf early f))
+    ++ codeLengthText (withinLimits operations words) (encode V1 (boardListOf early f))
     ++ newline
 
 -- the functions stand the last first
