@@ -1,4 +1,5 @@
 pub mod Compile
+pub mod Naming
 pub mod Answers
 pub mod Demand3
 pub mod Listing
