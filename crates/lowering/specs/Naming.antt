@@ -45,10 +45,10 @@ pub record Names (values : List Range) (t a x : ℕ) : Type 0 where
 abbrev pub AllNames : List Range → List ℕ → List ℕ → List ℕ → Type 0
 AllNames values [] [] [] = Unit {0}
 AllNames values [] [] (x ∷ xs) = ⊥
-AllNames values [] (a ∷ as) xs = ⊥
+AllNames values [] (a ∷ at) xs = ⊥
 AllNames values (t ∷ ts) [] xs = ⊥
-AllNames values (t ∷ ts) (a ∷ as) [] = ⊥
-AllNames values (t ∷ ts) (a ∷ as) (x ∷ xs) = Names values t a x × AllNames values ts as xs
+AllNames values (t ∷ ts) (a ∷ at) [] = ⊥
+AllNames values (t ∷ ts) (a ∷ at) (x ∷ xs) = Names values t a x × AllNames values ts at xs
 
 -- i by names is j by words, where its result is the next value
 pub record Renames (values : List Range) (i j : Instruction) : Type 0 where
