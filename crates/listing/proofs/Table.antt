@@ -24,6 +24,7 @@ use Rattle.graph.specs.Sums.{functionOperations, operationsOf, functionWords}
 use Rattle.reader.specs.Layout.{outputsAt, functionAt, inputCount, outputCount, nodeCount, outputsPlace, nodesPlace}
 use Rattle.lowering.specs.Compile.{boardListOf}
 use Rattle.base.specs.Limits.{operationLimit, withinLimits, wordLimit}
+use Rattle.bytecode.specs.declared.Version.the-variants.{V1}
 use Rattle.bytecode.specs.Code.{encode}
 use Rattle.lowering.specs.Listing.{decimal, newline, acceptedText, refusedText, atText, functionText, inputsText, outputsText, nodesText, operationsText, wordsText, codeText, noneText, limited, codeLengthText, functionLine, functionLines, report, listing}
 use Rattle.listing.specs.Lines.{headText, countsText, lineAt}
@@ -38,14 +39,14 @@ regroup a b c d e f g h i j k l m n o = simp append-assoc
 by-numbers : (early : List Function) (f : Function)
     → functionLine early f
     ≡ headText (f .id) (length (f .inputs)) (length (f .outputs)) (length (f .nodes))
-    ++ countsText (functionOperations (operationsOf early) f) (functionWords early f) (length (encode (boardListOf early f)))
+    ++ countsText (functionOperations (operationsOf early) f) (functionWords early f) (length (encode V1 (boardListOf early f)))
 unfolding functionLine headText countsText
 by-numbers early f =
     let operations = functionOperations (operationsOf early) f in
     let words = functionWords early f in
     regroup functionText (decimal (f .id)) inputsText (decimal (length (f .inputs))) outputsText (decimal (length (f .outputs))) nodesText (decimal (length (f .nodes)))
     operationsText (limited operationLimit operations) wordsText (limited wordLimit words)
-    codeText (codeLengthText (withinLimits operations words) (encode (boardListOf early f))) newline
+    codeText (codeLengthText (withinLimits operations words) (encode V1 (boardListOf early f))) newline
 
 -- ---- sums above a limit may be capped
 
@@ -91,7 +92,7 @@ line-at s k r e =
     let f = functionIn s k in
     let operations = functionOperations (operationsOf early) f in
     let words = functionWords early f in
-    let code = length (encode (boardListOf early f)) in
+    let code = length (encode V1 (boardListOf early f)) in
     let capped = cond (withinLimits operations words) code 0 in
     ap (λ (x : Sizes). lineAt s (x .place) (x .operations) (x .words) (x .code)) e
     ∙ ap (λ (xs : List ℕ). xs ++ countsText (min (operationLimit + 1) operations) (min (wordLimit + 1) words) capped) (sym (head-at s (placeOf s k) f refl))

@@ -14,6 +14,7 @@ use Rattle.graph.specs.Types.{outputTypes}
 use Rattle.graph.specs.Sums.{functionOperations, operationsOf, functionWords, resultWords, resultWordsOf}
 use Rattle.graph.specs.Sound.{AllSound}
 use Rattle.lowering.specs.Compile.{boardListOf}
+use Rattle.bytecode.specs.declared.Version.the-variants.{V1}
 use Rattle.bytecode.specs.Code.{encode}
 use Rattle.reader.specs.Layout.{functionAt}
 use Rattle.reader.specs.Find.{ReadsFunction}
@@ -37,7 +38,7 @@ leb-cap limit n = by-limit (leb n limit) refl
 
 module _ (early : List Function) (f : Function) (sound : AllSound (f ∷ early)) where
   code-is : (outputs : ℕ) → outputs ≡ widths (outputTypes (f .outputs)) → (a b : Bool) → leb (functionOperations (operationsOf early) f) operationLimit ≡ a
-      → cond (a && b) (12 + min byteCap (functionBytes (bytesOfFunction early) f) + 2 * outputs) 0 ≡ cond (a && b) (length (encode (boardListOf early f))) 0
+      → cond (a && b) (12 + min byteCap (functionBytes (bytesOfFunction early) f) + 2 * outputs) 0 ≡ cond (a && b) (length (encode V1 (boardListOf early f))) 0
   code-is outputs e true true q =
       ap (λ (n : ℕ). 12 + n + 2 * outputs) (bytes-below early f (leb-true _ operationLimit q))
       ∙ ap (λ (n : ℕ). 12 + functionBytes (bytesOfFunction early) f + 2 * n) e
@@ -56,7 +57,7 @@ module _ (early : List Function) (f : Function) (sound : AllSound (f ∷ early))
       let fw : w ≡ min wordCap (functionWords early f) = omega arith in
       let lo : leb o operationLimit ≡ leb operations operationLimit = ap (λ (n : ℕ). leb n operationLimit) eo ∙ leb-cap operationLimit operations in
       let lw : leb w wordLimit ≡ leb (functionWords early f) wordLimit = ap (λ (n : ℕ). leb n wordLimit) fw ∙ leb-cap wordLimit (functionWords early f) in
-      let fc : c ≡ cond (withinLimits operations (functionWords early f)) (length (encode (boardListOf early f))) 0 =
+      let fc : c ≡ cond (withinLimits operations (functionWords early f)) (length (encode V1 (boardListOf early f))) 0 =
       ec ∙ rw (lo, lw, eb) (code-is u eu (leb operations operationLimit) (leb (functionWords early f) wordLimit) refl) in
       rw (ep, eo, fw, em, fc, ea, eu)
 

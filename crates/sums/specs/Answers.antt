@@ -11,6 +11,7 @@ use Rattle.graph.specs.Types.{outputTypes}
 use Rattle.graph.specs.Sums.{functionOperations, operationsOf, functionWords}
 use Rattle.lowering.specs.Compile.{boardListOf}
 use Rattle.base.specs.Limits.{portWordLimit, withinLimits, headerLength}
+use Rattle.bytecode.specs.declared.Version.the-variants.{V1}
 use Rattle.bytecode.specs.Code.{encode}
 use Rattle.reader.specs.Layout.{functionAt}
 use Rattle.reader.specs.Find.{ReadsFunction}
@@ -47,7 +48,7 @@ cappedSizes early f =
       operations = min operationCap operations;
       words = min wordCap words;
       instructions = min operationCap (functionInstructions (instructionsOf early) f);
-      code = cond (withinLimits operations words) (length (encode (boardListOf early f))) 0;
+      code = cond (withinLimits operations words) (length (encode V1 (boardListOf early f))) 0;
       arguments = widths (f .inputs);
       outputs = widths (outputTypes (f .outputs));
     }
