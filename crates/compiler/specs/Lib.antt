@@ -1,4 +1,5 @@
 pub mod Sizes
+pub mod Units
 pub mod Static
 pub mod Emit
 pub mod Locating

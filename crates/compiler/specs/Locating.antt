@@ -7,7 +7,7 @@ use mathlib.Core.Option.{some}
 use lib.Dec.{ltb, leb}
 use lib.ListN.{length, getD, getElem?}
 use Rattle.compiler.specs.Sizes.{orderLimit, outputLimit}
-use Rattle.base.specs.Limits.{functionLimit, nodeLimit, operandLimit, portLimit, referenceLimit, slotLimit, wordLimit, addressLimit}
+use Rattle.base.specs.Limits.{functionLimit, nodeLimit, operandLimit, portLimit, referenceLimit, slotLimit, addressLimit}
 use Rattle.ports.specs.Ports.{width, own, portsOf, formOf, calling}
 use Rattle.base.specs.Bytes.{byte, u16}
 use Rattle.graph.specs.Graph.{Node}
@@ -20,7 +20,8 @@ use Rattle.order.specs.Indices.{slot}
 use Rattle.order.specs.Resolve.{target}
 use Rattle.compiler.specs.Static.{Location, nowhere, input, offset, Located, locationsOf, summary, allocate}
 use Rattle.sums.specs.Position.{placeOf, functionIn, before, positionOf}
-use Rattle.sums.specs.Capped.{resultWordsAt}
+use Rattle.bytecode.specs.declared.Version.{Version}
+use Rattle.compiler.specs.Units.{unitsAt, unitLimit}
 use Rattle.compiler.specs.Emit.{locationTable, Placed, summaryAt, AllAllocated}
 
 -- ---- arrays that are read
@@ -81,9 +82,9 @@ pub record PortsCoded (xs : List Location) (codes : List ℕ) (b : ℕ) : Type 0
   pub few : length xs ≤ portLimit
   pub coded : (q : ℕ) → q < portLimit → Codes (getD codes (b + q) 0) (getD xs q nowhere)
 
--- the outputs of the functions before k that are within the word limit
-abbrev pub AllOuts : List ℕ → List ℕ → ℕ → Type 0
-AllOuts s outs k = (g : ℕ) → g < k → resultWordsAt s g ≤ wordLimit → PortsCoded (summaryAt s g .outputs) outs (portLimit * g)
+-- the outputs of the functions before k that are within the limit
+abbrev pub AllOuts : Version → List ℕ → List ℕ → ℕ → Type 0
+AllOuts v s outs k = (g : ℕ) → g < k → unitsAt v s g ≤ unitLimit v → PortsCoded (summaryAt v s g .outputs) outs (portLimit * g)
 
 -- the nodes that have their locations, by their indices
 abbrev pub PortsKnown : List Node → List ℕ → List Located → Type 0
@@ -94,28 +95,28 @@ abbrev pub readCount : List ℕ → ℕ → ℕ
 readCount s k = sum (λ n. length (reads n)) (functionIn s k .nodes)
 
 -- all nodes in their order are allocated
-pub record NodesAllocated (s : List ℕ) (k c : ℕ) (order₀ order locations₀ locations allocated : List ℕ) (r : ℕ) : Type 0 where
-  pub placed : Placed s order locations (locationTable s k) (nodeLimit * k) c (schedule (functionIn s k .nodes))
-  pub known : PortsKnown (functionIn s k .nodes) allocated (allocate (summary (before s k)) (schedule (functionIn s k .nodes)) [] 0 .located)
+pub record NodesAllocated (v : Version) (s : List ℕ) (k c : ℕ) (order₀ order locations₀ locations allocated : List ℕ) (r : ℕ) : Type 0 where
+  pub placed : Placed s order locations (locationTable v s k) (nodeLimit * k) c (schedule (functionIn s k .nodes))
+  pub known : PortsKnown (functionIn s k .nodes) allocated (allocate v (summary v (before s k)) (schedule (functionIn s k .nodes)) [] 0 .located)
   pub end : r ≡ c + readCount s k
   pub sizes : (length order ≡ orderLimit) × (length locations ≡ referenceLimit)
   pub old-order : (q : ℕ) → q < nodeLimit * k → getD order q 0 ≡ getD order₀ q 0
   pub old-locations : (q : ℕ) → q < c → getD locations q 0 ≡ getD locations₀ q 0
 
 -- the function at position k is allocated
-pub record FunctionAllocated (s : List ℕ) (k c : ℕ) (order₀ order locations₀ locations outs₀ outs : List ℕ) (r : ℕ) : Type 0 where
-  pub placed : Placed s order locations (locationTable s k) (nodeLimit * k) c (schedule (functionIn s k .nodes))
-  pub ports : PortsCoded (summaryAt s k .outputs) outs (portLimit * k)
+pub record FunctionAllocated (v : Version) (s : List ℕ) (k c : ℕ) (order₀ order locations₀ locations outs₀ outs : List ℕ) (r : ℕ) : Type 0 where
+  pub placed : Placed s order locations (locationTable v s k) (nodeLimit * k) c (schedule (functionIn s k .nodes))
+  pub ports : PortsCoded (summaryAt v s k .outputs) outs (portLimit * k)
   pub end : r ≡ c + readCount s k
   pub sizes : (length outs ≡ outputLimit) × (length order ≡ orderLimit) × (length locations ≡ referenceLimit)
   pub old-order : (q : ℕ) → q < nodeLimit * k → getD order q 0 ≡ getD order₀ q 0
   pub old-locations : (q : ℕ) → q < c → getD locations q 0 ≡ getD locations₀ q 0
   pub old-outs : (q : ℕ) → q < portLimit * k → getD outs q 0 ≡ getD outs₀ q 0
 
--- all functions before j that are within the word limit are allocated, and their locations end at `location`
-pub record AllocatedTo (s : List ℕ) (j : ℕ) (outs order locations begins : List ℕ) (cell : ℕ) : Type 0 where
-  pub allocated : AllAllocated s begins order locations j
-  pub ports : AllOuts s outs j
+-- all functions before j that are within the limit are allocated, and their locations end at `location`
+pub record AllocatedTo (v : Version) (s : List ℕ) (j : ℕ) (outs order locations begins : List ℕ) (cell : ℕ) : Type 0 where
+  pub allocated : AllAllocated v s begins order locations j
+  pub ports : AllOuts v s outs j
   pub room : 13 * cell ≤ 4 * placeOf s j
-  pub ends : (g : ℕ) → g < j → summaryAt s g .words ≤ wordLimit → getD begins g 0 + readCount s g ≤ cell
+  pub ends : (g : ℕ) → g < j → summaryAt v s g .words ≤ unitLimit v → getD begins g 0 + readCount s g ≤ cell
   pub sizes : (length outs ≡ outputLimit) × (length order ≡ orderLimit) × (length locations ≡ referenceLimit) × (length begins ≡ functionLimit)

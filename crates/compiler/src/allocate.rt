@@ -1,10 +1,10 @@
 // Where each value of a function lies: an input, or an offset from where its results begin.
 ghost use mathlib.Core.Path.{_≡_};
 ghost use mathlib.Core.Option.{some};
-ghost use Prim.Native.Nat.{suc, _+_, _*_, _<_, _≤_};
+ghost use Prim.Native.Nat.{suc, _+_, _*_, _<_, _≤_, _^_};
 ghost use lib.ListN.{length, replicate};
 ghost use lib.Seq.{sets};
-ghost use Rattle.base.specs.Limits.{functionLimit, nodeLimit, operandLimit, portLimit, referenceLimit, valueLimit, wordLimit, addressLimit};
+ghost use Rattle.base.specs.Limits.{functionLimit, nodeLimit, operandLimit, portLimit, referenceLimit, valueLimit, addressLimit};
 ghost use Rattle.compiler.specs.Sizes.{orderLimit, nodePortLimit, outputLimit};
 ghost use Rattle.graph.specs.Look.{reads};
 ghost use Rattle.graph.specs.Read.{reference};
@@ -15,7 +15,10 @@ ghost use Rattle.resolver.specs.Slots.{PlacesAre};
 ghost use Rattle.compiler.specs.Locating.{NodesAllocated, FunctionAllocated, AllocatedTo, readCount, outputCodes, Slots, portCode, readCodes, rebasedCode, rebasedCodes, resultCodes, nodeCodes, AllOuts};
 ghost use Rattle.reader.specs.Layout.{outputCount, outputsPlace, nodeAt, nodesAt, nodesPlace, nodeCount};
 ghost use Rattle.sums.specs.Position.{placeOf, Accepted, Started};
-ghost use Rattle.sums.specs.Capped.{resultWordsAt, addsWords, WordsHeld};
+ghost use Rattle.sums.specs.Capped.{plainSums};
+ghost use Rattle.compiler.specs.Units as Units;
+ghost use Rattle.compiler.specs.Units.{unitsIn, unitsAt, addsUnits, unitLimit, unitBound, heldLimit, AllHeld};
+use super::NAME_STEP;
 use super::NODE_PORT_LIMIT;
 use super::ORDER_LIMIT;
 use super::OUTPUT_LIMIT;
@@ -24,6 +27,7 @@ use base::FUNCTION_LIMIT;
 use base::NO_NODE;
 use base::NODE_LIMIT;
 use base::OPERAND_LIMIT;
+use base::OPERATION_LIMIT;
 use base::PORT_LIMIT;
 use base::REFERENCE_LIMIT;
 use base::SLOT_LIMIT;
@@ -32,7 +36,41 @@ use base::u16_at;
 use base::wide;
 use base::wide16;
 use base::wide32;
+use bytecode::Version;
+use ports::Ports;
 use reader::Found;
+
+// The most that is held for a function that can be compiled: words, or instructions.
+fn held_limit(version: Version) -> usize
+    ensures { λ r. ⌜ r ≡ heldLimit version ⌝ }
+{
+    match version {
+        Version::V1 => WORD_LIMIT,
+        Version::V2 => OPERATION_LIMIT,
+    }
+}
+
+// What is held, as words or as names.
+fn scaled(version: Version, n: usize) -> usize
+    requires { ⌜ n < 2 ^ 32 ⌝ }
+    ensures { λ r. ⌜ r ≡ Units.scaled version n ⌝ }
+{
+    match version {
+        Version::V1 => n,
+        Version::V2 => NAME_STEP * n,
+    }
+}
+
+// What the results of a node that is no call take, by its kind's row.
+fn taken(version: Version, row: Ports, ty: u8) -> usize
+    ensures { λ r. ⌜ r ≡ unitsIn version (plainSums row ty) ⌝ }
+    ensures bounded { λ r. ⌜ r < 2 ^ 32 ⌝ }
+{
+    match version {
+        Version::V1 => ports::result_words(row, ty),
+        Version::V2 => NAME_STEP,
+    }
+}
 
 // The index of the node that the reference at q reads, or `NO_NODE`.
 fn target(table: &[u8], at: usize, n: usize, q: usize) -> u16
@@ -92,7 +130,7 @@ fn allocate_reads(
 
 // A callee's location seen from its caller.
 fn rebase(locations: &[u16; REFERENCE_LIMIT], cell: usize, n: usize, d: usize, e: usize) -> u16
-    requires { ⌜ (cell + n ≤ referenceLimit) × (d ≤ wordLimit) × (e < addressLimit) ⌝ }
+    requires { ⌜ (cell + n ≤ referenceLimit) × (d ≤ unitBound) × (e < addressLimit) ⌝ }
     ensures { λ r. ⌜ r ≡ rebasedCode (now (locations .entry)) cell n d e ⌝ }
 {
     if e < PORT_LIMIT {
@@ -114,7 +152,7 @@ fn allocate_call(
     i: usize,
     d: usize,
 )
-    requires { ⌜ (g < functionLimit) × (count ≤ portLimit) × (cell + n ≤ referenceLimit) × (i < nodeLimit) × (d ≤ wordLimit) ⌝ }
+    requires { ⌜ (g < functionLimit) × (count ≤ portLimit) × (cell + n ≤ referenceLimit) × (i < nodeLimit) × (d ≤ unitBound) ⌝ }
     ensures { λ _. ⌜ now (allocated .exit) ≡ sets (now (allocated .entry)) (portLimit * i) (rebasedCodes (now (outs .entry)) (now (locations .entry)) cell n d (portLimit * g) count) ⌝ }
 {
     let mut q = 0;
@@ -133,7 +171,7 @@ fn allocate_results(
     count: usize,
     width: usize,
 )
-    requires { ⌜ (i < nodeLimit) × (d ≤ wordLimit) × (count ≤ portLimit) × (width ≤ valueLimit) ⌝ }
+    requires { ⌜ (i < nodeLimit) × (d ≤ unitBound) × (count ≤ portLimit) × (width ≤ valueLimit) ⌝ }
     ensures { λ _. ⌜ now (allocated .exit) ≡ sets (now (allocated .entry)) (portLimit * i) (resultCodes (portLimit + d) width count) ⌝ }
 {
     let mut e = PORT_LIMIT + d;
@@ -149,7 +187,8 @@ fn allocate_results(
 fn allocate_node(
     table: &[u8],
     starts: &[usize; FUNCTION_LIMIT],
-    words: &[u32; FUNCTION_LIMIT],
+    version: Version,
+    held: &[u32; FUNCTION_LIMIT],
     outs: &[u16; OUTPUT_LIMIT],
     locations: &[u16; REFERENCE_LIMIT],
     k: usize,
@@ -160,11 +199,11 @@ fn allocate_node(
     allocated: &mut [u16; NODE_PORT_LIMIT],
     d: usize,
 ) -> usize
-    requires { ⌜ (k ≤ functionLimit) × (i < nodeLimit) × ReadsNode (now table) p × Started (now table) (now starts) k × WordsHeld (now table) (now words) k ⌝ }
-    requires { ⌜ AllOuts (now table) (now outs) k × (cell + n ≤ referenceLimit) × (n ≡ length (reads (nodeAt (now table) p))) ⌝ }
-    requires { ⌜ d + addsWords (now table) k (nodeAt (now table) p) ≤ wordLimit ⌝ }
+    requires { ⌜ (k ≤ functionLimit) × (i < nodeLimit) × ReadsNode (now table) p × Started (now table) (now starts) k × AllHeld version (now table) (now held) k ⌝ }
+    requires { ⌜ AllOuts version (now table) (now outs) k × (cell + n ≤ referenceLimit) × (n ≡ length (reads (nodeAt (now table) p))) ⌝ }
+    requires { ⌜ d + addsUnits version (now table) k (nodeAt (now table) p) ≤ unitLimit version ⌝ }
     ensures { λ r. ⌜ now (allocated .exit) ≡ sets (now (allocated .entry)) (portLimit * i) (nodeCodes (now (table .entry)) (now (outs .entry)) (now (locations .entry)) k p cell d) ⌝ }
-    ensures { λ r. ⌜ r ≡ d + addsWords (now (table .entry)) k (nodeAt (now (table .entry)) p) ⌝ }
+    ensures { λ r. ⌜ r ≡ d + addsUnits version (now (table .entry)) k (nodeAt (now (table .entry)) p) ⌝ }
 {
     let row = ports::ports_of(table[p + 2]);
     let form = row.form;
@@ -172,9 +211,9 @@ fn allocate_node(
         let g = sums::position_of(table, starts, k, reader::callee_at(table, p));
         if g < k {
             let count = wide(table[starts[g] + 3]);
-            let w = wide32(words[g]);
+            let w = wide32(held[g]);
             allocate_call(outs, g, count, locations, cell, n, allocated, i, d);
-            d + w
+            d + scaled(version, w)
         } else {
             d
         }
@@ -182,7 +221,7 @@ fn allocate_node(
         let ty = table[p + 3];
         let w = ports::width(ports::own(ty, row.result));
         let count = wide(row.results);
-        let all = ports::result_words(row, ty);
+        let all = taken(version, row, ty);
         allocate_results(allocated, i, d, count, w);
         d + all
     }
@@ -192,7 +231,8 @@ fn allocate_node(
 fn allocate_nodes(
     table: &[u8],
     starts: &[usize; FUNCTION_LIMIT],
-    words: &[u32; FUNCTION_LIMIT],
+    version: Version,
+    held: &[u32; FUNCTION_LIMIT],
     outs: &[u16; OUTPUT_LIMIT],
     targets: &[u16; SLOT_LIMIT],
     places: &[u32; NODE_LIMIT],
@@ -204,12 +244,12 @@ fn allocate_nodes(
     allocated: &mut [u16; NODE_PORT_LIMIT],
     cell: usize,
 ) -> usize
-    requires { ⌜ Accepted (now table) (suc k) × (n ≡ nodeCount (now table) (placeOf (now table) k)) × (resultWordsAt (now table) k ≤ wordLimit) × (cell + readCount (now table) k ≤ referenceLimit) ⌝ }
-    requires { ⌜ Started (now table) (now starts) k × WordsHeld (now table) (now words) k × AllOuts (now table) (now outs) k ⌝ }
+    requires { ⌜ Accepted (now table) (suc k) × (n ≡ nodeCount (now table) (placeOf (now table) k)) × (unitsAt version (now table) k ≤ unitLimit version) × (cell + readCount (now table) k ≤ referenceLimit) ⌝ }
+    requires { ⌜ Started (now table) (now starts) k × AllHeld version (now table) (now held) k × AllOuts version (now table) (now outs) k ⌝ }
     requires { ⌜ Slots (now table) (nodesPlace (now table) (placeOf (now table) k)) n (now targets) × PlacesAre (now table) (nodesPlace (now table) (placeOf (now table) k)) n (now places)
         × (now index ≡ sets (replicate nodeLimit 0) 0 (indexOrder (now targets) n)) ⌝ }
     requires { ⌜ (length (now order) ≡ orderLimit) × (length (now locations) ≡ referenceLimit) × (length (now allocated) ≡ nodePortLimit) ⌝ }
-    ensures { λ r. ⌜ NodesAllocated (now (table .entry)) k cell (now (order .entry)) (now (order .exit)) (now (locations .entry)) (now (locations .exit)) (now (allocated .exit)) r ⌝ }
+    ensures { λ r. ⌜ NodesAllocated version (now (table .entry)) k cell (now (order .entry)) (now (order .exit)) (now (locations .entry)) (now (locations .exit)) (now (allocated .exit)) r ⌝ }
 {
     let rows = ports::PORTS;
     let mut here = cell;
@@ -236,7 +276,8 @@ fn allocate_nodes(
         d = allocate_node(
             table,
             starts,
-            words,
+            version,
+            held,
             outs,
             locations,
             k,
@@ -283,17 +324,18 @@ fn allocate_outputs(
 fn allocate_function(
     table: &[u8],
     starts: &[usize; FUNCTION_LIMIT],
-    words: &[u32; FUNCTION_LIMIT],
+    version: Version,
+    held: &[u32; FUNCTION_LIMIT],
     k: usize,
     outs: &mut [u16; OUTPUT_LIMIT],
     order: &mut [u16; ORDER_LIMIT],
     locations: &mut [u16; REFERENCE_LIMIT],
     cell: usize,
 ) -> usize
-    requires { ⌜ Accepted (now table) (suc k) × (resultWordsAt (now table) k ≤ wordLimit) × (cell + readCount (now table) k ≤ referenceLimit) ⌝ }
-    requires { ⌜ Started (now table) (now starts) (suc k) × WordsHeld (now table) (now words) k × AllOuts (now table) (now outs) k ⌝ }
+    requires { ⌜ Accepted (now table) (suc k) × (unitsAt version (now table) k ≤ unitLimit version) × (cell + readCount (now table) k ≤ referenceLimit) ⌝ }
+    requires { ⌜ Started (now table) (now starts) (suc k) × AllHeld version (now table) (now held) k × AllOuts version (now table) (now outs) k ⌝ }
     requires { ⌜ (length (now outs) ≡ outputLimit) × (length (now order) ≡ orderLimit) × (length (now locations) ≡ referenceLimit) ⌝ }
-    ensures { λ r. ⌜ FunctionAllocated (now (table .entry)) k cell (now (order .entry)) (now (order .exit)) (now (locations .entry)) (now (locations .exit)) (now (outs .entry)) (now (outs .exit)) r ⌝ }
+    ensures { λ r. ⌜ FunctionAllocated version (now (table .entry)) k cell (now (order .entry)) (now (order .exit)) (now (locations .entry)) (now (locations .exit)) (now (outs .entry)) (now (outs .exit)) r ⌝ }
 {
     let p = starts[k];
     let n = u16_at(table, p + 4);
@@ -308,7 +350,8 @@ fn allocate_function(
     let end = allocate_nodes(
         table,
         starts,
-        words,
+        version,
+        held,
         outs,
         &targets,
         &places,
@@ -324,11 +367,12 @@ fn allocate_function(
     end
 }
 
-// The function at position j, where it is within the word limit; the answer is the place behind all locations.
+// The function at position j, where it is within the limit; the answer is the place behind all locations.
 pub fn allocate_next(
     table: &[u8],
     starts: &[usize; FUNCTION_LIMIT],
-    words: &[u32; FUNCTION_LIMIT],
+    version: Version,
+    held: &[u32; FUNCTION_LIMIT],
     j: usize,
     outs: &mut [u16; OUTPUT_LIMIT],
     order: &mut [u16; ORDER_LIMIT],
@@ -336,32 +380,35 @@ pub fn allocate_next(
     begins: &mut [u16; FUNCTION_LIMIT],
     cell: usize,
 ) -> usize
-    requires { ⌜ Accepted (now table) (suc j) × Started (now table) (now starts) (suc j) × WordsHeld (now table) (now words) (suc j) ⌝ }
-    requires { ⌜ AllocatedTo (now table) j (now outs) (now order) (now locations) (now begins) cell ⌝ }
-    ensures { λ r. ⌜ AllocatedTo (now (table .entry)) (suc j) (now (outs .exit)) (now (order .exit)) (now (locations .exit)) (now (begins .exit)) r ⌝ }
+    requires { ⌜ Accepted (now table) (suc j) × Started (now table) (now starts) (suc j) × AllHeld version (now table) (now held) (suc j) ⌝ }
+    requires { ⌜ AllocatedTo version (now table) j (now outs) (now order) (now locations) (now begins) cell ⌝ }
+    ensures { λ r. ⌜ AllocatedTo version (now (table .entry)) (suc j) (now (outs .exit)) (now (order .exit)) (now (locations .exit)) (now (begins .exit)) r ⌝ }
 {
-    let w = wide32(words[j]);
-    if WORD_LIMIT < w {
+    let w = wide32(held[j]);
+    if held_limit(version) < w {
         return cell;
     }
     begins[j] = cell as u16;
-    allocate_function(table, starts, words, j, outs, order, locations, cell)
+    allocate_function(
+        table, starts, version, held, j, outs, order, locations, cell,
+    )
 }
 
-// The functions before k that are within the word limit; the answer is the place behind all locations.
+// The functions before k that are within the limit; the answer is the place behind all locations.
 pub fn allocate_functions(
     table: &[u8],
     starts: &[usize; FUNCTION_LIMIT],
-    words: &[u32; FUNCTION_LIMIT],
+    version: Version,
+    held: &[u32; FUNCTION_LIMIT],
     k: usize,
     outs: &mut [u16; OUTPUT_LIMIT],
     order: &mut [u16; ORDER_LIMIT],
     locations: &mut [u16; REFERENCE_LIMIT],
     begins: &mut [u16; FUNCTION_LIMIT],
 ) -> usize
-    requires { ⌜ Accepted (now table) k × Started (now table) (now starts) k × WordsHeld (now table) (now words) k ⌝ }
+    requires { ⌜ Accepted (now table) k × Started (now table) (now starts) k × AllHeld version (now table) (now held) k ⌝ }
     requires { ⌜ (length (now outs) ≡ outputLimit) × (length (now order) ≡ orderLimit) × (length (now locations) ≡ referenceLimit) × (length (now begins) ≡ functionLimit) ⌝ }
-    ensures { λ r. ⌜ AllocatedTo (now (table .entry)) k (now (outs .exit)) (now (order .exit)) (now (locations .exit)) (now (begins .exit)) r ⌝ }
+    ensures { λ r. ⌜ AllocatedTo version (now (table .entry)) k (now (outs .exit)) (now (order .exit)) (now (locations .exit)) (now (begins .exit)) r ⌝ }
 {
     let mut cell = 0;
     let mut j = 0;
@@ -369,7 +416,8 @@ pub fn allocate_functions(
         cell = allocate_next(
             table,
             starts,
-            words,
+            version,
+            held,
             j,
             outs,
             order,

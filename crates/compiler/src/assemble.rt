@@ -57,7 +57,7 @@ pub fn put_outputs(
     code: &mut [u8],
     at: usize,
 )
-    requires { ⌜ (entries + 4 * n ≤ length (now table)) × (n ≤ portLimit) × (k < functionLimit) × (first ≤ wordLimit) × ((j : ℕ) → j < n → addressOf (now ins) first (getD (now outs) (portLimit * k + j) 0) ≤ 2 * wordLimit) ⌝ }
+    requires { ⌜ (entries + 4 * n ≤ length (now table)) × (n ≤ portLimit) × (k < functionLimit) × (first ≤ unitBound) × ((j : ℕ) → j < n → addressOf (now ins) first (getD (now outs) (portLimit * k + j) 0) ≤ 2 * wordLimit) ⌝ }
     requires { ⌜ at + 2 * widths (typesBy 4 n (now table) entries) ≤ length (now code) ⌝ }
     ensures { λ _. ⌜ now (code .exit) ≡ sets (now (code .entry)) at
         (allBytes 2 (spans (typesBy 4 n (now (table .entry)) entries) (addressesIn (now (outs .entry)) (now (ins .entry)) first (portLimit * k) n))) ⌝ }

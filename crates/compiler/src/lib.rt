@@ -34,10 +34,20 @@ const ORDER_LIMIT: usize = FUNCTION_LIMIT * NODE_LIMIT;
 const NODE_PORT_LIMIT: usize = NODE_LIMIT * PORT_LIMIT;
 // Outputs of all functions.
 const OUTPUT_LIMIT: usize = FUNCTION_LIMIT * PORT_LIMIT;
+// Names that a value takes; `nameStep` of `lowering`.
+const NAME_STEP: usize = 4;
 
 // ---- what functions answer
 
-// The byte behind what was written, the next free word, and the location behind those that were read.
+// What a walk over the instructions does with each: note who reads a value last and how wide it is, or write it, in version 1
+// or 2.
+pub enum Pass {
+    Survey,
+    Sequential,
+    Addressed,
+}
+
+// The byte behind what was written, the next address, and the location behind those that were read.
 pub struct Reached {
     pub at: usize,
     pub next: usize,

@@ -19,8 +19,8 @@ nameStep = 4
 
 -- what results of these types take: their words, or their names
 abbrev pub sizing : Version → List ℕ → ℕ
-sizing V1 ts = widths ts
-sizing V2 ts = nameStep
+sizing V1 = widths
+sizing V2 = λ ts. nameStep
 
 -- of n inputs, from the j-th on
 abbrev pub names : ℕ → ℕ → List ℕ
