@@ -162,8 +162,24 @@ choose m hi (t ∷ ts) (a ∷ at) (v ∷ vs) (suc p) w (o, h) (x, s) e = choose 
 
 -- ---- inside one function
 
-abbrev writtenIds : List Written → List ℕ
+abbrev pub writtenIds : List Written → List ℕ
 writtenIds ws = map (λ w. w .id) ws
+
+-- where all nodes of the schedule are done, all that has a type is ready
+module _ (early : List Function) (f : Function) (sound : Sound early f) (done : List ℕ)
+    (has : (n : Node) → Is n (schedule (f .nodes)) → member (n .id) done ≡ true) where
+  node-done : (j : ℕ) → Is j (ids (f .nodes)) → member j done ≡ true
+  node-done j h =
+      let (n, is, e) = in-is j (f .nodes) h in
+      rw e (has n (scheduled early f sound .has n is))
+
+  pub all-ready : (ts : List ℕ) (rs : List Ref) → Wired (refType early f) ts rs → ready done rs ≡ true
+  all-ready ts [] w = refl
+  all-ready [] (r ∷ rs) w = absurd w
+  all-ready (t ∷ ts) (r ∷ rs) (x, w) =
+      and-both (eqb (r .node) 0 || member (r .node) done) (ready done rs)
+      (⊎-elim (λ e. or-left _ _ (eq-eqb (r .node) 0 e)) (λ i. or-right (eqb (r .node) 0) _ (node-done (r .node) i)) (reads-in early f r t x))
+      (all-ready ts rs w)
 
 module _ (early : List Function) (f : Function) (args : List Value) (ins : List ℕ) where
   -- what a node means stands at its ports
@@ -325,21 +341,6 @@ module _ (early : List Function) (f : Function) (args : List Value) (ins : List 
 
     -- ---- the outputs
 
-    member-of : (b : Body) → ((n : Node) → Is n (schedule (f .nodes)) → member (n .id) (writtenIds (b .written)) ≡ true) → (j : ℕ) → Is j (ids (f .nodes))
-        → member j (writtenIds (b .written)) ≡ true
-    member-of b has j h =
-        let (n, is, e) = in-is j (f .nodes) h in
-        rw e (has n (scheduled early f sound .has n is))
-
-    all-ready : (b : Body) → ((j : ℕ) → Is j (ids (f .nodes)) → member j (writtenIds (b .written)) ≡ true) → (ts : List ℕ) (rs : List Ref)
-        → Wired (refType early f) ts rs → ready (writtenIds (b .written)) rs ≡ true
-    all-ready b has ts [] w = refl
-    all-ready b has [] (r ∷ rs) w = absurd w
-    all-ready b has (t ∷ ts) (r ∷ rs) (x, w) =
-        and-both (eqb (r .node) 0 || member (r .node) (writtenIds (b .written))) (ready (writtenIds (b .written)) rs)
-        (⊎-elim (λ e. or-left _ _ (eq-eqb (r .node) 0 e)) (λ i. or-right (eqb (r .node) 0) _ (has (r .node) i)) (reads-in early f r t x))
-        (all-ready b has ts rs w)
-
     pub function-served :
         (next : ℕ) (m : List ℕ) → Stand m next ins args → inlineFunction widths (inlined widths early) f ins next .next ≤ length m
         → Served m next (inlineFunction widths (inlined widths early) f ins next) (outputTypes (f .outputs)) (functionMeans (meaningOf early) f args)
@@ -351,7 +352,7 @@ module _ (early : List Function) (f : Function) (args : List Value) (ins : List 
         let m′ = executeAll (b .code) m in
         let depth : length (b .written) ≡ length (f .nodes) = h .count ∙ add-zero _ ∙ right .size in
         let known : Known (length (f .nodes)) m′ (b .next) (b .written) = subst (λ (k : ℕ). Known k m′ (b .next) (b .written)) depth (h .known) in
-        let fit = all-ready b (member-of b (h .has)) (outputTypes (f .outputs)) (outputRefs (f .outputs)) (sound .resolved .answers) in
+        let fit = all-ready early f sound (writtenIds (b .written)) (h .has) (outputTypes (f .outputs)) (outputRefs (f .outputs)) (sound .resolved .answers) in
         let (vs, p, t, s) =
         refs-known (length (f .nodes)) m′ (b .next) (b .written) inputs (stays (h .kept) (b .next) ins args up stood) known (outputTypes (f .outputs))
         (outputRefs (f .outputs)) fit (sound .resolved .answers) in
