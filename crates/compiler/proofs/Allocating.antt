@@ -14,7 +14,7 @@ use lib.ListN.{length, getD, set, replicate, getElem?, length-map, length-set, l
 use lib.Seq.{sets, length-sets, getD-set-same, getD-set-other}
 use borrow.Author.Tests.{eqb-false}
 use Rattle.compiler.specs.Sizes.{orderLimit, nodePortLimit}
-use Rattle.base.specs.Limits.{nodeLimit, referenceLimit, wordLimit, addressLimit, functionLimit, portLimit, operandLimit}
+use Rattle.base.specs.Limits.{nodeLimit, referenceLimit, addressLimit, functionLimit, portLimit, operandLimit}
 use Rattle.base.specs.Lists.{Each, member, Is}
 use Rattle.ports.specs.Kinds.{kindOf}
 use Rattle.ports.specs.Ports.{portsOf, formOf, calling}
@@ -47,7 +47,7 @@ use Rattle.compiler.specs.Emit.{Stands, locationTable, Coded, Placed, su
 use Rattle.base.proofs.Stores.{sets-in, sets-below}
 use Rattle.compiler.proofs.Bounds.{Within, outputs-within, reads-within}
 use Rattle.compiler.proofs.Locations.{Single, function-agrees}
-use Rattle.compiler.proofs.Words.{summary-words, function-words}
+use Rattle.compiler.proofs.Units.{units-at, function-units, limit-bound, nodes-units, node-units, callee-units}
 use Rattle.sums.proofs.Rows.{narrow}
 use Rattle.compiler.proofs.References.{count-reads, few-reads}
 use Rattle.sums.proofs.Positions.{words-at}
@@ -57,6 +57,8 @@ use Rattle.checker.proofs.Whole.{node-at}
 use Rattle.compiler.proofs.Coding.{AllCodes, codes-length, codes-stored, reads-coded, node-coded, node-few, knows-step}
 use Rattle.sums.proofs.Accepted.{few, read-below, sound-below, short}
 use Rattle.compiler.proofs.Accepting.{single-at}
+use Rattle.bytecode.specs.declared.Version.{Version}
+use Rattle.compiler.specs.Units.{unitsIn, unitsAt, addsUnits, unitLimit, unitBound}
 
 -- ---- ids are single
 
@@ -91,14 +93,14 @@ each-wider a b w (x ∷ xs) l (h, hs) = (wider x h, each-wider a b w xs l hs)
     wider (input i) h = h
     wider (offset d) h = omega arith
 
-pub strong : (a e : ℕ) (x : Location) → a ≤ portLimit → Codes e x → Within a wordLimit x → Stands e x
+pub strong : (a e : ℕ) (x : Location) → a ≤ portLimit → Codes e x → Within a unitBound x → Stands e x
 strong a e nowhere l c w = absurd w
 strong a e (input i) l c w = (c (omega arith), omega arith)
 strong a e (offset d) l c w = (c, w)
 
 -- the locations of references, in the last list, where their numbers are stored
 coded-reads : (a : ℕ) (table : Ref → Location) (located : List Located) (locations : List ℕ) (here : ℕ) (rs : List Ref) (es : List ℕ) → a ≤ 8
-    → AllCodes es (map (locationOf located) rs) → Each (λ r. table r ≡ locationOf located r) rs → Each (Within a wordLimit) (map table rs)
+    → AllCodes es (map (locationOf located) rs) → Each (λ r. table r ≡ locationOf located r) rs → Each (Within a unitBound) (map table rs)
     → ((q : ℕ) → q < length es → getD locations (here + q) 0 ≡ getD es q 0) → here + length rs ≤ referenceLimit → Coded locations table here rs
 coded-reads a table located locations here [] es l h t w g r = omega arith
 coded-reads a table located locations here (r ∷ rs) [] l h t w g room = absurd h
@@ -112,14 +114,14 @@ coded-reads a table located locations here (r ∷ rs) (e ∷ es) l (c, h) (t, ts
 -- ---- the loop
 
 -- what the loop over the nodes of the function at position k is lent; its references have their locations from c on
-pub record Lent (s : List ℕ) (k c : ℕ) (outs ts places : List ℕ) : Type 0 where
-  pub limit : resultWordsAt s k ≤ wordLimit
+pub record Lent (ver : Version) (s : List ℕ) (k c : ℕ) (outs ts places : List ℕ) : Type 0 where
+  pub limit : unitsAt ver s k ≤ unitLimit ver
   pub room : c + readCount s k ≤ referenceLimit
   pub slots : Slots s (nodesPlace s (placeOf s k)) (nodeCount s (placeOf s k)) ts
   pub held : PlacesAre s (nodesPlace s (placeOf s k)) (nodeCount s (placeOf s k)) places
-  pub all : AllOuts s outs k
+  pub all : AllOuts ver s outs k
 
-module _ (s : List ℕ) (k c : ℕ) (acc : Accepted s (suc k)) (outs ts places index order₀ locations₀ : List ℕ) where
+module _ (ver : Version) (s : List ℕ) (k c : ℕ) (acc : Accepted s (suc k)) (outs ts places index order₀ locations₀ : List ℕ) where
   abbrev n : ℕ
   n = nodeCount s (placeOf s k)
 
@@ -130,10 +132,10 @@ module _ (s : List ℕ) (k c : ℕ) (acc : Accepted s (suc k)) (outs ts places i
   ns = functionIn s k .nodes
 
   abbrev call : Callee
-  call = summary (before s k)
+  call = summary ver (before s k)
 
   abbrev table : Ref → Location
-  table = locationTable s k
+  table = locationTable ver s k
 
   abbrev sizeOf : Node → ℕ
   sizeOf x = length (reads x)
@@ -148,19 +150,18 @@ module _ (s : List ℕ) (k c : ℕ) (acc : Accepted s (suc k)) (outs ts places i
   k16 : k < functionLimit
   k16 = let l = few s (suc k) acc in omega arith
 
-  words-of-summary : summaryAt s k .words ≡ resultWordsAt s k
-  unfolding resultWordsAt
-  words-of-summary = function-words (before s k) (functionIn s k) sound
+  words-of-summary : summaryAt ver s k .words ≡ unitsAt ver s k
+  words-of-summary = function-units ver (before s k) (functionIn s k) sound ∙ units-at ver s k
 
   pub record At (rest : List Node) (left : List ℕ) (located : List Located) (order locations allocated : List ℕ) (here d m : ℕ) : Type 0 where
     pub count : m + length rest ≡ n
     pub along : map (λ i. getElem? ns i) left ≡ map some rest
     pub held : (j : ℕ) → j < length left → getD index (m + j) 0 ≡ getD left j 0
-    pub agrees : Agrees call table rest located d
-    pub final : allocate call (schedule ns) [] 0 ≡ allocate call rest located d
+    pub agrees : Agrees ver call table rest located d
+    pub final : allocate ver call (schedule ns) [] 0 ≡ allocate ver call rest located d
     pub within : (x : Node) → Is x rest → Is x ns
     pub known : PortsKnown ns allocated located
-    pub words : d + sum (addsWords s k) rest ≡ resultWordsAt s k
+    pub words : d + sum (addsUnits ver s k) rest ≡ unitsAt ver s k
     pub unread : here + sum sizeOf rest ≡ c + readCount s k
     pub sizes : (length order ≡ orderLimit) × (length locations ≡ referenceLimit) × (length allocated ≡ nodePortLimit)
     pub old-order : (q : ℕ) → q < nodeLimit * k → getD order q 0 ≡ getD order₀ q 0
@@ -216,11 +217,11 @@ module _ (s : List ℕ) (k c : ℕ) (acc : Accepted s (suc k)) (outs ts places i
           count = omega arith;
           along = along;
           held = λ j jl. ap (λ (xs : List ℕ). getD xs (0 + j) 0) ei ∙ sets-in (indexOrder ts n) (replicate nodeLimit 0) 0 j jl (let z = length-replicate {A = ℕ} 256 0 in omega arith);
-          agrees = function-agrees call (before s k) (functionIn s k) (sound .0) (single-at s (suc k) acc k (omega arith));
+          agrees = function-agrees ver call (before s k) (functionIn s k) (sound .0) (single-at s (suc k) acc k (omega arith));
           final = refl;
           within = λ x i. schedule-within ns x i;
           known = λ v x g. record { few = omega arith; coded = λ q ql. tt };
-          words = let a = right .total (addsWords s k) in let b = ap (λ (x : Sums). x .words) (sums-are s k) in omega arith;
+          words = let a = right .total (addsUnits ver s k) in let b : unitsAt ver s k ≡ sum (addsUnits ver s k) ns = ap (unitsIn ver) (sums-are s k) ∙ nodes-units ver s k ns in omega arith;
           unread = let a = right .total sizeOf in omega arith;
           sizes = (lo, ls, ll);
           old-order = λ q ql. refl;
@@ -233,7 +234,7 @@ module _ (s : List ℕ) (k c : ℕ) (acc : Accepted s (suc k)) (outs ts places i
   -- ---- the node at hand
 
   module _ (x : Node) (xs : List Node) (i : ℕ) (is : List ℕ) (located : List Located) (order locations allocated : List ℕ) (here d m : ℕ)
-      (st : At (x ∷ xs) (i ∷ is) located order locations allocated here d m) (lent : Lent s k c outs ts places) where
+      (st : At (x ∷ xs) (i ∷ is) located order locations allocated here d m) (lent : Lent ver s k c outs ts places) where
     stands : getElem? ns i ≡ some x
     stands = let e = st .along in cc
 
@@ -261,7 +262,7 @@ module _ (s : List ℕ) (k c : ℕ) (acc : Accepted s (suc k)) (outs ts places i
         pub near : p < addressLimit
         pub narrow-reads : length (reads (nodeAt s p)) ≤ operandLimit
         pub free : here + length (reads (nodeAt s p)) ≤ referenceLimit
-        pub short : d + addsWords s k (nodeAt s p) ≤ wordLimit
+        pub short : d + addsUnits ver s k (nodeAt s p) ≤ unitLimit ver
 
       pub here-is : Here
       here-is =
@@ -273,26 +274,24 @@ module _ (s : List ℕ) (k c : ℕ) (acc : Accepted s (suc k)) (outs ts places i
             short = rw node-is (let a = st .words in omega arith);
           }
 
-      adds-summary : (y : Node) (q : Payload) → nodeWords (resultWordsOf (before s k)) y q ≡ nodeSummary call located d y q .words
-      adds-summary y (consts ws) = refl
-      adds-summary y (refs rs) = refl
-      adds-summary y (calls e rs) = sym (summary-words (before s k) (sound .1) e)
+      adds-summary : (y : Node) → addsUnits ver s k y ≡ nodeSummary ver call located d y (y .payload) .words
+      adds-summary y = node-units ver (before s k) (sound .1) s k refl located d y
 
       -- the callee's outputs have their numbers
       inner : calling (formOf (kindAt s p)) ≡ true → positionOf s k (u16 s (p + 4)) < k
-          → (inputs : ℕ) × Each (Within inputs wordLimit) (summaryAt s (positionOf s k (u16 s (p + 4))) .outputs)
-          × PortsCoded (summaryAt s (positionOf s k (u16 s (p + 4))) .outputs) outs (8 * positionOf s k (u16 s (p + 4)))
-      unfolding resultWordsAt earlier
+          → (inputs : ℕ) × Each (Within inputs unitBound) (summaryAt ver s (positionOf s k (u16 s (p + 4))) .outputs)
+          × PortsCoded (summaryAt ver s (positionOf s k (u16 s (p + 4))) .outputs) outs (8 * positionOf s k (u16 s (p + 4)))
+      unfolding earlier
       inner f l =
           let g = positionOf s k (u16 s (p + 4)) in
-          let a : addsWords s k (nodeAt s p) ≡ resultWordsAt s g =
-          added-words s k p (byte s (p + 2)) (portsOf (kindAt s p)) refl refl f (u16 s (p + 4)) g refl refl
-          ∙ words-at s k (u16 s (p + 4)) g refl (let z = k16 in omega arith) l in
+          let a : addsUnits ver s k (nodeAt s p) ≡ unitsAt ver s g =
+          callee-units ver s k p (byte s (p + 2)) (portsOf (kindAt s p)) refl refl f (u16 s (p + 4)) g refl refl (let z = k16 in omega arith) l in
           let b = here-is .short in
           let sg = sound-below s (suc k) acc g (omega arith) in
-          let w : summaryAt s g .words ≡ resultWordsAt s g = function-words (before s g) (functionIn s g) sg in (
+          let w : summaryAt ver s g .words ≡ unitsAt ver s g = function-units ver (before s g) (functionIn s g) sg ∙ units-at ver s g in
+          let top = limit-bound ver in (
             length (functionIn s g .inputs),
-            each-wider (length (functionIn s g .inputs)) wordLimit (summaryAt s g .words) (summaryAt s g .outputs) (omega arith) (outputs-within (before s g) (functionIn s g) sg),
+            each-wider (length (functionIn s g .inputs)) unitBound (summaryAt ver s g .words) (summaryAt ver s g .outputs) (omega arith) (outputs-within ver (before s g) (functionIn s g) sg),
             lent .all g l (omega arith),
           )
 
@@ -334,21 +333,21 @@ module _ (s : List ℕ) (k c : ℕ) (acc : Accepted s (suc k)) (outs ts places i
           ports = nodeCodes s outs locations' k p here d
 
           abbrev one : Summary
-          one = nodeSummary call located d x (x .payload)
+          one = nodeSummary ver call located d x (x .payload)
 
           ports-are : AllCodes ports (one .outputs)
           ports-are =
-              subst (λ (y : Node). AllCodes ports (nodeSummary call located d y (y .payload) .outputs)) node-is
-              (node-coded s outs locations' k p here d located node-read (let z = k16 in omega arith) (let z = here-is .short in omega arith) inner given)
+              subst (λ (y : Node). AllCodes ports (nodeSummary ver call located d y (y .payload) .outputs)) node-is
+              (node-coded ver s outs locations' k p here d located node-read (let z = k16 in omega arith) (let z = here-is .short in let y = limit-bound ver in omega arith) inner given)
 
           ports-few : length (one .outputs) ≤ 8
           ports-few =
-              let a = node-few s outs locations' k p here d located node-read (let z = k16 in omega arith) (let z = here-is .short in omega arith) inner given in
+              let a = node-few ver s outs locations' k p here d located node-read (let z = k16 in omega arith) (let z = here-is .short in let y = limit-bound ver in omega arith) inner given in
               let b = codes-length ports (one .outputs) ports-are in
               omega arith
 
           module _ (order' allocated' : List ℕ) (d' here' : ℕ) (eo : order' ≡ set order (nodeLimit * k + m) p) (el : allocated' ≡ sets allocated (8 * i) ports)
-              (ed : d' ≡ d + addsWords s k (nodeAt s p)) (eh : here' ≡ here + r .count) where
+              (ed : d' ≡ d + addsUnits ver s k (nodeAt s p)) (eh : here' ≡ here + r .count) where
             abbrev next : List Located
             next = record { id = x .id; locations = one .outputs } ∷ located
 
@@ -370,18 +369,19 @@ module _ (s : List ℕ) (k c : ℕ) (acc : Accepted s (suc k)) (outs ts places i
             size-x = ap length reads-are ∙ refs-length (r .count) s (r .first)
 
             words-x : d + one .words ≡ d'
-            words-x = sym (ed ∙ ap (λ (y : Node). d + addsWords s k y) node-is ∙ ap (λ (w : ℕ). d + w) (adds-summary x (x .payload)))
+            words-x = sym (ed ∙ ap (λ (y : Node). d + addsUnits ver s k y) node-is ∙ ap (λ (w : ℕ). d + w) (adds-summary x))
 
             coded : (locations'' : List ℕ) → ((q : ℕ) → q < here' → getD locations'' q 0 ≡ getD locations' q 0) → Coded locations'' table here (reads x)
             unfolding earlier functionAt
             coded locations'' hs =
                 let a = sound .0 .resolved .formed .inputs in
-                let w : summaryAt s k .words ≡ resultWordsAt s k = words-of-summary in
+                let w : summaryAt ver s k .words ≡ unitsAt ver s k = words-of-summary in
+                let top = limit-bound ver in
                 coded-reads (length (functionIn s k .inputs)) table located locations'' here (reads x) codes a
                 (subst (λ (qs : List Ref). AllCodes codes (map (locationOf located) qs)) (sym reads-are) codes-are)
                 (st .agrees .0)
-                (each-wider (length (functionIn s k .inputs)) wordLimit (summaryAt s k .words) (map table (reads x)) (omega arith)
-                (reads-within (before s k) (functionIn s k) sound x (at-is ns i x stands)))
+                (each-wider (length (functionIn s k .inputs)) unitBound (summaryAt ver s k .words) (map table (reads x)) (omega arith)
+                (reads-within ver (before s k) (functionIn s k) sound x (at-is ns i x stands)))
                 (λ q ql. hs (here + q) (let z = codes-size in omega arith) ∙ ap (λ (ys : List ℕ). getD ys (here + q) 0) es ∙ sets-in codes locations here q ql fits-there)
                 (let z = size-x in let y = here-is .free in let v = count-is in omega arith)
 
@@ -391,14 +391,14 @@ module _ (s : List ℕ) (k c : ℕ) (acc : Accepted s (suc k)) (outs ts places i
                   count = let a = st .count in omega arith;
                   along = let e = st .along in cc;
                   held = λ j jl. let z : m + 1 + j ≡ m + suc j = omega arith in ap (λ (q : ℕ). getD index q 0) z ∙ st .held (suc j) (omega arith);
-                  agrees = subst (λ (w : ℕ). Agrees call table xs next w) words-x (st .agrees .1);
-                  final = st .final ∙ ap (λ (w : ℕ). allocate call xs next w) words-x;
+                  agrees = subst (λ (w : ℕ). Agrees ver call table xs next w) words-x (st .agrees .1);
+                  final = st .final ∙ ap (λ (w : ℕ). allocate ver call xs next w) words-x;
                   within = λ y h. st .within y (inr h);
                   known = subst (λ (ys : List ℕ). PortsKnown ns ys next) (sym el)
                       (knows-step ns allocated located i x ports (one .outputs) (st .known) stands
                       (λ v y gv e. single-index ns (single-at s (suc k) acc k (omega arith)) v i y x gv stands e) ports-are ports-few
                       (let a = st .sizes .2 in let b = low in let f = holds .few in omega arith));
-                  words = let a = st .words in let b = ap (addsWords s k) node-is in omega arith;
+                  words = let a = st .words in let b = ap (addsUnits ver s k) node-is in omega arith;
                   unread = let a = st .unread in let b = size-x in omega arith;
                   sizes = (
                     ap length eo ∙ length-set order (nodeLimit * k + m) p ∙ st .sizes .0,
@@ -425,48 +425,48 @@ module _ (s : List ℕ) (k c : ℕ) (acc : Accepted s (suc k)) (outs ts places i
 
 -- ---- the invariant, at the loop's head
 
-module _ {s : List ℕ} {k c : ℕ} {acc : Accepted s (suc k)} {outs ts places index order₀ locations₀ : List ℕ} where
-  pub start : {allocated : List ℕ} → Lent s k c outs ts places → index ≡ sets (replicate nodeLimit 0) 0 (indexOrder ts (nodeCount s (placeOf s k)))
+module _ (ver : Version) {s : List ℕ} {k c : ℕ} {acc : Accepted s (suc k)} {outs ts places index order₀ locations₀ : List ℕ} where
+  pub start : {allocated : List ℕ} → Lent ver s k c outs ts places → index ≡ sets (replicate nodeLimit 0) 0 (indexOrder ts (nodeCount s (placeOf s k)))
       → length order₀ ≡ orderLimit → length locations₀ ≡ referenceLimit → length allocated ≡ nodePortLimit
-      → State s k c acc outs ts places index order₀ locations₀ order₀ locations₀ allocated c 0 0
-  start {allocated} lent = begun s k c acc outs ts places index order₀ locations₀ allocated (lent .slots)
+      → State ver s k c acc outs ts places index order₀ locations₀ order₀ locations₀ allocated c 0 0
+  start {allocated} lent = begun ver s k c acc outs ts places index order₀ locations₀ allocated (lent .slots)
 
   module _ {order locations allocated : List ℕ} {here d m : ℕ} where
-    pub index-low : Lent s k c outs ts places → State s k c acc outs ts places index order₀ locations₀ order locations allocated here d m → m < nodeCount s (placeOf s k) → {i : ℕ} → i ≡ getD index m 0 → i < nodeCount s (placeOf s k)
+    pub index-low : Lent ver s k c outs ts places → State ver s k c acc outs ts places index order₀ locations₀ order locations allocated here d m → m < nodeCount s (placeOf s k) → {i : ℕ} → i ≡ getD index m 0 → i < nodeCount s (placeOf s k)
     index-low lent ([], left, located, st) lt e = let a = st .count in absurd (omega arith)
     index-low lent (x ∷ xs, [], located, st) lt e = let z : _≡_ {A = ℕ} 0 1 = let q = st .along in cc in absurd (omega arith)
     index-low lent (x ∷ xs, v ∷ vs, located, st) lt e =
-        let a = low s k c acc outs ts places index order₀ locations₀ x xs v vs located order locations allocated here d m st lent in
-        let b = index-is s k c acc outs ts places index order₀ locations₀ x xs v vs located order locations allocated here d m st lent in
+        let a = low ver s k c acc outs ts places index order₀ locations₀ x xs v vs located order locations allocated here d m st lent in
+        let b = index-is ver s k c acc outs ts places index order₀ locations₀ x xs v vs located order locations allocated here d m st lent in
         omega arith
 
     -- the node at hand, which stands at p
-    pub node-fits : Lent s k c outs ts places → State s k c acc outs ts places index order₀ locations₀ order locations allocated here d m → m < nodeCount s (placeOf s k) → {i p : ℕ} → i ≡ getD index m 0 → p ≡ getD places i 0
-        → ReadsNode s p × (p < addressLimit) × (here + length (reads (nodeAt s p)) ≤ referenceLimit) × (d + addsWords s k (nodeAt s p) ≤ wordLimit)
+    pub node-fits : Lent ver s k c outs ts places → State ver s k c acc outs ts places index order₀ locations₀ order locations allocated here d m → m < nodeCount s (placeOf s k) → {i p : ℕ} → i ≡ getD index m 0 → p ≡ getD places i 0
+        → ReadsNode s p × (p < addressLimit) × (here + length (reads (nodeAt s p)) ≤ referenceLimit) × (d + addsUnits ver s k (nodeAt s p) ≤ unitLimit ver)
     node-fits lent ([], left, located, st) lt e ep = let a = st .count in absurd (omega arith)
     node-fits lent (x ∷ xs, [], located, st) lt e ep = let z : _≡_ {A = ℕ} 0 1 = let q = st .along in cc in absurd (omega arith)
     node-fits lent (x ∷ xs, v ∷ vs, located, st) lt {i} {p} e ep =
-        let b : i ≡ v = e ∙ index-is s k c acc outs ts places index order₀ locations₀ x xs v vs located order locations allocated here d m st lent in
-        let h = here-is s k c acc outs ts places index order₀ locations₀ x xs v vs located order locations allocated here d m st lent p (ep ∙ ap (λ (q : ℕ). getD places q 0) b) in
+        let b : i ≡ v = e ∙ index-is ver s k c acc outs ts places index order₀ locations₀ x xs v vs located order locations allocated here d m st lent in
+        let h = here-is ver s k c acc outs ts places index order₀ locations₀ x xs v vs located order locations allocated here d m st lent p (ep ∙ ap (λ (q : ℕ). getD places q 0) b) in
         (h .was-read, h .near, h .free, h .short)
 
-    pub advance : Lent s k c outs ts places → State s k c acc outs ts places index order₀ locations₀ order locations allocated here d m → m < nodeCount s (placeOf s k) → {i p : ℕ} → i ≡ getD index m 0 → p ≡ getD places i 0
+    pub advance : Lent ver s k c outs ts places → State ver s k c acc outs ts places index order₀ locations₀ order locations allocated here d m → m < nodeCount s (placeOf s k) → {i p : ℕ} → i ≡ getD index m 0 → p ≡ getD places i 0
         → {r : Reads} → ReadsOf s p r → {locations' allocated' : List ℕ} {d' : ℕ} → locations' ≡ sets locations here (readCodes s ts allocated (16 * i) (r .count) (r .first))
-        → allocated' ≡ sets allocated (8 * i) (nodeCodes s outs locations' k p here d) → d' ≡ d + addsWords s k (nodeAt s p)
-        → State s k c acc outs ts places index order₀ locations₀ (set order (nodeLimit * k + m) p) locations' allocated' (here + r .count) d' (m + 1)
+        → allocated' ≡ sets allocated (8 * i) (nodeCodes s outs locations' k p here d) → d' ≡ d + addsUnits ver s k (nodeAt s p)
+        → State ver s k c acc outs ts places index order₀ locations₀ (set order (nodeLimit * k + m) p) locations' allocated' (here + r .count) d' (m + 1)
     advance lent ([], left, located, st) lt e ep er es el ed = let a = st .count in absurd (omega arith)
     advance lent (x ∷ xs, [], located, st) lt e ep er es el ed = let z : _≡_ {A = ℕ} 0 1 = let q = st .along in cc in absurd (omega arith)
     advance lent (x ∷ xs, v ∷ vs, located, st) lt {i} {p} e ep {r} er {locations'} {allocated'} {d'} es el ed =
-        let b : i ≡ v = e ∙ index-is s k c acc outs ts places index order₀ locations₀ x xs v vs located order locations allocated here d m st lent in (
+        let b : i ≡ v = e ∙ index-is ver s k c acc outs ts places index order₀ locations₀ x xs v vs located order locations allocated here d m st lent in (
           xs,
           vs,
           _,
-          stepped s k c acc outs ts places index order₀ locations₀ x xs v vs located order locations allocated here d m st lent p (ep ∙ ap (λ (q : ℕ). getD places q 0) b) r er locations'
+          stepped ver s k c acc outs ts places index order₀ locations₀ x xs v vs located order locations allocated here d m st lent p (ep ∙ ap (λ (q : ℕ). getD places q 0) b) r er locations'
               (es ∙ ap (λ (q : ℕ). sets locations here (readCodes s ts allocated (16 * q) (r .count) (r .first))) b) (set order (nodeLimit * k + m) p) allocated' d' (here + r .count) refl
               (el ∙ ap (λ (q : ℕ). sets allocated (8 * q) (nodeCodes s outs locations' k p here d)) b) ed refl,
         )
 
-    pub finished : State s k c acc outs ts places index order₀ locations₀ order locations allocated here d m → nodeCount s (placeOf s k) ≤ m → NodesAllocated s k c order₀ order locations₀ locations allocated here
+    pub finished : State ver s k c acc outs ts places index order₀ locations₀ order locations allocated here d m → nodeCount s (placeOf s k) ≤ m → NodesAllocated ver s k c order₀ order locations₀ locations allocated here
     finished (x ∷ xs, left, located, st) ge = let a = st .count in absurd (omega arith)
     finished ([], left, located, st) ge =
         record {

@@ -10,7 +10,7 @@ use native.Mathlib.Omega.{arith}
 use lib.Dec.{eqb}
 use lib.ListN.{length, getD, getElem?}
 use borrow.Author.Tests.{eqb-true, eq-eqb}
-use Rattle.ports.specs.Kinds.{kindOf}
+use Rattle.ports.specs.Kinds.{Kind, kindOf}
 use Rattle.ports.specs.Ports.{width, widths, gives}
 use Rattle.base.specs.Lists.{Each, member, Is}
 use Rattle.graph.specs.Graph.{Ref, Payload, consts, refs, calls, Node, Function}
@@ -23,6 +23,10 @@ use Rattle.graph.proofs.Order.{in-is, Ordered, scheduled, schedule-within, read
 use Rattle.bytecode.specs.Run.{places}
 use Rattle.compiler.specs.Static.{Location, nowhere, input, offset, rebase, Located, locationsOf, locationOf, Callee, nodeSummary, Allocation, allocate, functionSummary, summary}
 use Rattle.compiler.proofs.Locations.{locating}
+use Rattle.bytecode.specs.declared.Version.{Version}
+use Rattle.bytecode.specs.declared.Version.the-variants.{V1, V2}
+use Rattle.lowering.specs.Naming.{nameStep, sizing}
+use Rattle.lowering.proofs.Naming.{Short, gives-short}
 
 -- ---- where a value of a type may stand
 
@@ -30,7 +34,7 @@ use Rattle.compiler.proofs.Locations.{locating}
 abbrev pub WellTyped : List ℕ → ℕ → ℕ → Location → Type 0
 WellTyped ins words t nowhere = ⊥
 WellTyped ins words t (input i) = getElem? ins i ≡ some t
-WellTyped ins words t (offset d) = d + width t ≤ words
+WellTyped ins words t (offset d) = d ≤ words
 
 -- values of these types, in turn
 abbrev pub AllLie : List ℕ → ℕ → List ℕ → List Location → Type 0
@@ -85,9 +89,22 @@ port-lies ins words (t ∷ ts) (s ∷ ss) zero w (x, h) e = let q : t ≡ w = cc
 port-lies ins words (t ∷ ts) (s ∷ ss) (suc p) w (x, h) e = port-lies ins words ts ss p w h e
 
 -- results one after another
-pub places-lie : (ins : List ℕ) (d words : ℕ) (ts : List ℕ) → d + widths ts ≤ words → AllLie ins words ts (map offset (places d ts))
-places-lie ins d words [] l = tt
-places-lie ins d words (t ∷ ts) l = (omega arith, places-lie ins (d + width t) words ts (omega arith))
+pub places-lie : (ins : List ℕ) (d words : ℕ) (ts : List ℕ) → Each (λ a. a ≤ words) (places d ts) → AllLie ins words ts (map offset (places d ts))
+places-lie ins d words [] h = tt
+places-lie ins d words (t ∷ ts) (l, h) = (l, places-lie ins (d + width t) words ts h)
+
+places-up : (d words : ℕ) (ts : List ℕ) → d + widths ts ≤ words → Each (λ a. a ≤ words) (places d ts)
+places-up d words [] l = tt
+places-up d words (t ∷ ts) l = (omega arith, places-up (d + width t) words ts (omega arith))
+
+places-short : (base d at : ℕ) (ts : List ℕ) → at ≡ base + d → Short d ts → Each (λ a. a ≤ base + nameStep) (places at ts)
+places-short base d at [] e h = tt
+places-short base d at (t ∷ ts) e (l, h) = (omega arith, places-short base (d + width t) (at + width t) ts (omega arith) h)
+
+-- the ports of an instruction are among what its results take
+ports-taken : (ver : Version) (k : Kind) (t d : ℕ) → Each (λ a. a ≤ d + sizing ver (gives k t)) (places d (gives k t))
+ports-taken V1 k t d = places-up d (d + widths (gives k t)) (gives k t) (omega arith)
+ports-taken V2 k t d = places-short d 0 d (gives k t) (omega arith) (gives-short k t)
 
 -- a callee's location rebase a call
 pub rebase-lies : (ins : List ℕ) (d : ℕ) (wants : List ℕ) (args : List Location) → AllLie ins d wants args → (words t : ℕ) (s : Location) → WellTyped wants words t s
@@ -114,7 +131,7 @@ OutputsTyped call early = (c : ℕ) (g : Function) → findFunction c early ≡ 
 abbrev pub locatedIds : List Located → List ℕ
 locatedIds = map (λ w. w .id)
 
-module _ (early : List Function) (f : Function) where
+module _ (ver : Version) (early : List Function) (f : Function) where
   -- every node that has its locations has them among so many words and the inputs
   abbrev pub Known : ℕ → List Located → Type 0
   Known words [] = Unit {0}
@@ -162,9 +179,13 @@ module _ (early : List Function) (f : Function) where
   module _ (sound : Sound early f) (call : Callee) (seated : OutputsTyped call early) where
     payload-lies : (ws : List Located) (d : ℕ) → Known d ws → (n : Node) (p : Payload) → Shaped early n p → Wired (refType early f) (wantsOf early n p) (readsOf p)
         → ready (locatedIds ws) (readsOf p) ≡ true
-        → AllLie (f .inputs) (d + nodeSummary call ws d n p .words) (givesOf early n p) (nodeSummary call ws d n p .outputs)
-    payload-lies ws d known n (consts cs) shape wired e = let out = gives (kindOf (n .kind)) (n .type) in places-lie (f .inputs) d (d + widths out) out (omega arith)
-    payload-lies ws d known n (refs rs) shape wired e = let out = gives (kindOf (n .kind)) (n .type) in places-lie (f .inputs) d (d + widths out) out (omega arith)
+        → AllLie (f .inputs) (d + nodeSummary ver call ws d n p .words) (givesOf early n p) (nodeSummary ver call ws d n p .outputs)
+    payload-lies ws d known n (consts cs) shape wired e =
+        let out = gives (kindOf (n .kind)) (n .type) in
+        places-lie (f .inputs) d (d + sizing ver out) out (ports-taken ver (kindOf (n .kind)) (n .type) d)
+    payload-lies ws d known n (refs rs) shape wired e =
+        let out = gives (kindOf (n .kind)) (n .type) in
+        places-lie (f .inputs) d (d + sizing ver out) out (ports-taken ver (kindOf (n .kind)) (n .type) d)
     payload-lies ws d known n (calls c rs) (g, found) wired e =
         let wired′ : Wired (refType early f) (g .inputs) rs = rw found at wired in
         rw found
@@ -173,14 +194,14 @@ module _ (early : List Function) (f : Function) where
 
     -- a node at its turn: its ports' locations
     pub node-lies : (ws : List Located) (d : ℕ) → Known d ws → (n : Node) → Is n (f .nodes) → ready (locatedIds ws) (reads n) ≡ true
-        → AllLie (f .inputs) (d + nodeSummary call ws d n (n .payload) .words) (givesOf early n (n .payload)) (nodeSummary call ws d n (n .payload) .outputs)
+        → AllLie (f .inputs) (d + nodeSummary ver call ws d n (n .payload) .words) (givesOf early n (n .payload)) (nodeSummary ver call ws d n (n .payload) .outputs)
     node-lies ws d known n i e = payload-lies ws d known n (n .payload) (sound .resolved .shaped n i) (sound .resolved .wired n i) e
 
     -- a node more
     pub known-step : (ws : List Located) (d : ℕ) → Known d ws → (n : Node) → Is n (f .nodes) → ready (locatedIds ws) (reads n) ≡ true
-        → Known (d + nodeSummary call ws d n (n .payload) .words) (locating n (nodeSummary call ws d n (n .payload)) ws)
+        → Known (d + nodeSummary ver call ws d n (n .payload) .words) (locating n (nodeSummary ver call ws d n (n .payload)) ws)
     known-step ws d known n i e =
-        let c = nodeSummary call ws d n (n .payload) in
+        let c = nodeSummary ver call ws d n (n .payload) in
         (rw (sound .resolved .own n i) (node-lies ws d known n i e), known-more d (d + c .words) ws (omega arith) known)
 
     -- what holds behind nodes in their order
@@ -192,13 +213,13 @@ module _ (early : List Function) (f : Function) where
 
     -- all nodes in their order
     pub nodes-end : (ns : List Node) (ws : List Located) (d : ℕ) → ((n : Node) → Is n ns → Is n (f .nodes)) → Ordered (locatedIds ws) ns → Known d ws
-        → Ended ns ws d (allocate call ns ws d)
+        → Ended ns ws d (allocate ver call ns ws d)
     nodes-end [] ws d within ordered known = record { up = omega arith; old = λ i h. h; has = λ n h. absurd h; known = known }
     nodes-end (n ∷ ns) ws d within (fit, ordered) known =
-        let c = nodeSummary call ws d n (n .payload) in
+        let c = nodeSummary ver call ws d n (n .payload) in
         let h = nodes-end ns (locating n c ws) (d + c .words) (λ x i. within x (inr i)) ordered (known-step ws d known n (within n (inl refl)) fit) in
         record {
-          up = let u : d + c .words ≤ allocate call ns (locating n c ws) (d + c .words) .words = h .up in omega arith;
+          up = let u : d + c .words ≤ allocate ver call ns (locating n c ws) (d + c .words) .words = h .up in omega arith;
           old = λ i e. h .old i (cond-or (eqb (n .id) i) _ e);
           has = λ x i. ⊎-elim (λ e. h .old (x .id) (here x e)) (λ j. h .has x j) i;
           known = h .known;
@@ -209,7 +230,7 @@ module _ (early : List Function) (f : Function) where
 
     -- the schedule's nodes, all allocate
     abbrev pub whole : Allocation
-    whole = allocate call (schedule (f .nodes)) [] 0
+    whole = allocate ver call (schedule (f .nodes)) [] 0
 
     -- behind all nodes of the schedule
     pub whole-end : Ended (schedule (f .nodes)) [] 0 whole
@@ -230,47 +251,47 @@ module _ (early : List Function) (f : Function) where
 
     -- the locations of references that have the types wanted
     pub wired-lie : (ts : List ℕ) (rs : List Ref) → Wired (refType early f) ts rs
-        → AllLie (f .inputs) (functionSummary call f .words) ts (map (locationOf (whole .located)) rs)
+        → AllLie (f .inputs) (functionSummary ver call f .words) ts (map (locationOf (whole .located)) rs)
     wired-lie ts rs w = refs-lie (whole .words) (whole .located) (whole-end .known) ts rs (all-ready ts rs w) w
 
 -- ---- the functions
 
 -- every function's outputs have locations among its words and its inputs
-pub seated : (early : List Function) → AllSound early → OutputsTyped (summary early) early
+pub seated : (ver : Version) → (early : List Function) → AllSound early → OutputsTyped (summary ver early) early
 unfolding summary
-seated [] sound c g e = let z : _≡_ {A = ℕ} 0 1 = cc in absurd (omega arith)
-seated (f ∷ early) (s, sound) c g e = pickOne (eqb (f .id) c) e (seated early sound)
+seated ver [] sound c g e = let z : _≡_ {A = ℕ} 0 1 = cc in absurd (omega arith)
+seated ver (f ∷ early) (s, sound) c g e = pickOne (eqb (f .id) c) e (seated ver early sound)
   where
-    pickOne : (b : Bool) → cond b (some f) (findFunction c early) ≡ some g → OutputsTyped (summary early) early
-        → AllLie (g .inputs) (cond b (functionSummary (summary early) f) (summary early c) .words) (outputTypes (g .outputs))
-        (cond b (functionSummary (summary early) f) (summary early c) .outputs)
+    pickOne : (b : Bool) → cond b (some f) (findFunction c early) ≡ some g → OutputsTyped (summary ver early) early
+        → AllLie (g .inputs) (cond b (functionSummary ver (summary ver early) f) (summary ver early c) .words) (outputTypes (g .outputs))
+        (cond b (functionSummary ver (summary ver early) f) (summary ver early c) .outputs)
     pickOne true e ih =
         let q : f ≡ g = cc in
-        subst (λ (x : Function). AllLie (x .inputs) (functionSummary (summary early) f .words) (outputTypes (x .outputs)) (functionSummary (summary early) f .outputs)) q
-        (wired-lie early f s (summary early) ih (outputTypes (f .outputs)) (outputRefs (f .outputs)) (s .resolved .answers))
+        subst (λ (x : Function). AllLie (x .inputs) (functionSummary ver (summary ver early) f .words) (outputTypes (x .outputs)) (functionSummary ver (summary ver early) f .outputs)) q
+        (wired-lie ver early f s (summary ver early) ih (outputTypes (f .outputs)) (outputRefs (f .outputs)) (s .resolved .answers))
     pickOne false e ih = ih c g e
 
 -- the locations of a function's outputs
-pub outputs-lie : (early : List Function) (f : Function) → AllSound (f ∷ early)
-    → AllLie (f .inputs) (functionSummary (summary early) f .words) (outputTypes (f .outputs)) (functionSummary (summary early) f .outputs)
-outputs-lie early f (s, sound) =
-    wired-lie early f s (summary early) (seated early sound) (outputTypes (f .outputs)) (outputRefs (f .outputs)) (s .resolved .answers)
+pub outputs-lie : (ver : Version) → (early : List Function) (f : Function) → AllSound (f ∷ early)
+    → AllLie (f .inputs) (functionSummary ver (summary ver early) f .words) (outputTypes (f .outputs)) (functionSummary ver (summary ver early) f .outputs)
+outputs-lie ver early f (s, sound) =
+    wired-lie ver early f s (summary ver early) (seated ver early sound) (outputTypes (f .outputs)) (outputRefs (f .outputs)) (s .resolved .answers)
 
 -- the locations of what a node reads, in the last list
-pub reads-lie : (early : List Function) (f : Function) → AllSound (f ∷ early) → (n : Node) → Is n (f .nodes)
-    → AllLie (f .inputs) (functionSummary (summary early) f .words) (wantsOf early n (n .payload))
-    (map (locationOf (allocate (summary early) (schedule (f .nodes)) [] 0 .located)) (reads n))
-reads-lie early f (s, sound) n i =
-    wired-lie early f s (summary early) (seated early sound) (wantsOf early n (n .payload)) (reads n) (s .resolved .wired n i)
+pub reads-lie : (ver : Version) → (early : List Function) (f : Function) → AllSound (f ∷ early) → (n : Node) → Is n (f .nodes)
+    → AllLie (f .inputs) (functionSummary ver (summary ver early) f .words) (wantsOf early n (n .payload))
+    (map (locationOf (allocate ver (summary ver early) (schedule (f .nodes)) [] 0 .located)) (reads n))
+reads-lie ver early f (s, sound) n i =
+    wired-lie ver early f s (summary ver early) (seated ver early sound) (wantsOf early n (n .payload)) (reads n) (s .resolved .wired n i)
 
 -- ---- the same with no types
 
 -- the locations of a function's outputs are none nowhere, inputs that it has, and offsets of at most its words
-pub outputs-within : (early : List Function) (f : Function) → AllSound (f ∷ early)
-    → Each (Within (length (f .inputs)) (functionSummary (summary early) f .words)) (functionSummary (summary early) f .outputs)
-outputs-within early f sound = all-within (f .inputs) _ (outputTypes (f .outputs)) _ (outputs-lie early f sound)
+pub outputs-within : (ver : Version) → (early : List Function) (f : Function) → AllSound (f ∷ early)
+    → Each (Within (length (f .inputs)) (functionSummary ver (summary ver early) f .words)) (functionSummary ver (summary ver early) f .outputs)
+outputs-within ver early f sound = all-within (f .inputs) _ (outputTypes (f .outputs)) _ (outputs-lie ver early f sound)
 
 -- the same of what a node reads
-pub reads-within : (early : List Function) (f : Function) → AllSound (f ∷ early) → (n : Node) → Is n (f .nodes)
-    → Each (Within (length (f .inputs)) (functionSummary (summary early) f .words)) (map (locationOf (allocate (summary early) (schedule (f .nodes)) [] 0 .located)) (reads n))
-reads-within early f sound n i = all-within (f .inputs) _ (wantsOf early n (n .payload)) _ (reads-lie early f sound n i)
+pub reads-within : (ver : Version) → (early : List Function) (f : Function) → AllSound (f ∷ early) → (n : Node) → Is n (f .nodes)
+    → Each (Within (length (f .inputs)) (functionSummary ver (summary ver early) f .words)) (map (locationOf (allocate ver (summary ver early) (schedule (f .nodes)) [] 0 .located)) (reads n))
+reads-within ver early f sound n i = all-within (f .inputs) _ (wantsOf early n (n .payload)) _ (reads-lie ver early f sound n i)

@@ -11,7 +11,7 @@ use lib.Dec.{eqb, ltb, leb}
 use lib.ListN.{length, getD, replicate, getElem?, length-map, List·getD-eq-default}
 use lib.Seq.{sets}
 use borrow.Author.Tests.{eqb-true, eqb-false, leb-true, leb-false, lt-ltb, le-ltb}
-use Rattle.base.specs.Limits.{nodeLimit, wordLimit, noNode, functionLimit, operandLimit, portLimit}
+use Rattle.base.specs.Limits.{nodeLimit, noNode, functionLimit, operandLimit, portLimit}
 use Rattle.base.proofs.Numbers.{lt-or-le}
 use Rattle.base.proofs.Lists.{some-is}
 use Rattle.base.specs.Lists.{Is, Each}
@@ -39,6 +39,8 @@ use Rattle.compiler.proofs.Bounds.{Within}
 use Rattle.sums.proofs.Rows.{narrow}
 use Rattle.sums.proofs.Nodes.{call-payload, call-form}
 use Rattle.sums.proofs.Positions.{at-position, no-position}
+use Rattle.bytecode.specs.declared.Version.{Version}
+use Rattle.compiler.specs.Units.{unitBound}
 
 -- ---- lists of numbers
 
@@ -139,8 +141,8 @@ results-coded d t (suc m) =
     (refl, subst (λ (b : ℕ). AllCodes (resultCodes b (width t) m) (map offset (places (d + width t) (replicate m t)))) e (results-coded (d + width t) t m))
 
 module _ (locations : List ℕ) (cell n d inputs : ℕ) (args : List Location) (given : (j : ℕ) → j < n → Codes (getD locations (cell + j) 0) (getD args j nowhere))
-    (size : length args ≡ n) (few : n ≤ 8) (near : d ≤ wordLimit) where
-  rebase-coded : (e : ℕ) (o : Location) → Codes e o → Within inputs wordLimit o → Codes (rebasedCode locations cell n d e) (rebase d args o)
+    (size : length args ≡ n) (few : n ≤ 8) (near : d ≤ unitBound) where
+  rebase-coded : (e : ℕ) (o : Location) → Codes e o → Within inputs unitBound o → Codes (rebasedCode locations cell n d e) (rebase d args o)
   rebase-coded e nowhere c w = tt
   rebase-coded e (input i) c w = ⊎-elim below above (lt-or-le i n)
     where
@@ -153,7 +155,7 @@ module _ (locations : List ℕ) (cell n d inputs : ℕ) (args : List Location) (
       let z : (8 + x + d) % 65536 ≡ 8 + (d + x) = omega arith in
       rw c (rw (le-ltb (8 + x) 8 (omega arith), z) refl)
 
-  rebased-coded : (outs : List ℕ) (b : ℕ) (os : List Location) → ((q : ℕ) → q < length os → Codes (getD outs (b + q) 0) (getD os q nowhere)) → Each (Within inputs wordLimit) os
+  rebased-coded : (outs : List ℕ) (b : ℕ) (os : List Location) → ((q : ℕ) → q < length os → Codes (getD outs (b + q) 0) (getD os q nowhere)) → Each (Within inputs unitBound) os
       → AllCodes (rebasedCodes outs locations cell n d b (length os)) (map (rebase d args) os)
   unfolding rebasedCodes
   rebased-coded outs b [] h w = tt
@@ -165,26 +167,26 @@ module _ (locations : List ℕ) (cell n d inputs : ℕ) (args : List Location) (
 
 -- ---- the callee, by its position
 
-module _ (s : List ℕ) where
-  summary-nil : (c : ℕ) → summary [] c ≡ record { words = 0; outputs = [] }
+module _ (ver : Version) (s : List ℕ) where
+  summary-nil : (c : ℕ) → summary ver [] c ≡ record { words = 0; outputs = [] }
   unfolding summary
   summary-nil c = refl
 
-  summary-one : (m c : ℕ) → summary (before s (suc m)) c ≡ cond (eqb (u16 s (placeOf s m)) c) (summaryAt s m) (summary (before s m) c)
+  summary-one : (m c : ℕ) → summary ver (before s (suc m)) c ≡ cond (eqb (u16 s (placeOf s m)) c) (summaryAt ver s m) (summary ver (before s m) c)
   unfolding summary earlier functionAt
   summary-one m c = refl
 
-  summary-at : (k c : ℕ) → k ≤ functionLimit → positionOf s k c < k → summary (before s k) c ≡ summaryAt s (positionOf s k c)
-  summary-at k c b h = at-position s summary (summaryAt s) (record { words = 0; outputs = [] }) summary-nil summary-one k c b h
+  summary-at : (k c : ℕ) → k ≤ functionLimit → positionOf s k c < k → summary ver (before s k) c ≡ summaryAt ver s (positionOf s k c)
+  summary-at k c b h = at-position s (summary ver) (summaryAt ver s) (record { words = 0; outputs = [] }) summary-nil summary-one k c b h
 
-  summary-none : (k c : ℕ) → k ≤ positionOf s k c → summary (before s k) c ≡ record { words = 0; outputs = [] }
-  summary-none k c h = no-position s summary (summaryAt s) (record { words = 0; outputs = [] }) summary-nil summary-one k c h
+  summary-none : (k c : ℕ) → k ≤ positionOf s k c → summary ver (before s k) c ≡ record { words = 0; outputs = [] }
+  summary-none k c h = no-position s (summary ver) (summaryAt ver s) (record { words = 0; outputs = [] }) summary-nil summary-one k c h
 
   outputs-length : (n at : ℕ) → length (outputsAt n s at) ≡ n
   outputs-length zero at = refl
   outputs-length (suc n) at = ap suc (outputs-length n (at + 4))
 
-  pub summary-size : (g : ℕ) → length (summaryAt s g .outputs) ≡ outputCount s (placeOf s g)
+  pub summary-size : (g : ℕ) → length (summaryAt ver s g .outputs) ≡ outputCount s (placeOf s g)
   unfolding functionAt
   summary-size g =
       length-map (outputRefs (functionIn s g .outputs)) _
@@ -193,13 +195,13 @@ module _ (s : List ℕ) where
 
 -- ---- the node at p
 
-module _ (s outs locations : List ℕ) (k p cell d : ℕ) (located : List Located) where
+module _ (ver : Version) (s outs locations : List ℕ) (k p cell d : ℕ) (located : List Located) where
   abbrev call : Callee
-  call = summary (before s k)
+  call = summary ver (before s k)
 
   plain-by : (f : Form) → formOf (kindAt s p) ≡ f → calling f ≡ false
       → AllCodes (resultCodes (8 + d) (width (own (byte s (p + 3)) (portsOf (kindAt s p) .result))) (portsOf (kindAt s p) .results))
-      (nodeSummary call located d (nodeAt s p) (payloadAt f (kindAt s p) s (p + 4)) .outputs)
+      (nodeSummary ver call located d (nodeAt s p) (payloadAt f (kindAt s p) s (p + 4)) .outputs)
   unfolding nodeAt
   plain-by Absent e q = results-coded d (own (byte s (p + 3)) (portsOf (kindAt s p) .result)) (portsOf (kindAt s p) .results)
   plain-by Constant e q = results-coded d (own (byte s (p + 3)) (portsOf (kindAt s p) .result)) (portsOf (kindAt s p) .results)
@@ -208,13 +210,13 @@ module _ (s outs locations : List ℕ) (k p cell d : ℕ) (located : List Locate
 
   plain-node : calling (formOf (kindAt s p)) ≡ false
       → AllCodes (resultCodes (8 + d) (width (own (byte s (p + 3)) (portsOf (kindAt s p) .result))) (portsOf (kindAt s p) .results))
-      (nodeSummary call located d (nodeAt s p) (nodeAt s p .payload) .outputs)
+      (nodeSummary ver call located d (nodeAt s p) (nodeAt s p .payload) .outputs)
   unfolding nodeAt
   plain-node f = plain-by (formOf (kindAt s p)) refl f
 
-  module _ (fit : ReadsNode s p) (b16 : k ≤ functionLimit) (near : d ≤ wordLimit)
+  module _ (fit : ReadsNode s p) (b16 : k ≤ functionLimit) (near : d ≤ unitBound)
       (inner : calling (formOf (kindAt s p)) ≡ true → positionOf s k (u16 s (p + 4)) < k
-      → (inputs : ℕ) × Each (Within inputs wordLimit) (summaryAt s (positionOf s k (u16 s (p + 4))) .outputs) × PortsCoded (summaryAt s (positionOf s k (u16 s (p + 4))) .outputs) outs (8 * positionOf s k (u16 s (p + 4))))
+      → (inputs : ℕ) × Each (Within inputs unitBound) (summaryAt ver s (positionOf s k (u16 s (p + 4))) .outputs) × PortsCoded (summaryAt ver s (positionOf s k (u16 s (p + 4))) .outputs) outs (8 * positionOf s k (u16 s (p + 4))))
       (given : (j : ℕ) → j < length (reads (nodeAt s p)) → Codes (getD locations (cell + j) 0) (getD (map (locationOf located) (reads (nodeAt s p))) j nowhere)) where
     abbrev callee : ℕ
     callee = u16 s (p + 4)
@@ -248,17 +250,17 @@ module _ (s outs locations : List ℕ) (k p cell d : ℕ) (located : List Locate
             let g = positionOf s k callee in
             let (inputs, w, c) = inner f l in
             let few-outs = c .few in
-            let m : length (summaryAt s g .outputs) ≡ outputCount s (placeOf s g) = summary-size s g in
+            let m : length (summaryAt ver s g .outputs) ≡ outputCount s (placeOf s g) = summary-size ver s g in
             rw (lt-ltb g k l)
-            (subst (λ (x : Summary). AllCodes (rebasedCodes outs locations cell (byte s (p + 4 + 2)) d (8 * g) (outputCount s (placeOf s g))) (map (rebase d args) (x .outputs))) (sym (summary-at s k callee b16 l))
-            (subst (λ (y : ℕ). AllCodes (rebasedCodes outs locations cell (byte s (p + 4 + 2)) d (8 * g) y) (map (rebase d args) (summaryAt s g .outputs))) m
-            (rebased-coded locations cell (byte s (p + 4 + 2)) d inputs args here size few near outs (8 * g) (summaryAt s g .outputs) (λ q ql. c .coded q (omega arith)) w)))
+            (subst (λ (x : Summary). AllCodes (rebasedCodes outs locations cell (byte s (p + 4 + 2)) d (8 * g) (outputCount s (placeOf s g))) (map (rebase d args) (x .outputs))) (sym (summary-at ver s k callee b16 l))
+            (subst (λ (y : ℕ). AllCodes (rebasedCodes outs locations cell (byte s (p + 4 + 2)) d (8 * g) y) (map (rebase d args) (summaryAt ver s g .outputs))) m
+            (rebased-coded locations cell (byte s (p + 4 + 2)) d inputs args here size few near outs (8 * g) (summaryAt ver s g .outputs) (λ q ql. c .coded q (omega arith)) w)))
 
         outside : k ≤ positionOf s k callee → AllCodes (calleeCodes s outs locations k (positionOf s k callee) cell (byte s (p + 4 + 2)) d) (map (rebase d args) (call callee .outputs))
         outside l =
-            rw (le-ltb (positionOf s k callee) k l) (subst (λ (x : Summary). AllCodes [] (map (rebase d args) (x .outputs))) (sym (summary-none s k callee l)) tt)
+            rw (le-ltb (positionOf s k callee) k l) (subst (λ (x : Summary). AllCodes [] (map (rebase d args) (x .outputs))) (sym (summary-none ver s k callee l)) tt)
 
-    pub node-coded : AllCodes (nodeCodes s outs locations k p cell d) (nodeSummary call located d (nodeAt s p) (nodeAt s p .payload) .outputs)
+    pub node-coded : AllCodes (nodeCodes s outs locations k p cell d) (nodeSummary ver call located d (nodeAt s p) (nodeAt s p .payload) .outputs)
     unfolding nodeCodes
     node-coded = pickOne (calling (formOf (kindAt s p))) refl
       where
@@ -266,9 +268,9 @@ module _ (s outs locations : List ℕ) (k p cell d : ℕ) (located : List Locate
             → AllCodes
             (cond b (calleeCodes s outs locations k (positionOf s k callee) cell (byte s (p + 4 + 2)) d)
             (resultCodes (8 + d) (width (own (byte s (p + 3)) (portsOf (kindAt s p) .result))) (portsOf (kindAt s p) .results)))
-            (nodeSummary call located d (nodeAt s p) (nodeAt s p .payload) .outputs)
+            (nodeSummary ver call located d (nodeAt s p) (nodeAt s p .payload) .outputs)
         pickOne true f =
-            subst (λ (y : Payload). AllCodes (calleeCodes s outs locations k (positionOf s k callee) cell (byte s (p + 4 + 2)) d) (nodeSummary call located d (nodeAt s p) y .outputs))
+            subst (λ (y : Payload). AllCodes (calleeCodes s outs locations k (positionOf s k callee) cell (byte s (p + 4 + 2)) d) (nodeSummary ver call located d (nodeAt s p) y .outputs))
             (sym (call-payload s p (byte s (p + 2)) (portsOf (kindAt s p)) refl refl f)) (call-by f)
         pickOne false f = plain-node f
 
@@ -291,7 +293,7 @@ module _ (s outs locations : List ℕ) (k p cell d : ℕ) (located : List Locate
             ⊎-elim
             (λ l. let (inputs, w, c) = inner f l in
             let a = c .few in
-            let b = summary-size s (positionOf s k callee) in
+            let b = summary-size ver s (positionOf s k callee) in
             let e = rebase-size (byte s (p + 4 + 2)) (outputCount s (placeOf s (positionOf s k callee))) (8 * positionOf s k callee) in
             rw (lt-ltb (positionOf s k callee) k l) (omega arith))
             (λ l. rw (le-ltb (positionOf s k callee) k l) (omega arith))

@@ -17,12 +17,12 @@ use Rattle.compiler.proofs.Filling.{types-next, addresses-next}
 
 -- ---- the header
 
-pub header-stored : (code : List ℕ) {code' code'' : List ℕ} (a o n w : ℕ)
-    → code' ≡ sets (set (set (set (set (set (set (set (set code 0 0x49) 1 0x46) 2 0x52) 3 1) 4 0) 5 a) 6 o) 7 0) 8 (bytesOf 2 n) → code'' ≡ sets code' 10 (bytesOf 2 w)
-    → code'' ≡ sets code 0 (headerCode a o n w)
-header-stored code a o n w e f =
+pub header-stored : (code : List ℕ) {code' code'' : List ℕ} (x a o n w : ℕ)
+    → code' ≡ sets (set (set (set (set (set (set (set (set code 0 0x49) 1 0x46) 2 0x52) 3 x) 4 0) 5 a) 6 o) 7 0) 8 (bytesOf 2 n) → code'' ≡ sets code' 10 (bytesOf 2 w)
+    → code'' ≡ sets code 0 (headerCode x a o n w)
+header-stored code x a o n w e f =
     f ∙ ap (λ (l : List ℕ). sets l 10 (bytesOf 2 w)) e
-    ∙ sym (sets-append (bytesOf 2 n) (bytesOf 2 w) (set (set (set (set (set (set (set (set code 0 0x49) 1 0x46) 2 0x52) 3 1) 4 0) 5 a) 6 o) 7 0) 8)
+    ∙ sym (sets-append (bytesOf 2 n) (bytesOf 2 w) (set (set (set (set (set (set (set (set code 0 0x49) 1 0x46) 2 0x52) 3 x) 4 0) 5 a) 6 o) 7 0) 8)
 
 -- ---- the output words
 

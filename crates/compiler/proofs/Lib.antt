@@ -1,5 +1,5 @@
 pub mod Locations
-pub mod Words
+pub mod Units
 pub mod Bounds
 pub mod References
 pub mod Single

@@ -29,6 +29,8 @@ use Rattle.graph.proofs.Order.{Ordered, scheduled, schedule-distinct}
 use Rattle.bytecode.specs.Run.{Instruction, places}
 use Rattle.lowering.specs.Compile.{Written, portsAt, address, Inlined, Inline, single, inlineNode, also, inlineNodes, inlineFunction, inlined}
 use Rattle.compiler.specs.Static.{Location, nowhere, input, offset, addressAt, rebase, Located, locationsOf, locationOf, Summary, Callee, nodeSummary, allocate, functionSummary, summary, emitNodes, Agrees}
+use Rattle.bytecode.specs.declared.Version.{Version}
+use Rattle.lowering.specs.Naming.{sizing}
 
 -- ---- lists
 
@@ -111,10 +113,10 @@ pub record Follows (go : Inline) (call : Callee) : Type 0 where
   pub ports : (c : ℕ) (ins : List ℕ) (next : ℕ) → go c ins next .ports ≡ map (addressAt ins next) (call c .outputs)
   pub next : (c : ℕ) (ins : List ℕ) (next : ℕ) → go c ins next .next ≡ next + call c .words
 
-module _ (go : Inline) (call : Callee) (follows : Follows go call) (ins : List ℕ) (base : ℕ) where
+module _ (ver : Version) (go : Inline) (call : Callee) (follows : Follows go call) (ins : List ℕ) (base : ℕ) where
   -- a node's ports stand at its locations
   pub node-ports : (written : List Written) (located : List Located) → Matches ins base written located → (next d : ℕ) → next ≡ base + d → (n : Node) (p : Payload)
-      → inlineNode go (address ins written) next n p .ports ≡ map (addressAt ins base) (nodeSummary call located d n p .outputs)
+      → inlineNode (sizing ver) go (address ins written) next n p .ports ≡ map (addressAt ins base) (nodeSummary ver call located d n p .outputs)
   node-ports written located m next d e n (consts ws) =
       let out = gives (kindOf (n .kind)) (n .type) in
       ap (λ (q : ℕ). places q out) e ∙ places-offset ins base d out
@@ -129,77 +131,77 @@ module _ (go : Inline) (call : Callee) (follows : Follows go call) (ins : List �
 
   -- the first word behind a node
   pub node-next : (from : Ref → ℕ) (located : List Located) (next d : ℕ) → next ≡ base + d → (n : Node) (p : Payload)
-      → inlineNode go from next n p .next ≡ base + (d + nodeSummary call located d n p .words)
+      → inlineNode (sizing ver) go from next n p .next ≡ base + (d + nodeSummary ver call located d n p .words)
   node-next from located next d e n (consts ws) = omega arith
   node-next from located next d e n (refs rs) = omega arith
   node-next from located next d e n (calls c rs) = let h : go c (map from rs) next .next ≡ next + call c .words = follows .next c (map from rs) next in omega arith
 
   -- a step over a node keeps the match
   pub matches-step : (written : List Written) (located : List Located) → Matches ins base written located → (next d : ℕ) → next ≡ base + d → (n : Node)
-      → Matches ins base (also n (inlineNode go (address ins written) next n (n .payload)) written) (locating n (nodeSummary call located d n (n .payload)) located)
+      → Matches ins base (also n (inlineNode (sizing ver) go (address ins written) next n (n .payload)) written) (locating n (nodeSummary ver call located d n (n .payload)) located)
   matches-step written located m next d e n =
-      matches-also ins base written located n (inlineNode go (address ins written) next n (n .payload)) (nodeSummary call located d n (n .payload)) m
+      matches-also ins base written located n (inlineNode (sizing ver) go (address ins written) next n (n .payload)) (nodeSummary ver call located d n (n .payload)) m
       (node-ports written located m next d e n (n .payload))
 
   -- all nodes: they match behind them too
   pub matches-nodes : (ns : List Node) (written : List Written) (located : List Located) → Matches ins base written located → (next d : ℕ) → next ≡ base + d
-      → Matches ins base (inlineNodes go ins ns written next .written) (allocate call ns located d .located)
+      → Matches ins base (inlineNodes (sizing ver) go ins ns written next .written) (allocate ver call ns located d .located)
   matches-nodes [] written located m next d e = m
   matches-nodes (n ∷ ns) written located m next d e =
-      let o = inlineNode go (address ins written) next n (n .payload) in
-      let c = nodeSummary call located d n (n .payload) in
+      let o = inlineNode (sizing ver) go (address ins written) next n (n .payload) in
+      let c = nodeSummary ver call located d n (n .payload) in
       matches-nodes ns (also n o written) (locating n c located) (matches-step written located m next d e n) (o .next) (d + c .words)
       (node-next (address ins written) located next d e n (n .payload))
 
   -- the first word behind all nodes
   pub nodes-next : (ns : List Node) (written : List Written) (located : List Located) (next d : ℕ) → next ≡ base + d
-      → inlineNodes go ins ns written next .next ≡ base + allocate call ns located d .words
+      → inlineNodes (sizing ver) go ins ns written next .next ≡ base + allocate ver call ns located d .words
   nodes-next [] written located next d e = e
   nodes-next (n ∷ ns) written located next d e =
-      let o = inlineNode go (address ins written) next n (n .payload) in
-      let c = nodeSummary call located d n (n .payload) in
+      let o = inlineNode (sizing ver) go (address ins written) next n (n .payload) in
+      let c = nodeSummary ver call located d n (n .payload) in
       nodes-next ns (also n o written) (locating n c located) (o .next) (d + c .words)
       (node-next (address ins written) located next d e n (n .payload))
 
 -- ---- a function
 
 -- the ports of a function that is inlined stand at its outputs' locations
-pub function-ports : (go : Inline) (call : Callee) → Follows go call → (f : Function) (ins : List ℕ) (next : ℕ)
-    → inlineFunction go f ins next .ports ≡ map (addressAt ins next) (functionSummary call f .outputs)
-function-ports go call follows f ins next =
+pub function-ports : (ver : Version) → (go : Inline) (call : Callee) → Follows go call → (f : Function) (ins : List ℕ) (next : ℕ)
+    → inlineFunction (sizing ver) go f ins next .ports ≡ map (addressAt ins next) (functionSummary ver call f .outputs)
+function-ports ver go call follows f ins next =
     let e : next ≡ next + 0 = omega arith in
-    let m = matches-nodes go call follows ins next (schedule (f .nodes)) [] [] (matches-start ins next) next 0 e in
+    let m = matches-nodes ver go call follows ins next (schedule (f .nodes)) [] [] (matches-start ins next) next 0 e in
     addresses-locations ins next _ _ m (outputRefs (f .outputs))
 
 -- the first word behind a function that is inlined
-pub function-next : (go : Inline) (call : Callee) → Follows go call → (f : Function) (ins : List ℕ) (next : ℕ)
-    → inlineFunction go f ins next .next ≡ next + functionSummary call f .words
-function-next go call follows f ins next = nodes-next go call follows ins next (schedule (f .nodes)) [] [] next 0 (omega arith)
+pub function-next : (ver : Version) → (go : Inline) (call : Callee) → Follows go call → (f : Function) (ins : List ℕ) (next : ℕ)
+    → inlineFunction (sizing ver) go f ins next .next ≡ next + functionSummary ver call f .words
+function-next ver go call follows f ins next = nodes-next ver go call follows ins next (schedule (f .nodes)) [] [] next 0 (omega arith)
 
 -- the functions, inlined, stand as their callers see them
-pub inlined-follows : (early : List Function) → Follows (inlined early) (summary early)
+pub inlined-follows : (ver : Version) → (early : List Function) → Follows (inlined (sizing ver) early) (summary ver early)
 unfolding inlined summary
-inlined-follows [] = record { ports = λ c ins next. refl; next = λ c ins next. omega arith }
-inlined-follows (f ∷ early) = both (inlined-follows early)
+inlined-follows ver [] = record { ports = λ c ins next. refl; next = λ c ins next. omega arith }
+inlined-follows ver (f ∷ early) = both (inlined-follows ver early)
   where
-    both : Follows (inlined early) (summary early) → Follows (inlined (f ∷ early)) (summary (f ∷ early))
+    both : Follows (inlined (sizing ver) early) (summary ver early) → Follows (inlined (sizing ver) (f ∷ early)) (summary ver (f ∷ early))
     both h = record { ports = λ c ins next. ports c ins next (eqb (f .id) c); next = λ c ins next. behind c ins next (eqb (f .id) c) }
       where
         ports : (c : ℕ) (ins : List ℕ) (next : ℕ) (b : Bool)
-            → cond b (inlineFunction (inlined early) f ins next) (inlined early c ins next) .ports
-            ≡ map (addressAt ins next) (cond b (functionSummary (summary early) f) (summary early c) .outputs)
-        ports c ins next true = function-ports (inlined early) (summary early) h f ins next
+            → cond b (inlineFunction (sizing ver) (inlined (sizing ver) early) f ins next) (inlined (sizing ver) early c ins next) .ports
+            ≡ map (addressAt ins next) (cond b (functionSummary ver (summary ver early) f) (summary ver early c) .outputs)
+        ports c ins next true = function-ports ver (inlined (sizing ver) early) (summary ver early) h f ins next
         ports c ins next false = h .ports c ins next
 
         behind : (c : ℕ) (ins : List ℕ) (next : ℕ) (b : Bool)
-            → cond b (inlineFunction (inlined early) f ins next) (inlined early c ins next) .next
-            ≡ next + cond b (functionSummary (summary early) f) (summary early c) .words
-        behind c ins next true = function-next (inlined early) (summary early) h f ins next
+            → cond b (inlineFunction (sizing ver) (inlined (sizing ver) early) f ins next) (inlined (sizing ver) early c ins next) .next
+            ≡ next + cond b (functionSummary ver (summary ver early) f) (summary ver early c) .words
+        behind c ins next true = function-next ver (inlined (sizing ver) early) (summary ver early) h f ins next
         behind c ins next false = h .next c ins next
 
 -- the first word behind the function of an id
-pub inlined-next : (early : List Function) (c : ℕ) (ins : List ℕ) (next : ℕ) → inlined early c ins next .next ≡ next + summary early c .words
-inlined-next early c ins next = inlined-follows early .next c ins next
+pub inlined-next : (ver : Version) → (early : List Function) (c : ℕ) (ins : List ℕ) (next : ℕ) → inlined (sizing ver) early c ins next .next ≡ next + summary ver early c .words
+inlined-next ver early c ins next = inlined-follows ver early .next c ins next
 
 -- ---- ids that are single
 
@@ -226,24 +228,24 @@ accepted-single s small fs e =
 -- ---- later is the same
 
 -- nodes with other ids leave the locations of an id
-pub locations-later : (call : Callee) (i : ℕ) (ns : List Node) (located : List Located) (d : ℕ) → member i (ids ns) ≡ false
-    → locationsOf i (allocate call ns located d .located) ≡ locationsOf i located
-locations-later call i [] located d e = refl
-locations-later call i (n ∷ ns) located d e =
-    let c = nodeSummary call located d n (n .payload) in
+pub locations-later : (ver : Version) → (call : Callee) (i : ℕ) (ns : List Node) (located : List Located) (d : ℕ) → member i (ids ns) ≡ false
+    → locationsOf i (allocate ver call ns located d .located) ≡ locationsOf i located
+locations-later ver call i [] located d e = refl
+locations-later ver call i (n ∷ ns) located d e =
+    let c = nodeSummary ver call located d n (n .payload) in
     let (a, b) = apart (eqb (n .id) i) e in
-    locations-later call i ns (locating n c located) (d + c .words) b ∙ rw a refl
+    locations-later ver call i ns (locating n c located) (d + c .words) b ∙ rw a refl
   where
     apart : (b : Bool) → cond b true (member i (ids ns)) ≡ false → (b ≡ false) × (member i (ids ns) ≡ false)
     apart true h = let z : _≡_ {A = ℕ} 0 1 = cc in absurd (omega arith)
     apart false h = (refl, h)
 
 -- the location of a reference to an input, or to an id that none of the nodes has
-pub location-later : (call : Callee) (r : Ref) (ns : List Node) (located : List Located) (d : ℕ) → (r .node ≡ 0) ⊎ (member (r .node) (ids ns) ≡ false)
-    → locationOf (allocate call ns located d .located) r ≡ locationOf located r
-location-later call r ns located d (inl e) = rw (eq-eqb (r .node) 0 e) refl
-location-later call r ns located d (inr e) =
-    ap (λ (xs : List Location). cond (eqb (r .node) 0) (input (r .port)) (getD xs (r .port) nowhere)) (locations-later call (r .node) ns located d e)
+pub location-later : (ver : Version) → (call : Callee) (r : Ref) (ns : List Node) (located : List Located) (d : ℕ) → (r .node ≡ 0) ⊎ (member (r .node) (ids ns) ≡ false)
+    → locationOf (allocate ver call ns located d .located) r ≡ locationOf located r
+location-later ver call r ns located d (inl e) = rw (eq-eqb (r .node) 0 e) refl
+location-later ver call r ns located d (inr e) =
+    ap (λ (xs : List Location). cond (eqb (r .node) 0) (input (r .port)) (getD xs (r .port) nowhere)) (locations-later ver call (r .node) ns located d e)
 
 -- what is done is none of the nodes to come
 abbrev pub Apart : List ℕ → List Node → Type 0
@@ -259,30 +261,30 @@ apart-step done n ns (s, ss) apart i e = pickOne (eqb (n .id) i) refl e (apart i
     pickOne false q h k = k h
 
 -- what a node reads at its turn has the same location in all later lists
-pub reads-later : (call : Callee) (done : List ℕ) (rs : List Ref) (ns : List Node) (located : List Located) (d : ℕ) → Apart done ns → ready done rs ≡ true
-    → Each (λ r. locationOf (allocate call ns located d .located) r ≡ locationOf located r) rs
-reads-later call done [] ns located d apart e = tt
-reads-later call done (r ∷ rs) ns located d apart e =
+pub reads-later : (ver : Version) → (call : Callee) (done : List ℕ) (rs : List Ref) (ns : List Node) (located : List Located) (d : ℕ) → Apart done ns → ready done rs ≡ true
+    → Each (λ r. locationOf (allocate ver call ns located d .located) r ≡ locationOf located r) rs
+reads-later ver call done [] ns located d apart e = tt
+reads-later ver call done (r ∷ rs) ns located d apart e =
     let (a, b) = and-inv (eqb (r .node) 0 || member (r .node) done) (ready done rs) e in (
-      location-later call r ns located d (⊎-elim (λ z. inl (eqb-true (r .node) 0 z)) (λ m. inr (apart (r .node) m)) (or-inv (eqb (r .node) 0) (member (r .node) done) a)),
-      reads-later call done rs ns located d apart b,
+      location-later ver call r ns located d (⊎-elim (λ z. inl (eqb-true (r .node) 0 z)) (λ m. inr (apart (r .node) m)) (or-inv (eqb (r .node) 0) (member (r .node) done) a)),
+      reads-later ver call done rs ns located d apart b,
     )
 
 -- the last list is a table for all nodes of an order with single ids
-pub last-agrees : (call : Callee) (done : List ℕ) (ns : List Node) (located : List Located) (d : ℕ) → Single ns → Apart done ns → Ordered done ns
-    → Agrees call (locationOf (allocate call ns located d .located)) ns located d
-last-agrees call done [] located d single apart ordered = tt
-last-agrees call done (n ∷ ns) located d (s, single) apart (fit, ordered) =
-    let c = nodeSummary call located d n (n .payload) in (
-      reads-later call done (reads n) (n ∷ ns) located d apart fit,
-      last-agrees call (n .id ∷ done) ns (locating n c located) (d + c .words) single (apart-step done n ns (s, single) apart) ordered,
+pub last-agrees : (ver : Version) → (call : Callee) (done : List ℕ) (ns : List Node) (located : List Located) (d : ℕ) → Single ns → Apart done ns → Ordered done ns
+    → Agrees ver call (locationOf (allocate ver call ns located d .located)) ns located d
+last-agrees ver call done [] located d single apart ordered = tt
+last-agrees ver call done (n ∷ ns) located d (s, single) apart (fit, ordered) =
+    let c = nodeSummary ver call located d n (n .payload) in (
+      reads-later ver call done (reads n) (n ∷ ns) located d apart fit,
+      last-agrees ver call (n .id ∷ done) ns (locating n c located) (d + c .words) single (apart-step done n ns (s, single) apart) ordered,
     )
 
 -- the last list of a function's schedule is a table for its nodes
-pub function-agrees : (call : Callee) (early : List Function) (f : Function) → Sound early f → Single (f .nodes)
-    → Agrees call (locationOf (allocate call (schedule (f .nodes)) [] 0 .located)) (schedule (f .nodes)) [] 0
-function-agrees call early f sound single =
-    last-agrees call [] (schedule (f .nodes)) [] 0 (schedule-distinct early f sound single) nothing (scheduled early f sound .ordered)
+pub function-agrees : (ver : Version) → (call : Callee) (early : List Function) (f : Function) → Sound early f → Single (f .nodes)
+    → Agrees ver call (locationOf (allocate ver call (schedule (f .nodes)) [] 0 .located)) (schedule (f .nodes)) [] 0
+function-agrees ver call early f sound single =
+    last-agrees ver call [] (schedule (f .nodes)) [] 0 (schedule-distinct early f sound single) nothing (scheduled early f sound .ordered)
   where
     nothing : Apart [] (schedule (f .nodes))
     nothing i e = let z : _≡_ {A = ℕ} 0 1 = cc in absurd (omega arith)
@@ -299,31 +301,31 @@ addresses-table ins base written located m table (r ∷ rs) (e, h) =
     cc
 
 -- a node by the table's locations
-pub node-table : (go : Inline) (ins : List ℕ) (base : ℕ) (written : List Written) (located : List Located) → Matches ins base written located
+pub node-table : (ver : Version) → (go : Inline) (ins : List ℕ) (base : ℕ) (written : List Written) (located : List Located) → Matches ins base written located
     → (table : Ref → Location) (next : ℕ) (n : Node) (p : Payload) → Each (λ r. table r ≡ locationOf located r) (readsOf p)
-    → inlineNode go (address ins written) next n p ≡ inlineNode go (λ r. addressAt ins base (table r)) next n p
-node-table go ins base written located m table next n (consts ws) h = refl
-node-table go ins base written located m table next n (refs rs) h =
-    ap (λ (xs : List ℕ). single (n .kind) (n .type) xs [] next) (addresses-table ins base written located m table rs h)
-node-table go ins base written located m table next n (calls c rs) h =
+    → inlineNode (sizing ver) go (address ins written) next n p ≡ inlineNode (sizing ver) go (λ r. addressAt ins base (table r)) next n p
+node-table ver go ins base written located m table next n (consts ws) h = refl
+node-table ver go ins base written located m table next n (refs rs) h =
+    ap (λ (xs : List ℕ). single (sizing ver) (n .kind) (n .type) xs [] next) (addresses-table ins base written located m table rs h)
+node-table ver go ins base written located m table next n (calls c rs) h =
     ap (λ (xs : List ℕ). go c xs next) (addresses-table ins base written located m table rs h)
 
 -- the code of nodes in their order by the table's locations
-pub nodes-table : (go : Inline) (call : Callee) → Follows go call → (ins : List ℕ) (base : ℕ) (table : Ref → Location) (ns : List Node) (written : List Written) (located : List Located)
-    → Matches ins base written located → (next d : ℕ) → next ≡ base + d → Agrees call table ns located d
-    → inlineNodes go ins ns written next .code ≡ emitNodes go table ins base ns next
-nodes-table go call follows ins base table [] written located m next d e agrees = refl
-nodes-table go call follows ins base table (n ∷ ns) written located m next d e (a, agrees) =
-    let o = inlineNode go (address ins written) next n (n .payload) in
-    let c = nodeSummary call located d n (n .payload) in
-    let same : o ≡ inlineNode go (λ r. addressAt ins base (table r)) next n (n .payload) = node-table go ins base written located m table next n (n .payload) a in
+pub nodes-table : (ver : Version) → (go : Inline) (call : Callee) → Follows go call → (ins : List ℕ) (base : ℕ) (table : Ref → Location) (ns : List Node) (written : List Written) (located : List Located)
+    → Matches ins base written located → (next d : ℕ) → next ≡ base + d → Agrees ver call table ns located d
+    → inlineNodes (sizing ver) go ins ns written next .code ≡ emitNodes ver go table ins base ns next
+nodes-table ver go call follows ins base table [] written located m next d e agrees = refl
+nodes-table ver go call follows ins base table (n ∷ ns) written located m next d e (a, agrees) =
+    let o = inlineNode (sizing ver) go (address ins written) next n (n .payload) in
+    let c = nodeSummary ver call located d n (n .payload) in
+    let same : o ≡ inlineNode (sizing ver) go (λ r. addressAt ins base (table r)) next n (n .payload) = node-table ver go ins base written located m table next n (n .payload) a in
     let rest =
-    nodes-table go call follows ins base table ns (also n o written) (locating n c located) (matches-step go call follows ins base written located m next d e n)
-    (o .next) (d + c .words) (node-next go call follows ins base (address ins written) located next d e n (n .payload)) agrees in
-    ap (λ (xs : List Instruction). o .code ++ xs) rest ∙ ap (λ (x : Inlined). x .code ++ emitNodes go table ins base ns (x .next)) same
+    nodes-table ver go call follows ins base table ns (also n o written) (locating n c located) (matches-step ver go call follows ins base written located m next d e n)
+    (o .next) (d + c .words) (node-next ver go call follows ins base (address ins written) located next d e n (n .payload)) agrees in
+    ap (λ (xs : List Instruction). o .code ++ xs) rest ∙ ap (λ (x : Inlined). x .code ++ emitNodes ver go table ins base ns (x .next)) same
 
 -- the code of a function by a table of locations
-pub function-table : (go : Inline) (call : Callee) → Follows go call → (f : Function) (table : Ref → Location) → Agrees call table (schedule (f .nodes)) [] 0 → (ins : List ℕ) (next : ℕ)
-    → inlineFunction go f ins next .code ≡ emitNodes go table ins next (schedule (f .nodes)) next
-function-table go call follows f table agrees ins next =
-    nodes-table go call follows ins next table (schedule (f .nodes)) [] [] (matches-start ins next) next 0 (omega arith) agrees
+pub function-table : (ver : Version) → (go : Inline) (call : Callee) → Follows go call → (f : Function) (table : Ref → Location) → Agrees ver call table (schedule (f .nodes)) [] 0 → (ins : List ℕ) (next : ℕ)
+    → inlineFunction (sizing ver) go f ins next .code ≡ emitNodes ver go table ins next (schedule (f .nodes)) next
+function-table ver go call follows f table agrees ins next =
+    nodes-table ver go call follows ins next table (schedule (f .nodes)) [] [] (matches-start ins next) next 0 (omega arith) agrees

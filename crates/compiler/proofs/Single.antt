@@ -1,16 +1,15 @@
 -- A node with an instruction of its own: the stores of its bytes, and what is written of a node as read.
-use Prim.Native.Nat.{ℕ, zero, suc, _+_, _*_, _≤_}
+use Prim.Native.Nat.{ℕ, zero, suc, _+_, _-_, _*_, _/_, _≤_}
 use mathlib.Core.Path.{_≡_, refl, sym, ap, _∙_, subst}
-use mathlib.Core.List.{List, [], _∷_, _++_, append-nil}
+use mathlib.Core.List.{List, [], _∷_, _++_, map, append-nil}
 use native.Mathlib.Omega.{arith}
 use native.Mathlib.Numerals.{add-one, add-two}
-use lib.ListN.{length, set, length-set}
+use lib.ListN.{length, set, length-set, length-append, length-map}
 use lib.Seq.{sets}
-use Rattle.base.specs.Bytes.{Bytes, allBytes}
-use Rattle.base.specs.Limits.{wordLimit}
+use Rattle.base.specs.Bytes.{Bytes, bytesOf, allBytes}
 use Rattle.base.specs.Lists.{Each}
 use Rattle.base.proofs.Stands.{all-append}
-use Rattle.base.proofs.Stores.{then-four}
+use Rattle.base.proofs.Stores.{sets-append, then-four}
 use Rattle.ports.specs.declared.Ports.{Ports}
 use Rattle.ports.specs.Kinds.{kindOf}
 use Rattle.ports.specs.Ports.{widths, gives, portsOf, resultWords}
@@ -32,8 +31,17 @@ use Rattle.lowering.specs.Compile.{Inlined, single, inlined}
 use Rattle.sums.specs.Position.{before}
 use Rattle.sums.proofs.CodeSizes.{single-length}
 use Rattle.compiler.specs.declared.Reached.{Reached}
-use Rattle.compiler.specs.Emit.{addressesIn, inlineWith, nodeInlined, CodeRoom, Emits}
+use Rattle.compiler.specs.Emit.{addressesIn, inlineWith, nodeInlined, relocate, bytesBy, noted, CodeRoom, Walks}
 use Rattle.compiler.proofs.References.{constant-is, references-are}
+use Rattle.bytecode.specs.declared.Version.{Version}
+use Rattle.bytecode.specs.declared.Version.the-variants.{V1, V2}
+use Rattle.bytecode.specs.Run.{Instruction}
+use Rattle.bytecode.specs.Code.{instructionCode}
+use Rattle.bytecode.proofs.Back.{instruction-length}
+use Rattle.lowering.specs.Naming.{nameStep, sizing}
+use Rattle.compiler.specs.declared.Pass.{Pass}
+use Rattle.compiler.specs.declared.Pass.the-variants.{Survey, Sequential, Addressed}
+use Rattle.compiler.specs.Units.{unitBound}
 
 pub addresses-length : (locations ins : List ℕ) (first c n : ℕ) → length (addressesIn locations ins first c n) ≡ n
 unfolding addressesIn
@@ -51,22 +59,70 @@ module _ (kind ty : ℕ) (xs ws : List ℕ) {row : Ports} {w : ℕ} (er : row �
   words-are = ew ∙ ap (λ (r : Ports). resultWords r ty) er ∙ words-given (kindOf kind) ty
 
   -- the room for its bytes, and for the words of its results
-  pub single-fits : {code : List ℕ} {at next : ℕ} → CodeRoom code at (single kind ty xs ws next) → (at + 2 + 2 * length xs + 8 * length ws ≤ length code) × (next + w ≤ wordLimit)
+  pub single-fits : {code place : List ℕ} {at next : ℕ} → CodeRoom Sequential code place at next (single (sizing V1) kind ty xs ws next)
+      → (at + 2 + 2 * length xs + 8 * length ws ≤ length code) × (next + w ≤ unitBound)
   single-fits {next = next} h =
-      let a = single-length kind ty xs ws next in
+      let a = single-length (sizing V1) kind ty xs ws next in
       let b = words-are in
       let c = h .room in
-      let d = h .words in
+      let d = h .end in
       (omega arith, omega arith)
 
-  pub emitted : {code code' : List ℕ} {at next end cell : ℕ} → code' ≡ sets (set (set code at kind) (at + 1) ty) (at + 2) (allBytes 2 xs ++ allBytes 8 ws)
-      → end ≡ at + 2 + 2 * length xs + 8 * length ws → Emits code code' at (single kind ty xs ws next) (record { at = end; next = next + w; cell = cell })
+  pub emitted : {code code' : List ℕ} {at next end cell m : ℕ} {place wide : List ℕ} → code' ≡ sets (set (set code at kind) (at + 1) ty) (at + 2) (allBytes 2 xs ++ allBytes 8 ws)
+      → end ≡ at + 2 + 2 * length xs + 8 * length ws
+      → Walks Sequential m code place wide code' place wide at (single (sizing V1) kind ty xs ws next) (record { at = end; next = next + w; cell = cell })
   emitted {code} {at = at} {next = next} e l =
-      let a = single-length kind ty xs ws next in
+      let a = single-length (sizing V1) kind ty xs ws next in
       record {
         written = e ∙ rw (add-one, add-two) (ap (λ (ys : List ℕ). sets code at (kind ∷ ty ∷ ys)) (sym (append-nil (allBytes 2 xs ++ allBytes 8 ws))));
+        noted = refl;
+        measured = refl;
         end = omega arith;
-        words = ap (λ (x : ℕ). next + x) words-are;
+        next = ap (λ (x : ℕ). next + x) words-are;
+      }
+
+  -- a survey writes nothing
+  pub surveyed : {code place place' wide wide' : List ℕ} {at next cell m x : ℕ} → x ≡ suc (next / nameStep) - m → place' ≡ noted place x xs → wide' ≡ set wide (next / nameStep) w
+      → Walks Survey m code place wide code place' wide' at (single (sizing V2) kind ty xs ws next) (record { at = at; next = next + nameStep; cell = cell })
+  surveyed {place = place} {wide = wide} {next = next} ex ep ew' =
+      record {
+        written = refl;
+        noted = ep ∙ ap (λ (y : ℕ). noted place y xs) ex;
+        measured = ew' ∙ ap (λ (y : ℕ). set wide (next / nameStep) y) words-are;
+        end = omega arith;
+        next = refl;
+      }
+
+-- in version 2
+module _ (place : List ℕ) (kind ty : ℕ) (xs ws : List ℕ) (next : ℕ) where
+  placed-length : length (bytesBy Addressed place (single (sizing V2) kind ty xs ws next .code)) ≡ 4 + 2 * length xs + 8 * length ws
+  placed-length =
+      let i : Instruction = record { kind = kind; type = ty; operands = map (relocate place) xs; constants = ws; result = relocate place next } in
+      let a : length (instructionCode V2 i ++ []) ≡ length (instructionCode V2 i) + 0 = length-append (instructionCode V2 i) [] in
+      let b : length (instructionCode V2 i) ≡ 2 + 2 + 2 * length (map (relocate place) xs) + 8 * length ws = instruction-length V2 i in
+      let c : length (map (relocate place) xs) ≡ length xs = length-map xs (relocate place) in
+      omega arith
+
+  pub placed-fits : {code : List ℕ} {at : ℕ} → CodeRoom Addressed code place at next (single (sizing V2) kind ty xs ws next)
+      → (at + 4 + 2 * length xs + 8 * length ws ≤ length code) × (next + nameStep ≤ unitBound)
+  placed-fits h = let a = placed-length in let c = h .room in let d = h .end in (omega arith, omega arith)
+
+  pub placed : {code code₁ code' wide : List ℕ} {at end cell m : ℕ} → code₁ ≡ sets code at (kind ∷ ty ∷ bytesOf 2 (relocate place next))
+      → code' ≡ sets code₁ (at + 4) (allBytes 2 (map (relocate place) xs) ++ allBytes 8 ws) → end ≡ at + 4 + 2 * length xs + 8 * length ws
+      → Walks Addressed m code place wide code' place wide at (single (sizing V2) kind ty xs ws next) (record { at = end; next = next + nameStep; cell = cell })
+  placed {code} {at = at} e₁ e l =
+      let a = placed-length in
+      let head = kind ∷ ty ∷ bytesOf 2 (relocate place next) in
+      let body = allBytes 2 (map (relocate place) xs) ++ allBytes 8 ws in
+      record {
+        written =
+            e ∙ ap (λ (ys : List ℕ). sets ys (at + 4) body) e₁
+            ∙ sym (sets-append head body code at)
+            ∙ ap (λ (ys : List ℕ). sets code at (head ++ ys)) (sym (append-nil body));
+        noted = refl;
+        measured = refl;
+        end = omega arith;
+        next = refl;
       }
 
 -- the words of four lists, one after another
@@ -86,33 +142,33 @@ pub rows-finite : (m : Mat4) → Each Finite (wordsOf (Matrix m))
 rows-finite m (a, (b, (c, (d, (e, (f, (g, (h, (i, (j, (k, (l, (n, (o, (p, (q, t)))))))))))))))) =
     ((a, (b, (c, (d, tt)))), (e, (f, (g, (h, tt)))), (i, (j, (k, (l, tt)))), (n, (o, (p, (q, tt)))))
 
--- ---- what is written, by another name
+-- ---- what is walked over, by another name
 
-module _ {code : List ℕ} {at : ℕ} {o o' : Inlined} (e : o ≡ o') where
-  pub same-room : CodeRoom code at o → CodeRoom code at o'
-  same-room h = subst (λ (x : Inlined). CodeRoom code at x) e h
+module _ {pass : Pass} {code place : List ℕ} {at next m : ℕ} {o o' : Inlined} (e : o ≡ o') where
+  pub same-room : CodeRoom pass code place at next o → CodeRoom pass code place at next o'
+  same-room h = subst (λ (x : Inlined). CodeRoom pass code place at next x) e h
 
-  pub same-emits : {code' : List ℕ} {r : Reached} → Emits code code' at o' r → Emits code code' at o r
-  same-emits {code'} {r} h = subst (λ (x : Inlined). Emits code code' at x r) (sym e) h
+  pub same-walks : {wide code' place' wide' : List ℕ} {r : Reached} → Walks pass m code place wide code' place' wide' at o' r → Walks pass m code place wide code' place' wide' at o r
+  same-walks {wide} {code'} {place'} {wide'} {r} h = subst (λ (x : Inlined). Walks pass m code place wide code' place' wide' at x r) (sym e) h
 
 -- ---- the node as read
 
-module _ (s locations : List ℕ) (k p c : ℕ) (ins : List ℕ) (first next : ℕ) (n : Node) (e : n ≡ nodeOf (nodeAt s p)) where
+module _ (ver : Version) (s locations : List ℕ) (k p c : ℕ) (ins : List ℕ) (first next : ℕ) (n : Node) (e : n ≡ nodeOf (nodeAt s p)) where
   by-payload : (y : Payload) → nodeAt s p .payload ≡ y
-      → (nodeInlined s locations k p c ins first next ≡ inlineWith (inlined (before s k)) (addressesIn locations ins first c (length (readsOf y))) next (nodeAt s p) y)
+      → (nodeInlined ver s locations k p c ins first next ≡ inlineWith ver (inlined (sizing ver) (before s k)) (addressesIn locations ins first c (length (readsOf y))) next (nodeAt s p) y)
       × (length (reads (nodeAt s p)) ≡ length (readsOf y))
   unfolding nodeInlined
   by-payload y q = (
-    ap (λ (z : Payload). inlineWith (inlined (before s k)) (addressesIn locations ins first c (length (readsOf z))) next (nodeAt s p) z) q,
+    ap (λ (z : Payload). inlineWith ver (inlined (sizing ver) (before s k)) (addressesIn locations ins first c (length (readsOf z))) next (nodeAt s p) z) q,
     ap (λ (z : Payload). length (readsOf z)) q,
   )
 
   -- an instruction with the node's own kind and type bytes
-  own-bytes : (xs ws : List ℕ) → single (nodeAt s p .kind) (nodeAt s p .type) xs ws next ≡ single (n .kind) (n .ty) xs ws next
-  own-bytes xs ws = ap (λ (m : Node). single (m .kind) (m .ty) xs ws next) (sym e)
+  own-bytes : (xs ws : List ℕ) → single (sizing ver) (nodeAt s p .kind) (nodeAt s p .type) xs ws next ≡ single (sizing ver) (n .kind) (n .ty) xs ws next
+  own-bytes xs ws = ap (λ (m : Node). single (sizing ver) (m .kind) (m .ty) xs ws next) (sym e)
 
   pub constant-inlined : Bytes s → ReadsNode s p → (v : Value) → n .payload ≡ Payloads.Payload.Constant v
-      → (nodeInlined s locations k p c ins first next ≡ single (n .kind) (n .ty) [] (wordsOf v) next) × (length (reads (nodeAt s p)) ≡ 0)
+      → (nodeInlined ver s locations k p c ins first next ≡ single (sizing ver) (n .kind) (n .ty) [] (wordsOf v) next) × (length (reads (nodeAt s p)) ≡ 0)
       × Each Finite (wordsOf v)
   constant-inlined small r v q =
       let (c, finite) = constant-is s p n e small r v q in
@@ -120,12 +176,12 @@ module _ (s locations : List ℕ) (k p c : ℕ) (ins : List ℕ) (first next : �
       (a ∙ own-bytes [] (wordsOf v), b, finite)
 
   pub operation-inlined : (r : Reads) → n .payload ≡ Payloads.Payload.References r
-      → (nodeInlined s locations k p c ins first next ≡ single (n .kind) (n .ty) (addressesIn locations ins first c (r .count)) [] next)
+      → (nodeInlined ver s locations k p c ins first next ≡ single (sizing ver) (n .kind) (n .ty) (addressesIn locations ins first c (r .count)) [] next)
       × (length (reads (nodeAt s p)) ≡ r .count)
   operation-inlined r q =
       let (rs, x, l) = references-are s p n e r q in
       let (a, b) = by-payload (refs rs) x in (
-        a ∙ ap (λ (m : ℕ). single (nodeAt s p .kind) (nodeAt s p .type) (addressesIn locations ins first c m) [] next) l
+        a ∙ ap (λ (m : ℕ). single (sizing ver) (nodeAt s p .kind) (nodeAt s p .type) (addressesIn locations ins first c m) [] next) l
             ∙ own-bytes (addressesIn locations ins first c (r .count)) [],
         b ∙ l,
       )

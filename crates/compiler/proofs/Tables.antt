@@ -9,7 +9,7 @@ use native.Mathlib.Omega.{arith}
 use lib.ListN.{length, getD, set, length-set}
 use lib.Seq.{getD-set-same, getD-set-other}
 use Rattle.compiler.specs.Sizes.{orderLimit, outputLimit}
-use Rattle.base.specs.Limits.{nodeLimit, tableLimit, referenceLimit, wordLimit, functionLimit}
+use Rattle.base.specs.Limits.{nodeLimit, tableLimit, referenceLimit, functionLimit}
 use Rattle.base.proofs.Numbers.{lt-or-eq}
 use Rattle.ports.specs.declared.Form.{Form}
 use Rattle.ports.specs.declared.Form.the-variants.{Absent, Constant, References, Call}
@@ -31,11 +31,13 @@ use Rattle.sums.specs.Capped.{resultWordsAt}
 use Rattle.compiler.specs.Emit.{Stands, locationTable, Coded, Placed, summaryAt, Allocated}
 use Rattle.compiler.specs.Locating.{Codes, PortsCoded, readCount, FunctionAllocated, AllocatedTo}
 use Rattle.compiler.proofs.Locations.{function-agrees}
-use Rattle.compiler.proofs.Words.{function-words}
+use Rattle.compiler.proofs.Units.{units-at, function-units}
 use Rattle.compiler.proofs.References.{few-reads}
 use Rattle.resolver.proofs.Rows.{length-nodes}
 use Rattle.sums.proofs.Accepted.{few, sound-below, read-below, short, fewer}
 use Rattle.compiler.proofs.Accepting.{single-at}
+use Rattle.bytecode.specs.declared.Version.{Version}
+use Rattle.compiler.specs.Units.{unitsAt, unitLimit}
 
 -- ---- what a later store leaves
 
@@ -87,7 +89,7 @@ nodes-end-low s (suc n) at h l =
     let y = rest-reads s (suc n) at (omega arith) h in
     nodes-end-low s n (nodeEnd s at) (rw z at y) (end-fits s at (first-reads s (suc n) at (omega arith) h))
 
-module _ (s : List ℕ) (j : ℕ) (acc : Accepted s (suc j)) where
+module _ (ver : Version) (s : List ℕ) (j : ℕ) (acc : Accepted s (suc j)) where
   function-space : (13 * readCount s j + 4 * placeOf s j ≤ 4 * placeOf s (suc j)) × (placeOf s (suc j) < tableLimit)
   unfolding functionPlace functionEnd functionAt
   function-space =
@@ -97,9 +99,9 @@ module _ (s : List ℕ) (j : ℕ) (acc : Accepted s (suc j)) where
       let m = short s (suc j) acc in
       (omega arith, omega arith)
 
-  summary-is : summaryAt s j .words ≡ resultWordsAt s j
-  unfolding resultWordsAt earlier
-  summary-is = function-words (before s j) (functionIn s j) (sound-below s (suc j) acc j (omega arith))
+  summary-is : summaryAt ver s j .words ≡ unitsAt ver s j
+  unfolding earlier
+  summary-is = function-units ver (before s j) (functionIn s j) (sound-below s (suc j) acc j (omega arith)) ∙ units-at ver s j
 
   -- the schedule has all nodes
   schedule-size : (length (schedule (functionIn s j .nodes)) ≡ nodeCount s (placeOf s j)) × (sum sizeOf (schedule (functionIn s j .nodes)) ≡ readCount s j)
@@ -108,74 +110,74 @@ module _ (s : List ℕ) (j : ℕ) (acc : Accepted s (suc j)) where
       let right = scheduled (before s j) (functionIn s j) (sound-below s (suc j) acc j (omega arith) .0) in
       (right .size ∙ length-nodes (nodeCount s (placeOf s j)) s (nodesPlace s (placeOf s j)), right .total sizeOf)
 
-module _ {s : List ℕ} {j : ℕ} (acc : Accepted s (suc j)) {outs order locations begins : List ℕ} {cell : ℕ} (st : AllocatedTo s j outs order locations begins cell) where
+module _ (ver : Version) {s : List ℕ} {j : ℕ} (acc : Accepted s (suc j)) {outs order locations begins : List ℕ} {cell : ℕ} (st : AllocatedTo ver s j outs order locations begins cell) where
   -- there is room for one function more
   pub room-here : (cell + readCount s j ≤ referenceLimit) × (cell < 65536) × (j < functionLimit)
   room-here =
-      let (a, b) = function-space s j acc in
+      let (a, b) = function-space ver s j acc in
       let e = st .room in
       let l = few s (suc j) acc in
       (omega arith, omega arith, omega arith)
 
   -- a function over the limit is passed over
-  pub passed-over : wordLimit < resultWordsAt s j → AllocatedTo s (suc j) outs order locations begins cell
+  pub passed-over : unitLimit ver < unitsAt ver s j → AllocatedTo ver s (suc j) outs order locations begins cell
   passed-over over =
-      let (a, b) = function-space s j acc in
+      let (a, b) = function-space ver s j acc in
       let e = st .room in
-      let c = summary-is s j acc in
+      let c = summary-is ver s j acc in
       record {
-        allocated = λ g l w. ⊎-elim (λ h. st .allocated g h w) (λ q. absurd (let z = ap (λ (x : ℕ). summaryAt s x .words) q in omega arith)) (lt-or-eq g j l);
-        ports = λ g l w. ⊎-elim (λ h. st .ports g h w) (λ q. absurd (let z = ap (resultWordsAt s) q in omega arith)) (lt-or-eq g j l);
+        allocated = λ g l w. ⊎-elim (λ h. st .allocated g h w) (λ q. absurd (let z = ap (λ (x : ℕ). summaryAt ver s x .words) q in omega arith)) (lt-or-eq g j l);
+        ports = λ g l w. ⊎-elim (λ h. st .ports g h w) (λ q. absurd (let z = ap (unitsAt ver s) q in omega arith)) (lt-or-eq g j l);
         room = omega arith;
-        ends = λ g l w. ⊎-elim (λ h. st .ends g h w) (λ q. absurd (let z = ap (λ (x : ℕ). summaryAt s x .words) q in omega arith)) (lt-or-eq g j l);
+        ends = λ g l w. ⊎-elim (λ h. st .ends g h w) (λ q. absurd (let z = ap (λ (x : ℕ). summaryAt ver s x .words) q in omega arith)) (lt-or-eq g j l);
         sizes = st .sizes;
       }
 
-  module _ {outs' order' locations' begins' : List ℕ} {r : ℕ} (f : FunctionAllocated s j cell order order' locations locations' outs outs' r) (eb : begins' ≡ set begins j cell) where
+  module _ {outs' order' locations' begins' : List ℕ} {r : ℕ} (f : FunctionAllocated ver s j cell order order' locations locations' outs outs' r) (eb : begins' ≡ set begins j cell) where
     begin-here : getD begins' j 0 ≡ cell
     begin-here = ap (λ (ys : List ℕ). getD ys j 0) eb ∙ getD-set-same begins j cell 0 (let a = st .sizes .3 in let b = few s (suc j) acc in omega arith)
 
     begin-below : (g : ℕ) → g < j → getD begins' g 0 ≡ getD begins g 0
     begin-below g l = ap (λ (ys : List ℕ). getD ys g 0) eb ∙ getD-set-other begins j g cell 0 (λ e. omega arith)
 
-    here : Allocated s begins' order' locations' j
+    here : Allocated ver s begins' order' locations' j
     unfolding earlier
     here =
         record {
           count = function-holds s (placeOf s j) (read-below s (suc j) acc j (omega arith)) .few;
-          size = schedule-size s j acc .0;
-          nodes = subst (λ (b : ℕ). Placed s order' locations' (locationTable s j) (nodeLimit * j) b (schedule (functionIn s j .nodes))) (sym begin-here) (f .placed);
-          agrees = function-agrees (summary (before s j)) (before s j) (functionIn s j) (sound-below s (suc j) acc j (omega arith) .0) (single-at s (suc j) acc j (omega arith));
+          size = schedule-size ver s j acc .0;
+          nodes = subst (λ (b : ℕ). Placed s order' locations' (locationTable ver s j) (nodeLimit * j) b (schedule (functionIn s j .nodes))) (sym begin-here) (f .placed);
+          agrees = function-agrees ver (summary ver (before s j)) (before s j) (functionIn s j) (sound-below s (suc j) acc j (omega arith) .0) (single-at s (suc j) acc j (omega arith));
         }
 
-    below : (g : ℕ) → g < j → summaryAt s g .words ≤ wordLimit → Allocated s begins' order' locations' g
+    below : (g : ℕ) → g < j → summaryAt ver s g .words ≤ unitLimit ver → Allocated ver s begins' order' locations' g
     below g l w =
         let x = st .allocated g l w in
         let e = st .ends g l w in
-        let (a, b) = schedule-size s g (fewer s (suc j) (suc g) acc (omega arith)) in
+        let (a, b) = schedule-size ver s g (fewer s (suc j) (suc g) acc (omega arith)) in
         let m = x .count in
         record {
           count = x .count;
           size = x .size;
           nodes =
-              subst (λ (q : ℕ). Placed s order' locations' (locationTable s g) (nodeLimit * g) q (schedule (functionIn s g .nodes))) (sym (begin-below g l))
-              (placed-keep s order order' locations locations' (locationTable s g) (nodeLimit * g) (getD begins g 0) (schedule (functionIn s g .nodes)) (λ q ql. f .old-order q (omega arith)) (λ q ql. f .old-locations q (omega arith)) (x .nodes));
+              subst (λ (q : ℕ). Placed s order' locations' (locationTable ver s g) (nodeLimit * g) q (schedule (functionIn s g .nodes))) (sym (begin-below g l))
+              (placed-keep s order order' locations locations' (locationTable ver s g) (nodeLimit * g) (getD begins g 0) (schedule (functionIn s g .nodes)) (λ q ql. f .old-order q (omega arith)) (λ q ql. f .old-locations q (omega arith)) (x .nodes));
           agrees = x .agrees;
         }
 
-    ports-below : (g : ℕ) → g < j → resultWordsAt s g ≤ wordLimit → PortsCoded (summaryAt s g .outputs) outs' (8 * g)
+    ports-below : (g : ℕ) → g < j → unitsAt ver s g ≤ unitLimit ver → PortsCoded (summaryAt ver s g .outputs) outs' (8 * g)
     ports-below g l w =
         let x = st .ports g l w in
-        record { few = x .few; coded = λ q ql. subst (λ (e : ℕ). Codes e (getD (summaryAt s g .outputs) q nowhere)) (sym (f .old-outs (8 * g + q) (omega arith))) (x .coded q ql) }
+        record { few = x .few; coded = λ q ql. subst (λ (e : ℕ). Codes e (getD (summaryAt ver s g .outputs) q nowhere)) (sym (f .old-outs (8 * g + q) (omega arith))) (x .coded q ql) }
 
-    pub one-more : AllocatedTo s (suc j) outs' order' locations' begins' r
+    pub one-more : AllocatedTo ver s (suc j) outs' order' locations' begins' r
     one-more =
-        let (a, b) = function-space s j acc in
+        let (a, b) = function-space ver s j acc in
         let e = st .room in
         let n = f .end in
         record {
-          allocated = λ g l w. ⊎-elim (λ h. below g h w) (λ q. subst (Allocated s begins' order' locations') (sym q) here) (lt-or-eq g j l);
-          ports = λ g l w. ⊎-elim (λ h. ports-below g h w) (λ q. subst (λ (x : ℕ). PortsCoded (summaryAt s x .outputs) outs' (8 * x)) (sym q) (f .ports)) (lt-or-eq g j l);
+          allocated = λ g l w. ⊎-elim (λ h. below g h w) (λ q. subst (Allocated ver s begins' order' locations') (sym q) here) (lt-or-eq g j l);
+          ports = λ g l w. ⊎-elim (λ h. ports-below g h w) (λ q. subst (λ (x : ℕ). PortsCoded (summaryAt ver s x .outputs) outs' (8 * x)) (sym q) (f .ports)) (lt-or-eq g j l);
           room = omega arith;
           ends = λ g l w. ⊎-elim (λ h. let z = st .ends g h w in let y = begin-below g h in omega arith)
               (λ q. let z : getD begins' g 0 ≡ cell = ap (λ (x : ℕ). getD begins' x 0) q ∙ begin-here in let y = ap (readCount s) q in omega arith) (lt-or-eq g j l);
@@ -183,6 +185,6 @@ module _ {s : List ℕ} {j : ℕ} (acc : Accepted s (suc j)) {outs order locatio
         }
 
 -- at the start nothing is allocated
-pub allocated-none : {s outs order locations begins : List ℕ} → (length outs ≡ outputLimit) × (length order ≡ orderLimit) × (length locations ≡ referenceLimit) × (length begins ≡ 16) → AllocatedTo s 0 outs order locations begins 0
-allocated-none h =
+pub allocated-none : (ver : Version) → {s outs order locations begins : List ℕ} → (length outs ≡ outputLimit) × (length order ≡ orderLimit) × (length locations ≡ referenceLimit) × (length begins ≡ 16) → AllocatedTo ver s 0 outs order locations begins 0
+allocated-none ver h =
     record { allocated = λ g l w. absurd (omega arith); ports = λ g l w. absurd (omega arith); room = omega arith; ends = λ g l w. absurd (omega arith); sizes = h }

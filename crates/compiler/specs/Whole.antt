@@ -7,13 +7,14 @@ use lib.ListN.{length}
 use Rattle.ports.specs.Ports.{widths}
 use Rattle.graph.specs.Types.{outputTypes}
 use Rattle.lowering.specs.Compile.{boardListOf}
+use Rattle.bytecode.specs.declared.Version.the-variants.{V1}
 use Rattle.bytecode.specs.Code.{encode}
 use Rattle.sums.specs.Position.{functionIn, before}
 use Rattle.sums.specs.Capped.{resultWordsAt}
 
 -- the code of the function at position k
 abbrev pub codeAt : List ℕ → ℕ → List ℕ
-codeAt s k = encode (boardListOf (before s k) (functionIn s k))
+codeAt s k = encode V1 (boardListOf (before s k) (functionIn s k))
 
 -- the counts of the function at position k, which is within the limits
 pub record Measured (s : List ℕ) (k count inputs outputs : ℕ) : Type 0 where

@@ -390,7 +390,15 @@ pub fn allocate_next(
     }
     begins[j] = cell as u16;
     allocate_function(
-        table, starts, version, held, j, outs, order, locations, cell,
+        table,
+        starts,
+        version,
+        held,
+        j,
+        outs,
+        order,
+        locations,
+        cell,
     )
 }
 

@@ -3,16 +3,17 @@ ghost use mathlib.Core.Path.{_≡_};
 ghost use Prim.Native.Nat.{ℕ, _+_, _*_, _<_, _≤_};
 ghost use lib.ListN.{length, getD};
 ghost use lib.Seq.{sets};
-ghost use Rattle.base.specs.Limits.{functionLimit, portLimit, wordLimit, addressLimit, headerLength};
+ghost use Rattle.base.specs.Limits.{functionLimit, portLimit, addressLimit, headerLength};
 ghost use Rattle.ports.specs.Ports.{widths};
 ghost use Rattle.base.specs.Bytes.{allBytes};
 ghost use Rattle.base.specs.Lists.{span};
 ghost use Rattle.bytecode.specs.Run.{places, spans};
 ghost use Rattle.bytecode.specs.Code.{headerCode};
 ghost use Rattle.sums.specs.Answers.{typesBy};
+ghost use Rattle.compiler.specs.Units.{unitBound};
 ghost use Rattle.compiler.specs.Emit.{addressOf, addressesIn};
 use super::OUTPUT_LIMIT;
-use super::emit::address;
+use super::walk::address;
 use base::PORT_LIMIT;
 use base::put16;
 use base::wide16;
@@ -57,7 +58,7 @@ pub fn put_outputs(
     code: &mut [u8],
     at: usize,
 )
-    requires { ⌜ (entries + 4 * n ≤ length (now table)) × (n ≤ portLimit) × (k < functionLimit) × (first ≤ unitBound) × ((j : ℕ) → j < n → addressOf (now ins) first (getD (now outs) (portLimit * k + j) 0) ≤ 2 * wordLimit) ⌝ }
+    requires { ⌜ (entries + 4 * n ≤ length (now table)) × (n ≤ portLimit) × (k < functionLimit) × (first ≤ unitBound) × ((j : ℕ) → j < n → addressOf (now ins) first (getD (now outs) (portLimit * k + j) 0) ≤ 2 * unitBound) ⌝ }
     requires { ⌜ at + 2 * widths (typesBy 4 n (now table) entries) ≤ length (now code) ⌝ }
     ensures { λ _. ⌜ now (code .exit) ≡ sets (now (code .entry)) at
         (allBytes 2 (spans (typesBy 4 n (now (table .entry)) entries) (addressesIn (now (outs .entry)) (now (ins .entry)) first (portLimit * k) n))) ⌝ }
@@ -76,14 +77,14 @@ pub fn put_outputs(
     }
 }
 
-pub fn put_header(code: &mut [u8], arguments: u8, outputs: u8, count: u16, words: u16)
+pub fn put_header(code: &mut [u8], version: u8, arguments: u8, outputs: u8, count: u16, words: u16)
     requires { ⌜ headerLength ≤ length (now code) ⌝ }
-    ensures { λ _. ⌜ now (code .exit) ≡ sets (now (code .entry)) 0 (headerCode arguments outputs count words) ⌝ }
+    ensures { λ _. ⌜ now (code .exit) ≡ sets (now (code .entry)) 0 (headerCode version arguments outputs count words) ⌝ }
 {
     code[0] = 0x49;
     code[1] = 0x46;
     code[2] = 0x52;
-    code[3] = 1;
+    code[3] = version;
     code[4] = 0;
     code[5] = arguments;
     code[6] = outputs;

@@ -5,7 +5,8 @@ ghost use lib.ListN.{length};
 ghost use lib.Seq.{sets};
 ghost use Rattle.compiler.specs.Whole.{codeAt, Measured};
 ghost use Rattle.sums.specs.Position.{Accepted, Started};
-ghost use Rattle.sums.specs.Capped.{WordsHeld};
+ghost use Rattle.bytecode.specs.declared.Version.the-variants.{V1};
+ghost use Rattle.compiler.specs.Units.{AllHeld};
 use allocate::allocate_functions;
 use allocate::allocate_next;
 use assemble::input_places;
@@ -18,13 +19,14 @@ use base::PORT_LIMIT;
 use base::REFERENCE_LIMIT;
 use base::wide;
 use base::wide32;
-use emit::emit;
+use bytecode::Version;
 use sums::Sizes;
+use walk::walk;
 
 mod allocate;
 mod assemble;
 mod constants;
-mod emit;
+mod walk;
 
 // ---- sizes of arrays; `specs/Sizes.antt` has the same
 
@@ -56,17 +58,17 @@ pub struct Reached {
 
 // ---- the whole
 
-// Writes the board list of the function at position k of an accepted table, which was found to be within the limits and
-// to fit the buffer.
+// Writes the list of version 1 of the function at position k of an accepted table, which was found to be within the limits
+// and to fit the buffer. `held` has the words of the functions up to it.
 pub fn compile(
     table: &[u8],
     starts: &[usize; FUNCTION_LIMIT],
-    words: &[u32; FUNCTION_LIMIT],
+    held: &[u32; FUNCTION_LIMIT],
     k: usize,
     sizes: Sizes,
     code: &mut [u8],
 )
-    requires { ⌜ Accepted (now table) (suc k) × Started (now table) (now starts) (suc k) × WordsHeld (now table) (now words) (suc k) ⌝ }
+    requires { ⌜ Accepted (now table) (suc k) × Started (now table) (now starts) (suc k) × AllHeld V1 (now table) (now held) (suc k) ⌝ }
     requires { ⌜ Measured (now table) k (sizes .instructions) (sizes .arguments) (sizes .outputs) × (length (codeAt (now table) k) ≤ length (now code)) ⌝ }
     ensures { λ _. ⌜ now (code .exit) ≡ sets (now (code .entry)) 0 (codeAt (now (table .entry)) k) ⌝ }
 {
@@ -76,16 +78,19 @@ pub fn compile(
     let count = sizes.instructions;
     let inputs = sizes.arguments;
     let outputs = sizes.outputs;
-    let all = inputs + wide32(words[k]);
+    let all = inputs + wide32(held[k]);
     let mut order = [0u16; ORDER_LIMIT];
     let mut locations = [0u16; REFERENCE_LIMIT];
     let mut outs = [0u16; OUTPUT_LIMIT];
     let mut begins = [0u16; FUNCTION_LIMIT];
     let mut ins = [0u16; PORT_LIMIT];
+    let mut no_places = [0u16; 1];
+    let mut no_widths = [0u8; 1];
     let cell = allocate_functions(
         table,
         starts,
-        words,
+        Version::V1,
+        held,
         k,
         &mut outs,
         &mut order,
@@ -95,7 +100,8 @@ pub fn compile(
     allocate_next(
         table,
         starts,
-        words,
+        Version::V1,
+        held,
         k,
         &mut outs,
         &mut order,
@@ -104,8 +110,16 @@ pub fn compile(
         cell,
     );
     input_places(table, p + 6, input_count, &mut ins);
-    put_header(code, inputs as u8, outputs as u8, count as u16, all as u16);
-    let r = emit(
+    put_header(
+        code,
+        1,
+        inputs as u8,
+        outputs as u8,
+        count as u16,
+        all as u16,
+    );
+    let r = walk(
+        Pass::Sequential,
         table,
         starts,
         &begins,
@@ -113,7 +127,10 @@ pub fn compile(
         &locations,
         k,
         &ins,
+        input_count,
         code,
+        &mut no_places[0..0],
+        &mut no_widths[0..0],
         HEADER_LENGTH,
         inputs,
     );

@@ -350,7 +350,18 @@ fn walk_constant(
 {
     match pass {
         Pass::Survey => survey_instruction(
-            locations, kind, ty, 0, cell, ins, first, m, place, wide, at, next,
+            locations,
+            kind,
+            ty,
+            0,
+            cell,
+            ins,
+            first,
+            m,
+            place,
+            wide,
+            at,
+            next,
         ),
         Pass::Sequential => write_constant(kind, ty, v, cell, code, at, next),
         Pass::Addressed => place_constant(kind, ty, v, cell, place, code, at, next),
@@ -382,13 +393,34 @@ fn walk_operation(
 {
     match pass {
         Pass::Survey => survey_instruction(
-            locations, kind, ty, n, cell, ins, first, m, place, wide, at, next,
+            locations,
+            kind,
+            ty,
+            n,
+            cell,
+            ins,
+            first,
+            m,
+            place,
+            wide,
+            at,
+            next,
         ),
         Pass::Sequential => {
             write_operation(locations, kind, ty, n, cell, ins, first, code, at, next)
         }
         Pass::Addressed => place_operation(
-            locations, kind, ty, n, cell, ins, first, place, code, at, next,
+            locations,
+            kind,
+            ty,
+            n,
+            cell,
+            ins,
+            first,
+            place,
+            code,
+            at,
+            next,
         ),
     }
 }
@@ -425,7 +457,20 @@ fn walk_node(
     let payload = node.payload;
     match payload {
         Payload::Constant(v) => walk_constant(
-            pass, locations, node.kind, node.ty, v, cell, ins, first, m, code, place, wide, at, next,
+            pass,
+            locations,
+            node.kind,
+            node.ty,
+            v,
+            cell,
+            ins,
+            first,
+            m,
+            code,
+            place,
+            wide,
+            at,
+            next,
         ),
         Payload::References(reads) => walk_operation(
             pass,
@@ -450,7 +495,20 @@ fn walk_node(
             let g = sums::position_of(table, starts, k, callee);
             if g < k {
                 let r = walk(
-                    pass, table, starts, begins, order, locations, g, &args, m, code, place, wide, at, next,
+                    pass,
+                    table,
+                    starts,
+                    begins,
+                    order,
+                    locations,
+                    g,
+                    &args,
+                    m,
+                    code,
+                    place,
+                    wide,
+                    at,
+                    next,
                 );
                 Reached {
                     at: r.at,
@@ -499,7 +557,22 @@ pub fn walk(
     while i < n {
         let p = wide16(order[NODE_LIMIT * k + i]);
         let r = walk_node(
-            pass, table, starts, begins, order, locations, k, p, cell, ins, next, m, code, place, wide, here,
+            pass,
+            table,
+            starts,
+            begins,
+            order,
+            locations,
+            k,
+            p,
+            cell,
+            ins,
+            next,
+            m,
+            code,
+            place,
+            wide,
+            here,
             word,
         );
         here = r.at;

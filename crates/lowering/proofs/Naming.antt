@@ -161,7 +161,7 @@ inputs-length at (t ∷ ts) = ap suc (inputs-length (at + width t) ts)
 -- ---- every port of an instruction has a name
 
 -- of values of these types from d on, each begins among the first nameStep words
-abbrev Short : ℕ → List ℕ → Type 0
+abbrev pub Short : ℕ → List ℕ → Type 0
 Short d [] = Unit {0}
 Short d (t ∷ ts) = (d < nameStep) × Short (d + width t) ts
 
@@ -184,7 +184,7 @@ row-short n p t e = ⊎-elim (λ a. one n (leb-true n 1 a)) (λ b. scalars (and-
     scalars : (leb n nameStep ≡ true) × (eqb p typeS ≡ true) → Short 0 (replicate n (own t p))
     scalars (a, b) = let l = leb-true n nameStep a in rw (eqb-true p typeS b) (scalars-short n 0 (omega arith))
 
-gives-short : (k : Kind) (t : ℕ) → Short 0 (gives k t)
+pub gives-short : (k : Kind) (t : ℕ) → Short 0 (gives k t)
 gives-short k t = row-short (portsOf k .results) (portsOf k .result) t (every-kind (λ k. shortRow (portsOf k .results) (portsOf k .result)) refl k)
 
 -- the ports in a value, from its d-th word on

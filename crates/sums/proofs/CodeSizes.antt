@@ -122,6 +122,12 @@ module _ (wide : List ℕ → ℕ) where
   node-instructions go callee h from next n (refs rs) = refl
   node-instructions go callee h from next n (calls c rs) = h c (map from rs) next
 
+  -- the instructions of the function of an id
+  pub inlined-instructions : (early : List Function) → AllSound early → Sizes length (inlined wide early) (instructionsOf early)
+  inlined-instructions =
+      inlined-size length (record { empty = refl; append = length-append }) (λ callee n. nodeInstructions callee (n .payload)) instructionsOf instructions-counted
+      (λ early f sound h n i from next. node-instructions (inlined wide early) (instructionsOf early) h from next n (n .payload))
+
   -- the instructions of a function over those before it
   pub function-instructions : (early : List Function) (f : Function) → AllSound (f ∷ early) → (ins : List ℕ) (next : ℕ)
       → length (inlineFunction wide (inlined wide early) f ins next .code) ≡ functionInstructions (instructionsOf early) f

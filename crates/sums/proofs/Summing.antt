@@ -47,7 +47,7 @@ module _ (s : List ℕ) (k p kind : ℕ) (row : Ports) (ek : kind ≡ byte s (p 
 
   module _ (c : calling (row .form) ≡ true) (callee g : ℕ) (ec : callee ≡ u16 s (p + 4)) (eg : g ≡ positionOf s k callee) where
     -- a call adds what its callee has
-    added : addsSums s k (nodeAt s p) ≡ callSums (sumsOf (before s k) callee)
+    pub added : addsSums s k (nodeAt s p) ≡ callSums (sumsOf (before s k) callee)
     added = ap payloadSums (call-payload s p kind row ek er c) ∙ ap (λ (d : ℕ). callSums (sumsOf (before s k) d)) (sym ec)
 
     pub added-words : addsWords s k (nodeAt s p) ≡ resultWordsOf (before s k) callee
@@ -84,7 +84,7 @@ module _ (s : List ℕ) (k p kind : ℕ) (row : Ports) (ek : kind ≡ byte s (p 
     by-form References e q = ap (λ (f : Form). payloadSums (payloadAt f (kindAt s p) s (p + 4))) e
     by-form Call e q = let z : _≡_ {A = ℕ} 0 1 = cc in absurd (omega arith)
 
-    plain : addsSums s k (nodeAt s p) ≡ plainSums row (byte s (p + 3))
+    pub plain : addsSums s k (nodeAt s p) ≡ plainSums row (byte s (p + 3))
     plain =
         by-form (formOf (kindAt s p)) refl (plain-form s p kind row ek er c)
         ∙ ap (λ (w : ℕ). record { operations = 1; words = w; instructions = 1; bytes = 2 + 2 * arity (kindAt s p) + 8 * constantWords (kindAt s p) })

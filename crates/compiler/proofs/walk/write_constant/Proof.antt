@@ -8,8 +8,8 @@ use lib.ListN.{length, length-set}
 use Rattle.base.specs.Limits.{wordLimit}
 use Rattle.value.specs.Values.{wordsOf}
 use Rattle.compiler.proofs.Single.{single-fits, emitted, head-length}
-use Rattle.compiler.proofs.emit.emit_constant.Statement.{statement}
-use Rattle.compiler.proofs.emit.emit_constant.Tie as tie
+use Rattle.compiler.proofs.walk.emit_constant.Statement.{statement}
+use Rattle.compiler.proofs.walk.emit_constant.Tie as tie
 
 -- ---- places: from one back to another
 

@@ -24,21 +24,21 @@ use Rattle.compiler.proofs.Inlining.{count-is, callee-is, nothing}
 use Rattle.compiler.proofs.Emission.{State, words-fit, start, node-ready, advance, same-size, few-nodes, finished}
 use borrow.Fn.Kinds.{In}
 use borrow.Fn.PlainCycle.{Measures, is, falls, and}
-use Rattle.compiler.proofs.emit.emit.Reads as emit
-use Rattle.compiler.proofs.emit.emit.Kinds as emit-kinds
-use Rattle.compiler.proofs.emit.+emit+emit_node.Lts-emit as emit-lts
-use Rattle.compiler.proofs.emit.emit_node.Reads as emit-node
-use Rattle.compiler.proofs.emit.emit_node.Kinds as emit-node-kinds
-use Rattle.compiler.proofs.emit.+emit+emit_node.Lts-emit_node as emit-node-lts
-use Rattle.compiler.proofs.emit.arguments.Reads as arguments-reads
-use Rattle.compiler.proofs.emit.emit_constant.Reads as emit-constant-reads
-use Rattle.compiler.proofs.emit.emit_operation.Reads as emit-operation-reads
+use Rattle.compiler.proofs.walk.emit.Reads as emit
+use Rattle.compiler.proofs.walk.emit.Kinds as emit-kinds
+use Rattle.compiler.proofs.walk.+emit+emit_node.Lts-emit as emit-lts
+use Rattle.compiler.proofs.walk.emit_node.Reads as emit-node
+use Rattle.compiler.proofs.walk.emit_node.Kinds as emit-node-kinds
+use Rattle.compiler.proofs.walk.+emit+emit_node.Lts-emit_node as emit-node-lts
+use Rattle.compiler.proofs.walk.arguments.Reads as arguments-reads
+use Rattle.compiler.proofs.walk.emit_constant.Reads as emit-constant-reads
+use Rattle.compiler.proofs.walk.emit_operation.Reads as emit-operation-reads
 use Rattle.sums.proofs.position_of.Reads as position-of-reads
 use Rattle.base.proofs.u16_at.Reads as u16-at-reads
 use Rattle.base.proofs.wide16.Reads as wide16-reads
 use Rattle.reader.proofs.node_at.Reads as node-at-reads
-use Rattle.compiler.proofs.emit.+emit+emit_node.{statement}
-use Rattle.compiler.proofs.emit.+emit+emit_node.Tie.{close}
+use Rattle.compiler.proofs.walk.+emit+emit_node.{statement}
+use Rattle.compiler.proofs.walk.+emit+emit_node.Tie.{close}
 use Rattle.base.specs.Limits.{nodeLimit}
 
 -- the position falls from caller to callee; in a function the nodes come below it

@@ -10,8 +10,8 @@ use Rattle.base.specs.Bytes.{allBytes}
 use Rattle.base.specs.Limits.{wordLimit}
 use Rattle.compiler.specs.Emit.{addressesIn}
 use Rattle.compiler.proofs.Single.{addresses-length, single-fits, emitted, head-length}
-use Rattle.compiler.proofs.emit.emit_operation.Statement.{statement}
-use Rattle.compiler.proofs.emit.emit_operation.Tie as tie
+use Rattle.compiler.proofs.walk.emit_operation.Statement.{statement}
+use Rattle.compiler.proofs.walk.emit_operation.Tie as tie
 
 -- ---- places: from one back to another
 
