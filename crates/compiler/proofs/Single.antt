@@ -144,12 +144,12 @@ rows-finite m (a, (b, (c, (d, (e, (f, (g, (h, (i, (j, (k, (l, (n, (o, (p, (q, t)
 
 -- ---- what is walked over, by another name
 
-module _ {pass : Pass} {code place : List ℕ} {at next m : ℕ} {o o' : Inlined} (e : o ≡ o') where
-  pub same-room : CodeRoom pass code place at next o → CodeRoom pass code place at next o'
-  same-room h = subst (λ (x : Inlined). CodeRoom pass code place at next x) e h
+module _ {pass : Pass} {code place : List ℕ} {at : ℕ} {o o' : Inlined} (e : o ≡ o') where
+  pub same-room : {next : ℕ} → CodeRoom pass code place at next o → CodeRoom pass code place at next o'
+  same-room {next} h = subst (λ (x : Inlined). CodeRoom pass code place at next x) e h
 
-  pub same-walks : {wide code' place' wide' : List ℕ} {r : Reached} → Walks pass m code place wide code' place' wide' at o' r → Walks pass m code place wide code' place' wide' at o r
-  same-walks {wide} {code'} {place'} {wide'} {r} h = subst (λ (x : Inlined). Walks pass m code place wide code' place' wide' at x r) (sym e) h
+  pub same-walks : {m : ℕ} {wide code' place' wide' : List ℕ} {r : Reached} → Walks pass m code place wide code' place' wide' at o' r → Walks pass m code place wide code' place' wide' at o r
+  same-walks {m} {wide} {code'} {place'} {wide'} {r} h = subst (λ (x : Inlined). Walks pass m code place wide code' place' wide' at x r) (sym e) h
 
 -- ---- the node as read
 

@@ -54,11 +54,12 @@ pub fn relocate(place: &[u16], a: usize) -> u16
     ensures { λ r. ⌜ r ≡ Emit.relocate (now (place .entry)) a ⌝ }
 {
     let v = a / NAME_STEP;
-    let mut first = 0;
+    let r = a % NAME_STEP;
     if v < place.len() {
-        first = wide16(place[v]);
+        ((wide16(place[v]) + r) % ADDRESS_LIMIT) as u16
+    } else {
+        r as u16
     }
-    ((first + a % NAME_STEP) % ADDRESS_LIMIT) as u16
 }
 
 // ---- the operands of an instruction, whose locations stand from `cell` on

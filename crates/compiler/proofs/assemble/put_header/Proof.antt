@@ -24,4 +24,4 @@ put-header-spec =
     (tie.spec (λ c. search needs) (λ c. simp length-set (omega arith)) (λ c. simp length-set (omega arith)) (λ c. simp length-set (omega arith)) (λ c. simp length-set (omega arith))
     (λ c. simp length-set (omega arith)) (λ c. simp length-set (omega arith)) (λ c. simp length-set (omega arith)) (λ c κs. simp length-set (omega arith))
     (λ c κs. let e = same (first-of-second c) in omega arith) (λ c. c .before .before .put162 .kept .0 ∙ same (first-of-end c))
-    (λ c. let a = first-of-end c .before .before .before .args in header-stored (a .code .now) (a .arguments) (a .outputs) (a .count) (a .words) (first-of-end c .put16 .ensures) (c .before .before .put162 .ensures)))
+    (λ c. let a = first-of-end c .before .before .before .args in header-stored (a .code .now) (a .version) (a .arguments) (a .outputs) (a .count) (a .words) (first-of-end c .put16 .ensures) (c .before .before .put162 .ensures)))
