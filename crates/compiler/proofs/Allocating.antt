@@ -425,7 +425,7 @@ module _ (ver : Version) (s : List ℕ) (k c : ℕ) (acc : Accepted s (suc k)) (
 
 -- ---- the invariant, at the loop's head
 
-module _ (ver : Version) {s : List ℕ} {k c : ℕ} {acc : Accepted s (suc k)} {outs ts places index order₀ locations₀ : List ℕ} where
+module _ {ver : Version} {s : List ℕ} {k c : ℕ} {acc : Accepted s (suc k)} {outs ts places index order₀ locations₀ : List ℕ} where
   pub start : {allocated : List ℕ} → Lent ver s k c outs ts places → index ≡ sets (replicate nodeLimit 0) 0 (indexOrder ts (nodeCount s (placeOf s k)))
       → length order₀ ≡ orderLimit → length locations₀ ≡ referenceLimit → length allocated ≡ nodePortLimit
       → State ver s k c acc outs ts places index order₀ locations₀ order₀ locations₀ allocated c 0 0

@@ -110,7 +110,7 @@ module _ (ver : Version) (s : List ℕ) (j : ℕ) (acc : Accepted s (suc j)) whe
       let right = scheduled (before s j) (functionIn s j) (sound-below s (suc j) acc j (omega arith) .0) in
       (right .size ∙ length-nodes (nodeCount s (placeOf s j)) s (nodesPlace s (placeOf s j)), right .total sizeOf)
 
-module _ (ver : Version) {s : List ℕ} {j : ℕ} (acc : Accepted s (suc j)) {outs order locations begins : List ℕ} {cell : ℕ} (st : AllocatedTo ver s j outs order locations begins cell) where
+module _ {ver : Version} {s : List ℕ} {j : ℕ} (acc : Accepted s (suc j)) {outs order locations begins : List ℕ} {cell : ℕ} (st : AllocatedTo ver s j outs order locations begins cell) where
   -- there is room for one function more
   pub room-here : (cell + readCount s j ≤ referenceLimit) × (cell < 65536) × (j < functionLimit)
   room-here =

@@ -3,10 +3,12 @@ use Prim.Native.Nat.{ℕ, _+_, _*_, _≤_, _<_}
 use mathlib.Core.Path.{_≡_, refl, sym, ap, _∙_}
 use mathlib.Core.Bool.{true}
 use mathlib.Core.List.{List, [], _∷_}
+use mathlib.Core.Logic.{⊎-elim}
 use native.Mathlib.Omega.{arith}
 use lib.ListN.{length}
 use Rattle.base.specs.Bytes.{byte, u16}
 use Rattle.base.specs.Limits.{functionLimit}
+use Rattle.base.proofs.Numbers.{lt-or-le}
 use Rattle.ports.specs.declared.Ports.{Ports}
 use Rattle.ports.specs.Kinds.{kindOf}
 use Rattle.ports.specs.Ports.{widths, portsOf, calling}
@@ -141,3 +143,11 @@ node-units v early sound s k e located d n = by v (n .payload)
     by V2 (consts ws) = refl
     by V2 (refs rs) = refl
     by V2 (calls c rs) = ap (λ (fs : List Function). nameStep * instructionsOf fs c) e ∙ sym (summary-units V2 early sound c)
+
+-- what is held is exact where the function is within the limit
+pub held-exact : {v : Version} {s : List ℕ} {g x : ℕ} → Held v s g x → unitsAt v s g ≤ unitLimit v → scaled v x ≡ unitsAt v s g
+held-exact {v} {s} {g} {x} h l = ⊎-elim (λ a. absurd (let b = h .over a in omega arith)) (λ a. h .within a) (lt-or-le (heldLimit v) x)
+
+pub scaled-limit : (v : Version) (x : ℕ) → x ≤ heldLimit v → scaled v x ≤ unitLimit v
+scaled-limit V1 x l = l
+scaled-limit V2 x l = omega arith

@@ -142,7 +142,7 @@ returns c =
     let b = begin-of-outputs (c .before) in
     let e = entry-of-begin b in
     let v = c .before .before .before .allocate-nodes in
-    function-allocated (e .args .table .now) (e .args .k) (e .args .cell) (e .pre .0 .0) _ _ _ _ _ _ _ (v .result) (v .ensures) (place e) (count (b .before)) (begin b) (c .allocate-outputs .ensures) (e .pre .1 .1 .0)
+    function-allocated (e .args .version) (e .args .table .now) (e .args .k) (e .args .cell) (e .pre .0 .0) _ _ _ _ _ _ _ (v .result) (v .ensures) (place e) (count (b .before)) (begin b) (c .allocate-outputs .ensures) (e .pre .1 .1 .0)
 
 pub allocate-function-spec : {M : Type 1} → statement M
 allocate-function-spec =

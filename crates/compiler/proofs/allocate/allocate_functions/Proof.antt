@@ -10,10 +10,10 @@ use Rattle.compiler.proofs.allocate.allocate_functions.Statement.{state
 use Rattle.compiler.proofs.allocate.allocate_functions.Tie as tie
 
 abbrev Inv-loop : tie.InvT-loop
-Inv-loop table starts words k outs₀ order₀ locations₀ begins₀ cell₀ j₀ outs order locations begins cell j = (j ≤ k) × AllocatedTo table j outs order locations begins cell
+Inv-loop table starts version held k outs₀ order₀ locations₀ begins₀ cell₀ j₀ outs order locations begins cell j = (j ≤ k) × AllocatedTo version table j outs order locations begins cell
 
 abbrev μ-loop : tie.MeasureT-loop
-μ-loop table starts words k outs₀ order₀ locations₀ begins₀ cell₀ j₀ outs order locations begins cell j = k - j
+μ-loop table starts version held k outs₀ order₀ locations₀ begins₀ cell₀ j₀ outs order locations begins cell j = k - j
 
 -- ---- places: from one back to another
 
@@ -48,4 +48,4 @@ returns c = let z : c .before .before .before .args .k ≡ c .before .loop .j = 
 pub allocate-functions-spec : {M : Type 1} → statement M
 allocate-functions-spec =
     tie.close
-    (tie.spec Inv-loop μ-loop (λ c. (omega arith, allocated-none (c .before .pre .1))) allocate-next-requires add-j (λ c. search needs) loop-again returns)
+    (tie.spec Inv-loop μ-loop (λ c. (omega arith, allocated-none (c .before .args .version) (c .before .pre .1))) allocate-next-requires add-j (λ c. search needs) loop-again returns)

@@ -4,7 +4,7 @@ use mathlib.Core.Path.{_≡_, subst}
 use native.Mathlib.Omega.{arith}
 use lib.ListN.{length, replicate}
 use lib.Seq.{sets}
-use Rattle.base.specs.Limits.{nodeLimit, referenceLimit, wordLimit, addressLimit, functionLimit}
+use Rattle.base.specs.Limits.{nodeLimit, referenceLimit, addressLimit, functionLimit}
 use Rattle.graph.specs.Look.{reads}
 use Rattle.reader.specs.Layout.{nodeAt, nodesPlace, nodeCount}
 use Rattle.order.specs.Indices.{indexOrder}
@@ -12,7 +12,7 @@ use Rattle.reader.specs.Find.{ReadsNode}
 use Rattle.reader.proofs.Passed.{function-holds}
 use Rattle.reader.proofs.Walking.{Here, node-here, row-here}
 use Rattle.sums.specs.Position.{placeOf, Accepted}
-use Rattle.sums.specs.Capped.{addsWords}
+use Rattle.compiler.specs.Units.{addsUnits, unitLimit}
 use Rattle.resolver.specs.Slots.{PlacesAre}
 use Rattle.compiler.specs.Locating.{Slots}
 use Rattle.sums.proofs.Accepted.{few, read-below}
@@ -22,11 +22,11 @@ use Rattle.compiler.proofs.allocate.allocate_nodes.Statement.{statement
 use Rattle.compiler.proofs.allocate.allocate_nodes.Tie as tie
 
 abbrev Inv-loop : tie.InvT-loop
-Inv-loop table starts words outs targets places index k n order₀ locations₀ allocated₀ cell rows here₀ d₀ m₀ order locations allocated here d m =
-    (acc : Accepted table (suc k)) × State table k cell acc outs targets places index order₀ locations₀ order locations allocated here d m
+Inv-loop table starts version held outs targets places index k n order₀ locations₀ allocated₀ cell rows here₀ d₀ m₀ order locations allocated here d m =
+    (acc : Accepted table (suc k)) × State version table k cell acc outs targets places index order₀ locations₀ order locations allocated here d m
 
 abbrev μ-loop : tie.MeasureT-loop
-μ-loop table starts words outs targets places index k n order₀ locations₀ allocated₀ cell rows here₀ d₀ m₀ order locations allocated here d m = n - m
+μ-loop table starts version held outs targets places index k n order₀ locations₀ allocated₀ cell rows here₀ d₀ m₀ order locations allocated here d m = n - m
 
 -- ---- places: from each step of the loop's body back to the one before it
 
@@ -56,7 +56,7 @@ reads-of-node c = reads-of-allocated (c .before .before)
 
 -- ---- what is lent
 
-lent : (c : tie.Start Inv-loop μ-loop) → let a = c .args in Lent (a .table .now) (a .k) (a .cell) (a .outs .now) (a .targets .now) (a .places .now)
+lent : (c : tie.Start Inv-loop μ-loop) → let a = c .args in Lent (a .version) (a .table .now) (a .k) (a .cell) (a .outs .now) (a .targets .now) (a .places .now)
 lent c =
     let a = c .args in
     let s = a .table .now in
@@ -108,7 +108,7 @@ fits : (c : tie.After-wide32 Inv-loop μ-loop) →
     let a = entry-of-loop l .args in
     let s = a .table .now in
     let p = c .wide32 .result in
-    ReadsNode s p × (p < addressLimit) × (l .before .loop .here + length (reads (nodeAt s p)) ≤ referenceLimit) × (l .before .loop .d + addsWords s (a .k) (nodeAt s p) ≤ wordLimit)
+    ReadsNode s p × (p < addressLimit) × (l .before .loop .here + length (reads (nodeAt s p)) ≤ referenceLimit) × (l .before .loop .d + addsUnits (a .version) s (a .k) (nodeAt s p) ≤ unitLimit (a .version))
 fits c =
     let l = loop-of-place c in
     node-fits (lent (entry-of-loop l)) (l .before .loop .inv .1) (more l) (index-of-place c .wide16 .ensures .0) (c .wide32 .ensures .0)
