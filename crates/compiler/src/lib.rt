@@ -58,90 +58,97 @@ pub struct Reached {
 
 // ---- the whole
 
-// Writes the list of version 1 of the function at position k of an accepted table, which was found to be within the limits
-// and to fit the buffer. `held` has the words of the functions up to it.
-pub fn compile(
+// The locations of all functions up to position k of an accepted table, and the addresses of its inputs. `held` has the
+// words of these functions, or their instructions.
+pub fn prepare(
+    version: Version,
     table: &[u8],
     starts: &[usize; FUNCTION_LIMIT],
     held: &[u32; FUNCTION_LIMIT],
     k: usize,
+    outs: &mut [u16; OUTPUT_LIMIT],
+    order: &mut [u16; ORDER_LIMIT],
+    locations: &mut [u16; REFERENCE_LIMIT],
+    begins: &mut [u16; FUNCTION_LIMIT],
+    ins: &mut [u16; PORT_LIMIT],
+)
+    requires { ⌜ Accepted (now table) (suc k) × Started (now table) (now starts) (suc k) × AllHeld version (now table) (now held) (suc k) ⌝ }
+    requires { ⌜ (length (now outs) ≡ outputLimit) × (length (now order) ≡ orderLimit) × (length (now locations) ≡ referenceLimit) × (length (now begins) ≡ functionLimit) × (now ins ≡ replicate portLimit 0) ⌝ }
+    ensures { λ _. ⌜ Prepared version (now (table .entry)) k (now (outs .exit)) (now (order .exit)) (now (locations .exit)) (now (begins .exit)) (now (ins .exit)) ⌝ }
+{
+    let p = starts[k];
+    let n = wide(table[p + 2]);
+    let cell = allocate_functions(
+        table, starts, version, held, k, outs, order, locations, begins,
+    );
+    allocate_next(
+        table, starts, version, held, k, outs, order, locations, begins, cell,
+    );
+    match version {
+        Version::V1 => input_places(table, p + 6, n, ins),
+        Version::V2 => input_names(n, ins),
+    }
+}
+
+// Writes the list: header, instructions and output words.
+pub fn write(
+    pass: Pass,
+    table: &[u8],
+    starts: &[usize; FUNCTION_LIMIT],
+    k: usize,
     sizes: Sizes,
+    words: usize,
+    outs: &[u16; OUTPUT_LIMIT],
+    order: &[u16; ORDER_LIMIT],
+    locations: &[u16; REFERENCE_LIMIT],
+    begins: &[u16; FUNCTION_LIMIT],
+    ins: &[u16; PORT_LIMIT],
+    place: &mut [u16],
+    widths: &mut [u8],
     code: &mut [u8],
 )
-    requires { ⌜ Accepted (now table) (suc k) × Started (now table) (now starts) (suc k) × AllHeld V1 (now table) (now held) (suc k) ⌝ }
-    requires { ⌜ Measured (now table) k (sizes .instructions) (sizes .arguments) (sizes .outputs) × (length (codeAt (now table) k) ≤ length (now code)) ⌝ }
-    ensures { λ _. ⌜ now (code .exit) ≡ sets (now (code .entry)) 0 (codeAt (now (table .entry)) k) ⌝ }
+    requires { ⌜ Accepted (now table) (suc k) × Started (now table) (now starts) (suc k) × Prepared (namingOf pass) (now table) k (now outs) (now order) (now locations) (now begins) (now ins) ⌝ }
+    requires { ⌜ Measured (namingOf pass) (now table) k (sizes .instructions) (sizes .arguments) (sizes .outputs) × (words ≤ wordLimit) × (length (textOf pass (now place) (now table) k words) ≤ length (now code)) ⌝ }
+    ensures { λ _. ⌜ now (code .exit) ≡ sets (now (code .entry)) 0 (textOf pass (now (place .entry)) (now (table .entry)) k words) ⌝ }
 {
     let p = starts[k];
     let input_count = wide(table[p + 2]);
     let output_count = wide(table[p + 3]);
-    let count = sizes.instructions;
-    let inputs = sizes.arguments;
-    let outputs = sizes.outputs;
-    let all = inputs + wide32(held[k]);
-    let mut order = [0u16; ORDER_LIMIT];
-    let mut locations = [0u16; REFERENCE_LIMIT];
-    let mut outs = [0u16; OUTPUT_LIMIT];
-    let mut begins = [0u16; FUNCTION_LIMIT];
-    let mut ins = [0u16; PORT_LIMIT];
-    let mut no_places = [0u16; 1];
-    let mut no_widths = [0u8; 1];
-    let cell = allocate_functions(
-        table,
-        starts,
-        Version::V1,
-        held,
-        k,
-        &mut outs,
-        &mut order,
-        &mut locations,
-        &mut begins,
-    );
-    allocate_next(
-        table,
-        starts,
-        Version::V1,
-        held,
-        k,
-        &mut outs,
-        &mut order,
-        &mut locations,
-        &mut begins,
-        cell,
-    );
-    input_places(table, p + 6, input_count, &mut ins);
+    let first = first_by(pass, sizes.arguments, input_count);
     put_header(
         code,
-        1,
-        inputs as u8,
-        outputs as u8,
-        count as u16,
-        all as u16,
+        version_number(pass),
+        sizes.arguments as u8,
+        sizes.outputs as u8,
+        sizes.instructions as u16,
+        words as u16,
     );
     let r = walk(
-        Pass::Sequential,
+        pass,
         table,
         starts,
-        &begins,
-        &order,
-        &locations,
+        begins,
+        order,
+        locations,
         k,
-        &ins,
+        ins,
         input_count,
         code,
-        &mut no_places[0..0],
-        &mut no_widths[0..0],
+        place,
+        widths,
         HEADER_LENGTH,
-        inputs,
+        first,
     );
     put_outputs(
+        pass,
         table,
         p + 6 + input_count,
         output_count,
-        &outs,
+        outs,
         k,
-        &ins,
-        inputs,
+        ins,
+        first,
+        place,
         code,
         r.at,
     );
