@@ -107,16 +107,17 @@ module _ (place : List ℕ) (kind ty : ℕ) (xs ws : List ℕ) (next : ℕ) wher
       → (at + 4 + 2 * length xs + 8 * length ws ≤ length code) × (next + nameStep ≤ unitBound)
   placed-fits h = let a = placed-length in let c = h .room in let d = h .end in (omega arith, omega arith)
 
-  pub placed : {code code₁ code' wide : List ℕ} {at end cell m : ℕ} → code₁ ≡ sets code at (kind ∷ ty ∷ bytesOf 2 (relocate place next))
-      → code' ≡ sets code₁ (at + 4) (allBytes 2 (map (relocate place) xs) ++ allBytes 8 ws) → end ≡ at + 4 + 2 * length xs + 8 * length ws
+  pub placed : {code code₁ code' wide : List ℕ} {at from end cell m x : ℕ} → x ≡ relocate place next → code₁ ≡ sets code at (kind ∷ ty ∷ bytesOf 2 x) → from ≡ at + 4
+      → code' ≡ sets code₁ from (allBytes 2 (map (relocate place) xs) ++ allBytes 8 ws) → end ≡ from + 2 * length xs + 8 * length ws
       → Walks Addressed m code place wide code' place wide at (single (sizing V2) kind ty xs ws next) (record { at = end; next = next + nameStep; cell = cell })
-  placed {code} {at = at} e₁ e l =
+  placed {code} {code₁} {at = at} ex e₁ ef e l =
       let a = placed-length in
       let head = kind ∷ ty ∷ bytesOf 2 (relocate place next) in
       let body = allBytes 2 (map (relocate place) xs) ++ allBytes 8 ws in
       record {
         written =
-            e ∙ ap (λ (ys : List ℕ). sets ys (at + 4) body) e₁
+            e ∙ ap (λ (q : ℕ). sets code₁ q body) ef
+            ∙ ap (λ (ys : List ℕ). sets ys (at + 4) body) (e₁ ∙ ap (λ (y : ℕ). sets code at (kind ∷ ty ∷ bytesOf 2 y)) ex)
             ∙ sym (sets-append head body code at)
             ∙ ap (λ (ys : List ℕ). sets code at (head ++ ys)) (sym (append-nil body));
         noted = refl;
