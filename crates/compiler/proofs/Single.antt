@@ -31,7 +31,7 @@ use Rattle.lowering.specs.Compile.{Inlined, single, inlined}
 use Rattle.sums.specs.Position.{before}
 use Rattle.sums.proofs.CodeSizes.{single-length}
 use Rattle.compiler.specs.declared.Reached.{Reached}
-use Rattle.compiler.specs.Emit.{addressesIn, inlineWith, nodeInlined, relocate, bytesBy, noted, CodeRoom, Walks}
+use Rattle.compiler.specs.Emit.{addressesIn, inlineWith, nodeInlined, namingOf, relocate, bytesBy, noted, CodeRoom, Walks}
 use Rattle.compiler.proofs.References.{constant-is, references-are}
 use Rattle.bytecode.specs.declared.Version.{Version}
 use Rattle.bytecode.specs.declared.Version.the-variants.{V1, V2}
@@ -142,6 +142,25 @@ pub rows-finite : (m : Mat4) → Each Finite (wordsOf (Matrix m))
     → Each Finite (rowWords (m .r0)) × Each Finite (rowWords (m .r1)) × Each Finite (rowWords (m .r2)) × Each Finite (rowWords (m .r3))
 rows-finite m (a, (b, (c, (d, (e, (f, (g, (h, (i, (j, (k, (l, (n, (o, (p, (q, t)))))))))))))))) =
     ((a, (b, (c, (d, tt)))), (e, (f, (g, (h, tt)))), (i, (j, (k, (l, tt)))), (n, (o, (p, (q, tt)))))
+
+-- ---- by the pass
+
+-- a survey has room for the name
+pub survey-near : {code place : List ℕ} {at next : ℕ} (kind ty : ℕ) (xs ws : List ℕ) → CodeRoom Survey code place at next (single (sizing V2) kind ty xs ws next) → next ≤ unitBound
+survey-near kind ty xs ws h = let d = h .end in omega arith
+
+-- version 1 goes by no places
+pub no-places : {code place : List ℕ} {at next : ℕ} {o : Inlined} → CodeRoom Sequential code place at next o → CodeRoom Sequential code [] at next o
+no-places h = record { room = h .room; end = h .end; own = h .own }
+
+module _ {pass pass' : Pass} (e : pass ≡ pass') {code place : List ℕ} {at next : ℕ} (kind ty : ℕ) (xs ws : List ℕ) where
+  pub room-in : CodeRoom pass code place at next (single (sizing (namingOf pass)) kind ty xs ws next) → CodeRoom pass' code place at next (single (sizing (namingOf pass')) kind ty xs ws next)
+  room-in h = subst (λ (p : Pass). CodeRoom p code place at next (single (sizing (namingOf p)) kind ty xs ws next)) e h
+
+  pub walks-in : {m : ℕ} {wide code' place' wide' : List ℕ} {r : Reached} → Walks pass' m code place wide code' place' wide' at (single (sizing (namingOf pass')) kind ty xs ws next) r
+      → Walks pass m code place wide code' place' wide' at (single (sizing (namingOf pass)) kind ty xs ws next) r
+  walks-in {m} {wide} {code'} {place'} {wide'} {r} h =
+      subst (λ (p : Pass). Walks p m code place wide code' place' wide' at (single (sizing (namingOf p)) kind ty xs ws next) r) (sym e) h
 
 -- ---- what is walked over, by another name
 
