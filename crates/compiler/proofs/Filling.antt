@@ -75,11 +75,11 @@ outputs-next s allocated xs q {m} {j} h e = rw e (ap (λ (x : ℕ). outputCodes 
 
 -- ---- the places of values
 
--- a value past the end has none
+-- a value past the end of the list has the place 0
 pub unplaced : (place : List ℕ) (a : ℕ) → length place ≤ a / nameStep → a % nameStep ≡ relocate place a
 unplaced place a h = let z = List·getD-eq-default place 0 h in rw z (omega arith)
 
--- j of the n values have x
+-- the values of these names are to have x; those of the names left do not have it yet
 pub record Noting (place₀ : List ℕ) (x : ℕ) (names place left : List ℕ) : Type 0 where
   pub same : length place ≡ length place₀
   pub rest : noted place₀ x names ≡ noted place x left

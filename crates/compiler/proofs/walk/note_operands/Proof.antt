@@ -5,7 +5,7 @@ use mathlib.Core.Logic.{⊎-elim}
 use native.Mathlib.Omega.{arith}
 use lib.Seq.{set-out}
 use Rattle.base.proofs.Stores.{none-left}
-use Rattle.compiler.specs.Emit.{addressOf, addressesIn, noted}
+use Rattle.compiler.specs.Emit.{addressOf, addressesIn}
 use Rattle.compiler.proofs.Filling.{addresses-next, Noting, note-more, note-done}
 use Rattle.compiler.proofs.walk.note_operands.Statement.{statement}
 use Rattle.compiler.proofs.walk.note_operands.Tie as tie

@@ -48,7 +48,7 @@ returns c =
     let a = entry-of-place p .args in
     let l = d .put-constant .ensures .1 in (
       (λ m wide. placed (a .place .now) (a .kind) (a .ty) [] (wordsOf (a .v)) (a .next) (p .relocate .ensures) (h .put-addressed .ensures .0) (h .put-addressed .ensures .1)
-      (d .put-constant .ensures .0) (omega arith)),
+          (d .put-constant .ensures .0) (omega arith)),
       refl,
     )
 

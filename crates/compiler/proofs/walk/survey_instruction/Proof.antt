@@ -27,7 +27,7 @@ returns c =
     let w = words-of-number (o .before) in
     let a = entry-of-words w .args in (
       (λ code constants. surveyed (a .kind) (a .ty) (addressesIn (a .locations .now) (a .ins .now) (a .first) (a .cell) (a .n)) constants (w .before .ports-of .ensures) (w .result-words .ensures .0)
-      (o .before .reader-number .ensures) (o .note-operands .ensures) (d .note-width .ensures)),
+          (o .before .reader-number .ensures) (o .note-operands .ensures) (d .note-width .ensures)),
       refl,
     )
 
