@@ -1,12 +1,12 @@
 -- The loops that fill the layout's arrays, in plain terms.
-use Prim.Native.Nat.{ℕ, suc, _+_, _-_, _≤_, _<_}
+use Prim.Native.Nat.{ℕ, suc, _+_, _-_, _/_, _%_, _≤_, _<_}
 use mathlib.Core.Path.{_≡_, refl, sym, ap, _∙_, subst}
 use mathlib.Core.Bool.{Bool, true, false, cond}
-use mathlib.Core.List.{List, [], _∷_}
+use mathlib.Core.List.{List, [], _∷_, map}
 use mathlib.Core.Option.{some}
 use native.Mathlib.Omega.{arith}
 use lib.Dec.{eqb}
-use lib.ListN.{length, getD, replicate, length-replicate}
+use lib.ListN.{length, getD, set, replicate, length-set, length-replicate, List·getD-eq-default}
 use lib.Seq.{sets}
 use Rattle.base.specs.Limits.{nodeLimit, slotLimit, noNode}
 use Rattle.base.proofs.Numbers.{one-less}
@@ -21,7 +21,8 @@ use Rattle.reader.specs.declared.Found.the-variants.{At, Nothing}
 use Rattle.order.specs.Indices.{slot}
 use Rattle.order.specs.Resolve.{indexFrom, indexOf, target}
 use Rattle.sums.specs.Answers.{typesBy}
-use Rattle.compiler.specs.Emit.{addressOf, addressesIn}
+use Rattle.lowering.specs.Naming.{nameStep}
+use Rattle.compiler.specs.Emit.{addressOf, addressesIn, relocate, noted}
 use Rattle.compiler.specs.Locating.{Slots, portCode, readCodes, rebasedCode, rebasedCodes, resultCodes, outputCodes}
 use Rattle.resolver.specs.Slots.{rowsOf, placesOf, PlacesAre, nodesBy}
 use Rattle.resolver.proofs.ByPlaces.{all-by}
@@ -35,6 +36,13 @@ unfolding addressesIn
 addresses-next locations ins first b {n} {j} h e =
     let z : b + (j + 1) ≡ b + j + 1 = omega arith in
     rw (z, e) (ap (λ (m : ℕ). addressesIn locations ins first (b + j) m) (one-less n j h))
+
+-- by their places
+pub places-next : (place locations ins : List ℕ) (first b : ℕ) {n j a w x : ℕ} → j < n → a ≡ addressOf ins first (getD locations (b + j) 0) → w ≡ a → x ≡ relocate place w
+    → map (relocate place) (addressesIn locations ins first (b + j) (n - j)) ≡ x ∷ map (relocate place) (addressesIn locations ins first (b + (j + 1)) (n - (j + 1)))
+places-next place locations ins first b {n} {j} h e ew ex =
+    let tail = map (relocate place) (addressesIn locations ins first (b + (j + 1)) (n - (j + 1))) in
+    ap (map (relocate place)) (addresses-next locations ins first b h e) ∙ ap (λ (y : ℕ). y ∷ tail) (sym (ex ∙ ap (relocate place) ew))
 
 pub span-next : (a : ℕ) {n j : ℕ} → j < n → span (a + j) (n - j) ≡ (a + j) ∷ span (a + (j + 1)) (n - (j + 1))
 span-next a {n} {j} h = let z : a + (j + 1) ≡ suc (a + j) = omega arith in rw z (ap (span (a + j)) (one-less n j h))
@@ -64,6 +72,26 @@ pub outputs-next : (s allocated : List ℕ) (xs : List Node) (q : ℕ) {m j a : 
     → outputCodes s allocated xs (m - j) q ≡ a ∷ outputCodes s allocated xs (m - (j + 1)) (q + 4)
 unfolding outputCodes
 outputs-next s allocated xs q {m} {j} h e = rw e (ap (λ (x : ℕ). outputCodes s allocated xs x q) (one-less m j h))
+
+-- ---- the places of values
+
+-- a value past the end of the list has the place 0
+pub unplaced : (place : List ℕ) (a : ℕ) → length place ≤ a / nameStep → a % nameStep ≡ relocate place a
+unplaced place a h = let z = List·getD-eq-default place 0 h in rw z (omega arith)
+
+-- the values of these names are to have x; those of the names left do not have it yet
+pub record Noting (place₀ : List ℕ) (x : ℕ) (names place left : List ℕ) : Type 0 where
+  pub same : length place ≡ length place₀
+  pub rest : noted place₀ x names ≡ noted place x left
+
+module _ {place₀ : List ℕ} {x : ℕ} {names place left : List ℕ} (h : Noting place₀ x names place left) where
+  pub note-more : {a v : ℕ} {place' left' : List ℕ} → left ≡ a ∷ left' → v ≡ a → place' ≡ set place (v / nameStep) x → Noting place₀ x names place' left'
+  note-more {a} {v} {place'} {left'} el ev ep =
+      let e : place' ≡ set place (a / nameStep) x = ep ∙ ap (λ (y : ℕ). set place (y / nameStep) x) ev in
+      record { same = ap length e ∙ length-set place (a / nameStep) x ∙ h .same; rest = h .rest ∙ ap (noted place x) el ∙ ap (λ (ps : List ℕ). noted ps x left') (sym e) }
+
+  pub note-done : left ≡ [] → place ≡ noted place₀ x names
+  note-done e = sym (h .rest ∙ ap (noted place x) e)
 
 -- ---- the index of an id
 

@@ -18,7 +18,7 @@ use Rattle.graph.proofs.Formed.{refs-length}
 use Rattle.reader.specs.Layout.{kindAt, nodeAt, functionAt, earlier}
 use Rattle.lowering.specs.Compile.{Written, portsAt, address, Inlined, Inline, single, inlineNode, Body, also, behind, inlineNodes, inlineFunction, inlined}
 use Rattle.sums.specs.Position.{placeOf, functionIn, before, positionOf}
-use Rattle.compiler.specs.Emit.{addressesIn, inlineWith, nodeInlined, functionInlined}
+use Rattle.compiler.specs.Emit.{addressesIn, inlineWith, nodeInlined, functionInlined, Walks}
 use Rattle.base.proofs.Stores.{sets-in, sets-above}
 use Rattle.sums.proofs.Nodes.{call-payload}
 use Rattle.sums.proofs.Positions.{at-position, no-position}
@@ -27,6 +27,8 @@ use Rattle.compiler.proofs.Single.{addresses-length}
 use Rattle.base.specs.Limits.{functionLimit}
 use Rattle.bytecode.specs.declared.Version.{Version}
 use Rattle.lowering.specs.Naming.{sizing}
+use Rattle.compiler.specs.declared.Pass.{Pass}
+use Rattle.compiler.specs.declared.Pass.the-variants.{Survey, Sequential, Addressed}
 
 -- ---- addresses that are the same at every port
 
@@ -88,6 +90,11 @@ open-with ver go from next n (calls c rs) xs e = ap (λ (ys : List ℕ). go c ys
 
 abbrev pub nothing : ℕ → Inlined
 nothing next = record { code = []; next = next; ports = [] }
+
+pub nothing-walks : (pass : Pass) {m : ℕ} {code place wide : List ℕ} {at next cell : ℕ} → Walks pass m code place wide code place wide at (nothing next) (record { at = at; next = next; cell = cell })
+nothing-walks Survey = record { written = refl; noted = refl; measured = refl; end = omega arith; next = refl }
+nothing-walks Sequential = record { written = refl; noted = refl; measured = refl; end = omega arith; next = refl }
+nothing-walks Addressed = record { written = refl; noted = refl; measured = refl; end = omega arith; next = refl }
 
 module _ (ver : Version) (s : List ℕ) (ins : List ℕ) (next : ℕ) where
   inlined-nil : (c : ℕ) → inlined (sizing ver) [] c ins next ≡ nothing next

@@ -31,7 +31,7 @@ use Rattle.lowering.specs.Compile.{Inlined, single, inlined}
 use Rattle.sums.specs.Position.{before}
 use Rattle.sums.proofs.CodeSizes.{single-length}
 use Rattle.compiler.specs.declared.Reached.{Reached}
-use Rattle.compiler.specs.Emit.{addressesIn, inlineWith, nodeInlined, relocate, bytesBy, noted, CodeRoom, Walks}
+use Rattle.compiler.specs.Emit.{addressesIn, inlineWith, nodeInlined, namingOf, relocate, bytesBy, noted, CodeRoom, Walks}
 use Rattle.compiler.proofs.References.{constant-is, references-are}
 use Rattle.bytecode.specs.declared.Version.{Version}
 use Rattle.bytecode.specs.declared.Version.the-variants.{V1, V2}
@@ -107,16 +107,17 @@ module _ (place : List ℕ) (kind ty : ℕ) (xs ws : List ℕ) (next : ℕ) wher
       → (at + 4 + 2 * length xs + 8 * length ws ≤ length code) × (next + nameStep ≤ unitBound)
   placed-fits h = let a = placed-length in let c = h .room in let d = h .end in (omega arith, omega arith)
 
-  pub placed : {code code₁ code' wide : List ℕ} {at end cell m : ℕ} → code₁ ≡ sets code at (kind ∷ ty ∷ bytesOf 2 (relocate place next))
-      → code' ≡ sets code₁ (at + 4) (allBytes 2 (map (relocate place) xs) ++ allBytes 8 ws) → end ≡ at + 4 + 2 * length xs + 8 * length ws
+  pub placed : {code code₁ code' wide : List ℕ} {at from end cell m x : ℕ} → x ≡ relocate place next → code₁ ≡ sets code at (kind ∷ ty ∷ bytesOf 2 x) → from ≡ at + 4
+      → code' ≡ sets code₁ from (allBytes 2 (map (relocate place) xs) ++ allBytes 8 ws) → end ≡ from + 2 * length xs + 8 * length ws
       → Walks Addressed m code place wide code' place wide at (single (sizing V2) kind ty xs ws next) (record { at = end; next = next + nameStep; cell = cell })
-  placed {code} {at = at} e₁ e l =
+  placed {code} {code₁} {at = at} ex e₁ ef e l =
       let a = placed-length in
       let head = kind ∷ ty ∷ bytesOf 2 (relocate place next) in
       let body = allBytes 2 (map (relocate place) xs) ++ allBytes 8 ws in
       record {
         written =
-            e ∙ ap (λ (ys : List ℕ). sets ys (at + 4) body) e₁
+            e ∙ ap (λ (q : ℕ). sets code₁ q body) ef
+            ∙ ap (λ (ys : List ℕ). sets ys (at + 4) body) (e₁ ∙ ap (λ (y : ℕ). sets code at (kind ∷ ty ∷ bytesOf 2 y)) ex)
             ∙ sym (sets-append head body code at)
             ∙ ap (λ (ys : List ℕ). sets code at (head ++ ys)) (sym (append-nil body));
         noted = refl;
@@ -141,6 +142,25 @@ pub rows-finite : (m : Mat4) → Each Finite (wordsOf (Matrix m))
     → Each Finite (rowWords (m .r0)) × Each Finite (rowWords (m .r1)) × Each Finite (rowWords (m .r2)) × Each Finite (rowWords (m .r3))
 rows-finite m (a, (b, (c, (d, (e, (f, (g, (h, (i, (j, (k, (l, (n, (o, (p, (q, t)))))))))))))))) =
     ((a, (b, (c, (d, tt)))), (e, (f, (g, (h, tt)))), (i, (j, (k, (l, tt)))), (n, (o, (p, (q, tt)))))
+
+-- ---- by the pass
+
+-- a survey has room for the name
+pub survey-near : {code place : List ℕ} {at next : ℕ} (kind ty : ℕ) (xs ws : List ℕ) → CodeRoom Survey code place at next (single (sizing V2) kind ty xs ws next) → next ≤ unitBound
+survey-near kind ty xs ws h = let d = h .end in omega arith
+
+-- version 1 goes by no places
+pub no-places : {code place : List ℕ} {at next : ℕ} {o : Inlined} → CodeRoom Sequential code place at next o → CodeRoom Sequential code [] at next o
+no-places h = record { room = h .room; end = h .end; own = h .own }
+
+module _ {pass pass' : Pass} (e : pass ≡ pass') {code place : List ℕ} {at next : ℕ} (kind ty : ℕ) (xs ws : List ℕ) where
+  pub room-in : CodeRoom pass code place at next (single (sizing (namingOf pass)) kind ty xs ws next) → CodeRoom pass' code place at next (single (sizing (namingOf pass')) kind ty xs ws next)
+  room-in h = subst (λ (p : Pass). CodeRoom p code place at next (single (sizing (namingOf p)) kind ty xs ws next)) e h
+
+  pub walks-in : {m : ℕ} {wide code' place' wide' : List ℕ} {r : Reached} → Walks pass' m code place wide code' place' wide' at (single (sizing (namingOf pass')) kind ty xs ws next) r
+      → Walks pass m code place wide code' place' wide' at (single (sizing (namingOf pass)) kind ty xs ws next) r
+  walks-in {m} {wide} {code'} {place'} {wide'} {r} h =
+      subst (λ (p : Pass). Walks p m code place wide code' place' wide' at (single (sizing (namingOf p)) kind ty xs ws next) r) (sym e) h
 
 -- ---- what is walked over, by another name
 

@@ -1,89 +1,56 @@
+use borrow.Author.Needs.{needs}
+use Prim.Native.Nat.{_+_, _-_, _≤_}
+use mathlib.Core.Path.{_≡_, refl, sym, _∙_, ap}
+use mathlib.Core.Logic.{⊎-elim}
+use native.Mathlib.Omega.{arith}
+use lib.Seq.{set-out}
+use Rattle.base.proofs.Stores.{none-left}
+use Rattle.compiler.specs.Emit.{addressOf, addressesIn}
+use Rattle.compiler.proofs.Filling.{addresses-next, Noting, note-more, note-done}
 use Rattle.compiler.proofs.walk.note_operands.Statement.{statement}
 use Rattle.compiler.proofs.walk.note_operands.Tie as tie
-use Rattle.compiler.proofs.walk.note_operands.Reads as reads
-use Rattle.compiler.proofs.walk.note_operands.Lts as lts
-use Rattle.base.proofs.wide16.Reads as wide16-reads
-use Rattle.compiler.proofs.walk.address.Reads as address-reads
 
 abbrev Inv-loop : tie.InvT-loop
-Inv-loop locations cell n ins first place₀ x j₀ place j = ?
+Inv-loop locations cell n ins first place₀ x j₀ place j =
+    (j ≤ n) × Noting place₀ x (addressesIn locations ins first cell n) place (addressesIn locations ins first (cell + j) (n - j))
 
 abbrev μ-loop : tie.MeasureT-loop
-μ-loop locations cell n ins first place₀ x j₀ place j = ?
+μ-loop locations cell n ins first place₀ x j₀ place j = n - j
 
--- src/walk.rt:124:5
+-- ---- places: from one back to another
+
+abbrev entry-of-loop : tie.In-loop Inv-loop μ-loop → tie.Start Inv-loop μ-loop
+entry-of-loop c = c .before .before .before
+
+abbrev loop-of-address : tie.After-address Inv-loop μ-loop → tie.In-loop Inv-loop μ-loop
+loop-of-address c = c .before .before .before
+
 loop-holds : tie.Need-loop-holds Inv-loop μ-loop
-loop-holds c = ?
+loop-holds c =
+    let a = c .before .args in
+    let z : a .n - 0 ≡ a .n = omega arith in
+    let y : a .cell + 0 ≡ a .cell = omega arith in
+    (omega arith, record { same = refl; rest = rw (z, y) })
 
--- src/walk.rt:125:61
-add-wide16 : tie.Need-add-wide16 Inv-loop μ-loop
-add-wide16 c = ?
-
--- src/walk.rt:125:51
-mul-wide16 : tie.Need-mul-wide16 Inv-loop μ-loop
-mul-wide16 c = ?
-
--- src/walk.rt:125:51
-element-copy-out-wide16 : tie.Need-element-copy-out-wide16 Inv-loop μ-loop
-element-copy-out-wide16 c = ?
-
--- src/walk.rt:125:44
-wide16-requires : tie.Need-wide16-requires Inv-loop μ-loop
-wide16-requires c κs = ?
-
--- src/walk.rt:125:24
-address-requires : tie.Need-address-requires Inv-loop μ-loop
-address-requires c κs = ?
-
--- src/walk.rt:125:17
-wide16-requires-2 : tie.Need-wide16-requires-2 Inv-loop μ-loop
-wide16-requires-2 c κs = ?
-
--- src/walk.rt:127:13
-mul-place : tie.Need-mul-place Inv-loop μ-loop
-mul-place c = ?
-
--- src/walk.rt:127:13
-slice-write-place : tie.Need-slice-write-place Inv-loop μ-loop
-slice-write-place c = ?
-
--- src/walk.rt:129:9
-add-j : tie.Need-add-j Inv-loop μ-loop
-add-j c = ?
-
--- src/walk.rt:124:5
-loop-less : tie.Need-loop-less Inv-loop μ-loop
-loop-less c = ?
-
--- src/walk.rt:124:5
 loop-again : tie.Need-loop-again Inv-loop μ-loop
-loop-again c = ?
+loop-again c =
+    let w = c .before in
+    let d = w .before in
+    let l = loop-of-address d in
+    let a = entry-of-loop l .args in
+    let e = addresses-next (a .locations .now) (a .ins .now) (a .first) (a .cell) (l .loop-test .taken) (d .address .ensures ∙ ap (addressOf (a .ins .now) (a .first)) (d .before .wide16 .ensures .0)) in
+    (omega arith, note-more (l .before .loop .inv .1) e (w .wide162 .ensures .0) (⊎-elim (λ h. h .1) (λ h. h .1 ∙ sym (set-out _ _ _ (h .0 .left))) (c .if1 .came)))
 
--- src/walk.rt:111:1
-same-length : tie.Need-same-length Inv-loop μ-loop
-same-length c = ?
-
--- src/walk.rt:111:1
 returns : tie.Need-returns Inv-loop μ-loop
-returns c = ?
+unfolding addressesIn
+returns c =
+    let a = c .before .before .before .args in
+    let l = c .before .loop in
+    note-done (l .inv .1) (none-left (addressesIn (a .locations .now) (a .ins .now) (a .first) (a .cell + l .j)) (c .loop-test .left) refl)
 
 pub note-operands-spec : {M : Type 1} → statement M
 note-operands-spec =
     tie.close
-    (tie.spec
-    Inv-loop
-    μ-loop
-    loop-holds
-    add-wide16
-    mul-wide16
-    element-copy-out-wide16
-    wide16-requires
-    address-requires
-    wide16-requires-2
-    mul-place
-    slice-write-place
-    add-j
-    loop-less
-    loop-again
-    same-length
-    returns)
+    (tie.spec Inv-loop μ-loop loop-holds (λ c. search needs) (λ c. search needs) (λ c. search needs) (λ c κs. search needs)
+    (λ c κs. (entry-of-loop (c .before .before) .pre .0, c .wide16 .ensures .1))
+    (λ c κs. search needs) (λ c. search needs) (λ c. search needs) (λ c. search needs) (λ c. search needs) loop-again (λ c. c .before .loop .inv .1 .same) returns)

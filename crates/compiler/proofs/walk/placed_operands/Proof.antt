@@ -1,101 +1,68 @@
+use borrow.Author.Needs.{needs}
+use Prim.Native.Nat.{_+_, _-_, _*_, _≤_}
+use mathlib.Core.Path.{_≡_, refl, _∙_, ap}
+use mathlib.Core.List.{map}
+use native.Mathlib.Omega.{arith}
+use Rattle.base.proofs.Stores.{Run, run-start, run-more, run-done, none-left}
+use Rattle.base.specs.Bytes.{allBytes, bytesOf}
+use Rattle.compiler.specs.Emit.{addressOf, addressesIn, relocate}
+use Rattle.compiler.proofs.Filling.{places-next}
 use Rattle.compiler.proofs.walk.placed_operands.Statement.{statement}
 use Rattle.compiler.proofs.walk.placed_operands.Tie as tie
-use Rattle.compiler.proofs.walk.placed_operands.Reads as reads
-use Rattle.compiler.proofs.walk.placed_operands.Lts as lts
-use Rattle.base.proofs.put16.Reads as put16-reads
-use Rattle.base.proofs.wide16.Reads as wide16-reads
-use Rattle.compiler.proofs.walk.address.Reads as address-reads
-use Rattle.compiler.proofs.walk.relocate.Reads as relocate-reads
 
 abbrev Inv-loop : tie.InvT-loop
-Inv-loop locations cell n ins first place code₀ at j₀ code j = ?
+Inv-loop locations cell n ins first place code₀ at j₀ code j =
+    (j ≤ n)
+    × Run (allBytes 2 (map (relocate place) (addressesIn locations ins first cell n))) code₀ at code (at + 2 * j)
+    (allBytes 2 (map (relocate place) (addressesIn locations ins first (cell + j) (n - j))))
 
 abbrev μ-loop : tie.MeasureT-loop
-μ-loop locations cell n ins first place code₀ at j₀ code j = ?
+μ-loop locations cell n ins first place code₀ at j₀ code j = n - j
 
--- src/walk.rt:103:5
+-- ---- places: from one back to another
+
+abbrev entry-of-loop : tie.In-loop Inv-loop μ-loop → tie.Start Inv-loop μ-loop
+entry-of-loop c = c .before .before .before .before
+
+abbrev loop-of-address : tie.After-address Inv-loop μ-loop → tie.In-loop Inv-loop μ-loop
+loop-of-address c = c .before .before .before
+
+abbrev address-of-place : tie.After-relocate Inv-loop μ-loop → tie.After-address Inv-loop μ-loop
+address-of-place c = c .before .before .before
+
+abbrev place-of-end : tie.After-slice-known2 Inv-loop μ-loop → tie.After-relocate Inv-loop μ-loop
+place-of-end c = c .before .before .before
+
 loop-holds : tie.Need-loop-holds Inv-loop μ-loop
-loop-holds c = ?
+loop-holds c =
+    let a = c .before .before .args in
+    let z : a .n - 0 ≡ a .n = omega arith in
+    let y : a .cell + 0 ≡ a .cell = omega arith in
+    (omega arith, run-start (omega arith) (rw (z, y)))
 
--- src/walk.rt:104:61
-add-wide16 : tie.Need-add-wide16 Inv-loop μ-loop
-add-wide16 c = ?
-
--- src/walk.rt:104:51
-mul-wide16 : tie.Need-mul-wide16 Inv-loop μ-loop
-mul-wide16 c = ?
-
--- src/walk.rt:104:51
-element-copy-out-wide16 : tie.Need-element-copy-out-wide16 Inv-loop μ-loop
-element-copy-out-wide16 c = ?
-
--- src/walk.rt:104:44
-wide16-requires : tie.Need-wide16-requires Inv-loop μ-loop
-wide16-requires c κs = ?
-
--- src/walk.rt:104:24
-address-requires : tie.Need-address-requires Inv-loop μ-loop
-address-requires c κs = ?
-
--- src/walk.rt:104:13
-wide16-requires-2 : tie.Need-wide16-requires-2 Inv-loop μ-loop
-wide16-requires-2 c κs = ?
-
--- src/walk.rt:105:26
-mul-put16 : tie.Need-mul-put16 Inv-loop μ-loop
-mul-put16 c = ?
-
--- src/walk.rt:105:21
-add-put16 : tie.Need-add-put16 Inv-loop μ-loop
-add-put16 c = ?
-
--- src/walk.rt:105:33
-relocate-requires : tie.Need-relocate-requires Inv-loop μ-loop
-relocate-requires c κs = ?
-
--- src/walk.rt:105:9
-put16-requires : tie.Need-put16-requires Inv-loop μ-loop
-put16-requires c κs = ?
-
--- src/walk.rt:106:9
-add-j : tie.Need-add-j Inv-loop μ-loop
-add-j c = ?
-
--- src/walk.rt:103:5
-loop-less : tie.Need-loop-less Inv-loop μ-loop
-loop-less c = ?
-
--- src/walk.rt:103:5
 loop-again : tie.Need-loop-again Inv-loop μ-loop
-loop-again c = ?
+loop-again c =
+    let p = place-of-end c in
+    let d = address-of-place p in
+    let l = loop-of-address d in
+    let a = entry-of-loop l .args in
+    let e =
+    places-next (a .place .now) (a .locations .now) (a .ins .now) (a .first) (a .cell) (l .loop-test .taken) (d .address .ensures ∙ ap (addressOf (a .ins .now) (a .first)) (d .before .wide16 .ensures .0))
+    (p .before .before .wide162 .ensures .0) (p .relocate .ensures) in
+    (omega arith, run-more (l .before .loop .inv .1) (bytesOf 2 (p .relocate .result)) (ap (allBytes 2) e) (c .before .before .put16 .ensures) (omega arith))
 
--- src/walk.rt:88:1
-same-length : tie.Need-same-length Inv-loop μ-loop
-same-length c = ?
-
--- src/walk.rt:88:1
 returns : tie.Need-returns Inv-loop μ-loop
-returns c = ?
+unfolding addressesIn
+returns c =
+    let a = c .before .before .before .before .args in
+    let l = c .before .loop in
+    run-done (l .inv .1)
+    (none-left (λ m. allBytes 2 (map (relocate (a .place .now)) (addressesIn (a .locations .now) (a .ins .now) (a .first) (a .cell + l .j) m))) (c .loop-test .left) refl)
 
 pub placed-operands-spec : {M : Type 1} → statement M
 placed-operands-spec =
     tie.close
-    (tie.spec
-    Inv-loop
-    μ-loop
-    loop-holds
-    add-wide16
-    mul-wide16
-    element-copy-out-wide16
-    wide16-requires
-    address-requires
-    wide16-requires-2
-    mul-put16
-    add-put16
-    relocate-requires
-    put16-requires
-    add-j
-    loop-less
-    loop-again
-    same-length
-    returns)
+    (tie.spec Inv-loop μ-loop loop-holds (λ c. search needs) (λ c. search needs) (λ c. search needs) (λ c κs. search needs)
+    (λ c κs. (entry-of-loop (c .before .before) .pre .0, c .wide16 .ensures .1))
+    (λ c κs. search needs) (λ c. search needs) (λ c. search needs) (λ c κs. search needs) (λ c κs. search needs) (λ c. search needs) (λ c. search needs) loop-again
+    (λ c. c .before .loop .inv .1 .same) returns)

@@ -1,51 +1,34 @@
 use borrow.Author.Needs.{needs}
+use mathlib.Core.Path.{refl, _∙_}
+use native.Mathlib.Omega.{arith}
+use native.Mathlib.Numerals.{add-one, add-two}
+use lib.ListN.{length-set}
+use Rattle.compiler.proofs.Single.{head-length}
 use Rattle.compiler.proofs.walk.put_addressed.Statement.{statement}
 use Rattle.compiler.proofs.walk.put_addressed.Tie as tie
-use Rattle.compiler.proofs.walk.put_addressed.Reads as reads
-use Rattle.compiler.proofs.walk.put_addressed.Lts as lts
-use Rattle.base.proofs.put16.Reads as put16-reads
 
--- src/walk.rt:179:5
-slice-write-code : tie.Need-slice-write-code
-slice-write-code c = search needs
+-- ---- places: from one back to another
 
--- src/walk.rt:180:10
-add-code : tie.Need-add-code
-add-code c = search needs
+abbrev put-of-end : tie.After-slice-known2 → tie.After-put16
+put-of-end c = c .before .before
 
--- src/walk.rt:180:5
-slice-write-code-2 : tie.Need-slice-write-code-2
-slice-write-code-2 c = ?
+abbrev entry-of-put : tie.After-put16-arg → tie.Start
+entry-of-put c = c .before .before
 
--- src/walk.rt:181:17
-add-put16 : tie.Need-add-put16
-add-put16 c = search needs
-
--- src/walk.rt:181:5
 put16-requires : tie.Need-put16-requires
-put16-requires c κs = ?
+put16-requires c κs = let h = entry-of-put c .pre in simp length-set (omega arith)
 
--- src/walk.rt:182:5
-add-result : tie.Need-add-result
-add-result c = search needs
-
--- src/walk.rt:175:1
 same-length : tie.Need-same-length
-same-length c = ?
+same-length c =
+    let d = put-of-end c in
+    let a = entry-of-put (d .before) .args in
+    d .put16 .kept .0 ∙ head-length (a .code .now) (a .at) (a .kind) (a .ty)
 
--- src/walk.rt:175:1
 returns : tie.Need-returns
-returns c = ?
+returns c = (put-of-end c .put16 .ensures ∙ rw (add-one, add-two), refl)
 
 pub put-addressed-spec : {M : Type 1} → statement M
 put-addressed-spec =
     tie.close
-    (tie.spec
-    slice-write-code
-    add-code
-    slice-write-code-2
-    add-put16
-    put16-requires
-    add-result
-    same-length
-    returns)
+    (tie.spec (λ c. search needs) (λ c. search needs) (λ c. let h = c .before .pre in simp length-set (omega arith))
+    (λ c. search needs) put16-requires (λ c. search needs) same-length returns)

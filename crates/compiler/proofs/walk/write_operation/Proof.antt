@@ -1,4 +1,4 @@
--- `emit::emit_operation`: the head, then the addresses of the operands.
+-- `walk::write_operation`: the head, then the addresses of the operands.
 use borrow.Author.Needs.{needs}
 use mathlib.Core.Path.{_≡_, refl, sym, ap, _∙_}
 use mathlib.Core.List.{List, [], append-nil}
@@ -7,11 +7,11 @@ use native.Mathlib.Omega.{arith}
 use lib.ListN.{length, set, length-set}
 use lib.Seq.{sets}
 use Rattle.base.specs.Bytes.{allBytes}
-use Rattle.base.specs.Limits.{wordLimit}
+use Rattle.compiler.specs.Units.{unitBound}
 use Rattle.compiler.specs.Emit.{addressesIn}
 use Rattle.compiler.proofs.Single.{addresses-length, single-fits, emitted, head-length}
-use Rattle.compiler.proofs.walk.emit_operation.Statement.{statement}
-use Rattle.compiler.proofs.walk.emit_operation.Tie as tie
+use Rattle.compiler.proofs.walk.write_operation.Statement.{statement}
+use Rattle.compiler.proofs.walk.write_operation.Tie as tie
 
 -- ---- places: from one back to another
 
@@ -33,7 +33,7 @@ read-length c = let a = entry-of-words c .args in addresses-length (a .locations
 
 fits : (c : tie.After-result-words) →
     let a = entry-of-words c .args in
-    (a .at + 2 + 2 * a .n ≤ length (a .code .now)) × (a .next + c .result-words .result ≤ wordLimit)
+    (a .at + 2 + 2 * a .n ≤ length (a .code .now)) × (a .next + c .result-words .result ≤ unitBound)
 fits c =
     let b = entry-of-words c in
     let l = read-length c in
@@ -57,10 +57,10 @@ returns c =
     let a = entry-of-words w .args in
     let l = read-length w in
     let stored = operands-of-end c .operands .ensures ∙ ap (sets (set (set (a .code .now) (a .at) (a .kind)) (a .at + 1) (a .ty)) (a .at + 2)) (sym (append-nil (allBytes 2 (read w)))) in
-    (emitted (a .kind) (a .ty) (read w) [] (w .before .ports-of .ensures) (w .result-words .ensures .0) stored (omega arith), refl)
+    ((λ m place wide. emitted (a .kind) (a .ty) (read w) [] (w .before .ports-of .ensures) (w .result-words .ensures .0) stored (omega arith)), refl)
 
-pub emit-operation-spec : {M : Type 1} → statement M
-emit-operation-spec =
+pub write-operation-spec : {M : Type 1} → statement M
+write-operation-spec =
     tie.close
     (tie.spec (λ c κs. search needs) (λ c κs. search needs) (λ c. let (x, y) = fits c in omega arith) (λ c. search needs) (λ c. let (x, y) = fits c in simp length-set (omega arith))
     (λ c. search needs) operands-requires (λ c. search needs) (λ c. search needs) (λ c. search needs) (λ c. let (x, y) = fits (words-of-end c) in omega arith) (λ c. search needs) same-length returns)
