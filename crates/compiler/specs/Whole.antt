@@ -33,9 +33,12 @@ abbrev pub inputsBy : Version → List ℕ → List ℕ
 inputsBy V1 ts = places 0 ts
 inputsBy V2 ts = names 0 (length ts)
 
+abbrev pub firstBehind : Version → ℕ → ℕ → ℕ
+firstBehind V1 words n = words
+firstBehind V2 words n = nameStep * n
+
 abbrev pub firstBy : Version → List ℕ → ℕ
-firstBy V1 ts = widths ts
-firstBy V2 ts = nameStep * length ts
+firstBy v ts = firstBehind v (widths ts) (length ts)
 
 -- the instructions of the function at position k, and where its outputs stand
 unfoldable pub inlinedAt : Version → List ℕ → ℕ → Inlined

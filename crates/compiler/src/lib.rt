@@ -1,14 +1,18 @@
 // The compiler: from a table and a function to the board list.
 ghost use mathlib.Core.Path.{_≡_};
 ghost use Prim.Native.Nat.{suc, _≤_};
-ghost use lib.ListN.{length};
+ghost use lib.ListN.{length, replicate};
 ghost use lib.Seq.{sets};
-ghost use Rattle.compiler.specs.Whole.{codeAt, Measured};
+ghost use Rattle.base.specs.Limits.{functionLimit, portLimit, referenceLimit, wordLimit};
+ghost use Rattle.bytecode.specs.Version.{number};
 ghost use Rattle.sums.specs.Position.{Accepted, Started};
-ghost use Rattle.bytecode.specs.declared.Version.the-variants.{V1};
+ghost use Rattle.compiler.specs.Sizes.{orderLimit, outputLimit};
 ghost use Rattle.compiler.specs.Units.{AllHeld};
+ghost use Rattle.compiler.specs.Emit.{namingOf};
+ghost use Rattle.compiler.specs.Whole.{firstBehind, textOf, Measured, Prepared};
 use allocate::allocate_functions;
 use allocate::allocate_next;
+use assemble::input_names;
 use assemble::input_places;
 use assemble::put_header;
 use assemble::put_outputs;
@@ -18,7 +22,6 @@ use base::NODE_LIMIT;
 use base::PORT_LIMIT;
 use base::REFERENCE_LIMIT;
 use base::wide;
-use base::wide32;
 use bytecode::Version;
 use sums::Sizes;
 use walk::walk;
@@ -58,6 +61,29 @@ pub struct Reached {
 
 // ---- the whole
 
+// The number of the version that a pass writes.
+fn version_number(pass: Pass) -> u8
+    ensures { λ r. ⌜ r ≡ number (namingOf pass) ⌝ }
+{
+    match pass {
+        Pass::Survey => 2,
+        Pass::Sequential => 1,
+        Pass::Addressed => 2,
+    }
+}
+
+// The first address behind n inputs of so many words.
+fn first_behind(pass: Pass, words: usize, n: usize) -> usize
+    requires { ⌜ n ≤ portLimit ⌝ }
+    ensures { λ r. ⌜ r ≡ firstBehind (namingOf pass) words n ⌝ }
+{
+    match pass {
+        Pass::Survey => NAME_STEP * n,
+        Pass::Sequential => words,
+        Pass::Addressed => NAME_STEP * n,
+    }
+}
+
 // The locations of all functions up to position k of an accepted table, and the addresses of its inputs. `held` has the
 // words of these functions, or their instructions.
 pub fn prepare(
@@ -79,10 +105,27 @@ pub fn prepare(
     let p = starts[k];
     let n = wide(table[p + 2]);
     let cell = allocate_functions(
-        table, starts, version, held, k, outs, order, locations, begins,
+        table,
+        starts,
+        version,
+        held,
+        k,
+        outs,
+        order,
+        locations,
+        begins,
     );
     allocate_next(
-        table, starts, version, held, k, outs, order, locations, begins, cell,
+        table,
+        starts,
+        version,
+        held,
+        k,
+        outs,
+        order,
+        locations,
+        begins,
+        cell,
     );
     match version {
         Version::V1 => input_places(table, p + 6, n, ins),
@@ -114,7 +157,7 @@ pub fn write(
     let p = starts[k];
     let input_count = wide(table[p + 2]);
     let output_count = wide(table[p + 3]);
-    let first = first_by(pass, sizes.arguments, input_count);
+    let first = first_behind(pass, sizes.arguments, input_count);
     put_header(
         code,
         version_number(pass),
