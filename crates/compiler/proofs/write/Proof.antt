@@ -1,39 +1,33 @@
 use borrow.Author.Needs.{needs}
 use Prim.Native.Nat.{ℕ, suc, _+_, _*_, _≤_, _<_}
-use mathlib.Core.Path.{_≡_, ap, _∙_}
+use mathlib.Core.Path.{_≡_, ap, _∙_, sym, subst}
 use mathlib.Core.List.{List}
 use native.Mathlib.Omega.{arith}
-use lib.ListN.{length, getD, replicate, length-replicate}
+use lib.ListN.{length, getD}
 use lib.Seq.{sets}
-use Rattle.compiler.specs.Sizes.{outputLimit, orderLimit}
-use Rattle.base.specs.Limits.{functionLimit, referenceLimit}
+use Rattle.base.specs.Limits.{functionLimit}
 use Rattle.base.specs.Bytes.{byte}
-use Rattle.reader.specs.Layout.{inputCount, outputCount, outputsPlace, functionAt}
+use Rattle.reader.specs.Layout.{inputCount, outputCount, outputsPlace}
 use Rattle.reader.specs.Find.{ReadsFunction}
 use Rattle.reader.proofs.Passed.{Holds, function-holds}
-use Rattle.bytecode.specs.Run.{places}
+use Rattle.bytecode.specs.Version.{number}
+use Rattle.bytecode.specs.Code.{headerCode}
 use Rattle.sums.specs.Position.{placeOf, functionIn}
-use Rattle.sums.specs.Capped.{resultWordsAt}
-use Rattle.compiler.specs.Emit.{summaryAt}
-use Rattle.compiler.specs.Locating.{PortsCoded}
-use Rattle.sums.specs.Answers.{typesBy}
-use Rattle.sums.proofs.Widths.{inputs-are}
-use Rattle.sums.proofs.Accepted.{few, few-ports, fewer}
-use Rattle.sums.proofs.Tabulate.{fewer-starts}
-use Rattle.compiler.proofs.Assembly.{emit-room, outs-low, out-room, assembled}
-use Rattle.compiler.proofs.compile.Statement.{statement}
-use Rattle.compiler.proofs.compile.Tie as tie
+use Rattle.sums.proofs.Accepted.{few, few-ports}
+use Rattle.compiler.specs.Units.{unitBound}
+use Rattle.compiler.specs.Emit.{namingOf, functionInlined, Walks}
+use Rattle.compiler.specs.Whole.{firstBehind, firstBy}
+use Rattle.compiler.proofs.Assembly.{text-length, walk-room, first-low, out-room, assembled, inputs-counted}
+use Rattle.compiler.proofs.write.Statement.{statement}
+use Rattle.compiler.proofs.write.Tie as tie
 
 -- ---- places: from each stage back to the one before it
 
 abbrev entry-of-place : tie.After-p → tie.Start
-entry-of-place c = c .before .before .before
-
-abbrev place-of-inputs : tie.After-wide → tie.After-p
-place-of-inputs c = c .before .before
+entry-of-place c = c .before .before .before .before .before
 
 abbrev entry-of-inputs : tie.After-wide → tie.Start
-entry-of-inputs c = entry-of-place (place-of-inputs c)
+entry-of-inputs c = entry-of-place (c .before .before)
 
 abbrev inputs-of-outputs : tie.After-wide2 → tie.After-wide
 inputs-of-outputs c = c .before .before
@@ -41,56 +35,23 @@ inputs-of-outputs c = c .before .before
 abbrev entry-of-outputs : tie.After-wide2 → tie.Start
 entry-of-outputs c = entry-of-inputs (inputs-of-outputs c)
 
-abbrev outputs-of-words : tie.After-wide32 → tie.After-wide2
-outputs-of-words c = c .before .before
+abbrev first-of-header : tie.After-put-header → tie.After-first-behind
+first-of-header c = let d = c .before .before .before in d .before .before .before
 
-abbrev entry-of-words : tie.After-wide32 → tie.Start
-entry-of-words c = entry-of-outputs (outputs-of-words c)
+abbrev header-of-walk : tie.After-walk → tie.After-put-header
+header-of-walk c = let d = c .before .before .before .before in d .before .before
 
-abbrev words-of-order : tie.After-order → tie.After-wide32
-words-of-order c = c .before .before
+abbrev walk-of-code : tie.After-slice-known7 → tie.After-walk
+walk-of-code c = let d = c .before .before .before in d .before .before .before
 
-abbrev words-of-begins : tie.After-begins → tie.After-wide32
-words-of-begins c = words-of-order (c .before .before)
+abbrev walk-of-outputs : tie.After-put-outputs-arg2 → tie.After-walk
+walk-of-outputs c = walk-of-code (c .before .before)
 
-abbrev functions-of-order : tie.After-order2 → tie.After-allocate-functions
-functions-of-order c = c .before .before
+abbrev outputs-of-walk : tie.After-walk → tie.After-wide2
+outputs-of-walk c = first-of-header (header-of-walk c) .before
 
-abbrev functions-of-begins : tie.After-begins2 → tie.After-allocate-functions
-functions-of-begins c = functions-of-order (c .before .before)
-
-abbrev words-of-next : tie.After-allocate-next → tie.After-wide32
-words-of-next c = words-of-begins (functions-of-begins (c .before) .before)
-
-abbrev entry-of-next : tie.After-allocate-next → tie.Start
-entry-of-next c = entry-of-words (words-of-next c)
-
-abbrev next-of-places : tie.After-input-places → tie.After-allocate-next
-next-of-places c = c .before .before
-
-abbrev entry-of-places : tie.After-input-places → tie.Start
-entry-of-places c = entry-of-next (next-of-places c)
-
-abbrev places-of-header : tie.After-put-header → tie.After-input-places
-places-of-header c = c .before .before
-
-abbrev header-of-begins : tie.After-begins3 → tie.After-put-header
-header-of-begins c = c .before .before .before
-
-abbrev header-of-emit : tie.After-emit-arg → tie.After-put-header
-header-of-emit c = let d = c .before .before .before in header-of-begins (d .before)
-
-abbrev emit-of-code : tie.After-slice-known3 → tie.After-emit
-emit-of-code c = c .before .before
-
-abbrev words-of-emit : tie.After-emit → tie.After-wide32
-words-of-emit c = words-of-next (next-of-places (places-of-header (header-of-emit (c .before))))
-
-abbrev entry-of-emit : tie.After-emit → tie.Start
-entry-of-emit c = entry-of-words (words-of-emit c)
-
-abbrev emit-of-outputs : tie.After-put-outputs-arg → tie.After-emit
-emit-of-outputs c = emit-of-code (c .before .before .before)
+abbrev entry-of-walk : tie.After-walk → tie.Start
+entry-of-walk c = entry-of-outputs (outputs-of-walk c)
 
 -- ---- what was read
 
@@ -128,119 +89,93 @@ output-count c =
 entries : (c : tie.After-wide) → let a = entry-of-inputs c .args in getD (a .starts .now) (a .k) 0 + 6 + c .wide .result ≡ outputsPlace (a .table .now) (placeOf (a .table .now) (a .k))
 entries c = let p = place (entry-of-inputs c) in let n = input-count c .0 in omega arith
 
--- the words of its results
-words : (c : tie.After-wide32) → let a = entry-of-words c .args in c .wide32 .result ≡ resultWordsAt (a .table .now) (a .k)
-words c =
-    let b = entry-of-words c in
-    let e = c .wide32 .ensures .0 ∙ b .pre .0 .2 (b .args .k) (omega arith) in
-    let w = b .pre .1 .0 .words in
-    omega arith
-
--- ---- allocating
-
-allocate-functions-requires : tie.Need-allocate-functions-requires
-allocate-functions-requires c κs =
-    let b = entry-of-words (words-of-begins c) in
-    let k = b .args .k in (
-      (fewer (b .args .table .now) (suc k) k (b .pre .0 .0) (omega arith), fewer-starts _ _ _ _ (b .pre .0 .1) (omega arith), (λ j l. b .pre .0 .2 j (omega arith))),
-      (length-replicate {A = ℕ} outputLimit 0, length-replicate {A = ℕ} orderLimit 0, length-replicate {A = ℕ} referenceLimit 0, length-replicate {A = ℕ} functionLimit 0),
-    )
-
-input-places-requires : tie.Need-input-places-requires
-input-places-requires c κs =
-    let i = inputs-of-outputs (outputs-of-words (words-of-next (c .before))) in
-    let b = entry-of-inputs i in
-    let (e, l) = input-count i in
-    let p = place b in
-    let h = holds b .inputs in
-    (omega (arith, e, p, h), l)
-
-allocated : (c : tie.After-allocate-next) → let a = entry-of-next c .args in PortsCoded (summaryAt (a .table .now) (a .k) .outputs) (c .allocate-next .last .1 .1 .1 .1 .0) (8 * a .k)
-allocated c =
-    let b = entry-of-next c in
-    let w = b .pre .1 .0 .words in
-    c .allocate-next .ensures .ports (b .args .k) (omega arith) (omega arith)
-
--- the addresses of the arguments
-ins-are : (c : tie.After-input-places) → let a = entry-of-places c .args in (c .input-places .last .1 .1 .1 .0) ≡ sets (replicate 8 0) 0 (places 0 (functionIn (a .table .now) (a .k) .inputs))
-unfolding functionAt
-ins-are c =
-    let a = entry-of-places c .args in
-    let s = a .table .now in
-    let p = placeOf s (a .k) in
-    let i = inputs-of-outputs (outputs-of-words (words-of-next (next-of-places c))) in
-    c .input-places .ensures
-    ∙ ap (λ (q : ℕ). sets (replicate 8 0) 0 (places 0 (typesBy 1 (i .wide .result) s (q + 6)))) (place (entry-of-inputs i))
-    ∙ ap (λ (n : ℕ). sets (replicate 8 0) 0 (places 0 (typesBy 1 n s (p + 6)))) (input-count i .0)
-    ∙ ap (λ (ts : List ℕ). sets (replicate 8 0) 0 (places 0 ts)) (inputs-are (inputCount s p) s (p + 6))
+-- the first address behind the inputs
+first : (c : tie.After-first-behind) → let a = entry-of-outputs (c .before) .args in c .first-behind .result ≡ firstBy (namingOf (a .pass)) (functionIn (a .table .now) (a .k) .inputs)
+first c =
+    let b = entry-of-outputs (c .before) in
+    let a = b .args in
+    c .first-behind .ensures
+    ∙ ap (λ (w : ℕ). firstBehind (namingOf (a .pass)) w (inputs-of-outputs (c .before) .wide .result)) (b .pre .1 .0 .arguments)
+    ∙ ap (firstBehind (namingOf (a .pass)) _) (input-count (inputs-of-outputs (c .before)) .0 ∙ sym (inputs-counted (a .table .now) (a .k)))
 
 -- ---- writing
 
-room : (c : tie.After-input-places) → 12 ≤ length (entry-of-places c .args .code .now)
-room c =
-    let b = entry-of-places c in
-    let r = emit-room (b .pre .0 .0) (b .pre .1 .0) (allocated (next-of-places c)) (ins-are c) {code = b .args .code .now} (b .pre .1 .1) .room in
+header : (c : tie.After-put-header) →
+    let a = entry-of-outputs (first-of-header c .before) .args in
+    c .put-header .last .0 ≡ sets (a .code .now) 0 (headerCode (number (namingOf (a .pass))) (a .sizes .arguments) (a .sizes .outputs) (a .sizes .instructions) (a .words))
+header c =
+    let a = entry-of-outputs (first-of-header c .before) .args in
+    c .put-header .ensures
+    ∙ ap (λ (v : ℕ). sets (a .code .now) 0 (headerCode v (a .sizes .arguments) (a .sizes .outputs) (a .sizes .instructions) (a .words))) (c .before .before .before .before .version-number .ensures)
+
+room : (b : tie.Start) → 12 ≤ length (b .args .code .now)
+room b =
+    let e = text-length (b .args .pass) (b .pre .0 .0) (b .pre .1 .0) (b .pre .0 .2) (b .args .place .now) (b .args .words) in
+    let l = b .pre .1 .2 in
     omega arith
 
-emit-requires : tie.Need-emit-requires
-emit-requires c κs =
-    let h = header-of-emit c in
-    let i = places-of-header h in
-    let n = next-of-places i in
-    let b = entry-of-next n in
+walk-requires : tie.Need-walk-requires
+walk-requires c κs =
+    let h = c .before .before .before .before .before in
+    let f = first-of-header h in
+    let b = entry-of-outputs (f .before) in
     let e = h .put-header .kept .0 in
-    let l = b .pre .1 .1 in
-    ((low b, b .pre .0 .1), (n .allocate-next .ensures .allocated, emit-room (b .pre .0 .0) (b .pre .1 .0) (allocated n) (ins-are i) (omega arith)))
+    let l = b .pre .1 .2 in
+    (
+      (low b, b .pre .0 .1),
+      (
+        b .pre .0 .2 .allocated,
+        rw (first f) (walk-room (b .args .pass) (b .pre .0 .0) (b .pre .1 .0) (b .pre .0 .2) (b .args .place .now) (b .args .words) (omega arith)),
+      ),
+    )
+
+walked : (c : tie.After-walk) →
+    let b = entry-of-walk c in
+    let a = b .args in
+    Walks (a .pass) (inputs-of-outputs (outputs-of-walk c) .wide .result) (header-of-walk c .put-header .last .0) (a .place .now) (a .widths .now)
+    (c .walk .last .1 .1 .1 .1 .1 .1 .1 .1 .1 .0) (c .walk .last .1 .1 .1 .1 .1 .1 .1 .1 .1 .1 .0) (c .walk .last .1 .1 .1 .1 .1 .1 .1 .1 .1 .1 .1 .0) 12
+    (functionInlined (namingOf (a .pass)) (a .table .now) (a .k) (a .ins .now) (firstBy (namingOf (a .pass)) (functionIn (a .table .now) (a .k) .inputs))) (c .walk .result)
+walked c = rw (sym (first (first-of-header (header-of-walk c)))) (c .walk .ensures)
 
 put-outputs-requires : tie.Need-put-outputs-requires
 put-outputs-requires c κs =
-    let m = emit-of-outputs c in
-    let h = header-of-emit (m .before) in
-    let i = places-of-header h in
-    let n = next-of-places i in
-    let w = words-of-next n in
-    let o = outputs-of-words w in
+    let m = walk-of-outputs c in
+    let h = header-of-walk m in
+    let f = first-of-header h in
+    let o = f .before in
     let b = entry-of-outputs o in
     let (e, l) = output-count o in
     let (x, y) = input-count (inputs-of-outputs o) in
     let p = entries (inputs-of-outputs o) in
-    let f = holds b .outputs in
-    let v = b .pre .1 .0 .words in (
-      (omega arith, l, low b, omega arith, λ j jl. outs-low (b .pre .0 .0) (b .pre .1 .0) (allocated n) (ins-are i) j (omega arith)),
-      out-room (b .pre .0 .0) (b .pre .1 .0) (allocated n) (ins-are i) (b .args .code .now) e (entries (inputs-of-outputs o)) (ap (λ (m : ℕ). b .args .sizes .arguments + m) (words w)) (h .put-header .ensures) (m .emit .ensures) (b .pre .1 .1),
+    let q = holds b .outputs in
+    let z = first f in
+    let w = first-low (b .args .pass) (b .pre .0 .0) (b .pre .1 .0) (b .pre .0 .2) in (
+      (omega arith, l, low b, omega arith),
+      out-room (b .args .pass) (b .pre .0 .0) (b .pre .1 .0) (b .pre .0 .2) (b .args .code .now) (b .args .place .now) (b .args .widths .now) (b .args .words) e p (header h) (walked m) (b .pre .1 .2),
     )
-
-same-length : tie.Need-same-length
-same-length c =
-    let v = c .before .before in
-    let m = emit-of-outputs (v .before) in
-    v .put-outputs .kept .1 .1 .1 .1 .1 .1 .1 .0 ∙ m .emit .kept .1 .1 .1 .1 .1 .1 .1 .0 ∙ header-of-emit (m .before) .put-header .kept .0
 
 returns : tie.Need-returns
 returns c =
     let v = c .before .before in
-    let m = emit-of-outputs (v .before) in
-    let h = header-of-emit (m .before) in
-    let i = places-of-header h in
-    let n = next-of-places i in
-    let w = words-of-next n in
-    let o = outputs-of-words w in
+    let m = walk-of-outputs (v .before) in
+    let h = header-of-walk m in
+    let o = first-of-header h .before in
     let b = entry-of-outputs o in
-    assembled (b .pre .0 .0) (b .pre .1 .0) (allocated n) (ins-are i) (b .args .code .now) (output-count o .0) (entries (inputs-of-outputs o)) (ap (λ (m : ℕ). b .args .sizes .arguments + m) (words w)) (h .put-header .ensures) (m .emit .ensures) (v .put-outputs .ensures)
+    assembled (b .args .pass) (b .pre .0 .0) (b .pre .1 .0) (b .pre .0 .2) (b .args .code .now) (b .args .place .now) (b .args .widths .now) (b .args .words) (output-count o .0) (entries (inputs-of-outputs o)) (header h) (walked m)
+    (rw (sym (first (first-of-header h))) (v .put-outputs .ensures))
 
-pub compile-spec : {M : Type 1} → statement M
-compile-spec =
+pub write-spec : {M : Type 1} → statement M
+write-spec =
     tie.close
-    (tie.spec (λ c. let l = low (c .before .before) in omega arith) (λ c. let l = low (c .before .before) in omega arith)
+    (tie.spec (λ c. let l = low (c .before .before .before .before) in omega arith) (λ c. let l = low (c .before .before .before .before) in omega arith)
     (λ c. let b = entry-of-place c in omega (arith, place b, holds b .head)) (λ c. let b = entry-of-place (c .before) in omega (arith, place b, holds b .head)) (λ c κs. search needs)
     (λ c. let b = entry-of-inputs c in omega (arith, place b, holds b .head)) (λ c. let b = entry-of-inputs (c .before) in omega (arith, place b, holds b .head)) (λ c κs. search needs)
-    (λ c. let l = low (entry-of-outputs c) in omega arith) (λ c. let l = low (entry-of-outputs c) in omega arith) (λ c κs. search needs)
-    (λ c. search needs) allocate-functions-requires (λ c κs. (entry-of-words (words-of-begins (functions-of-begins c .before)) .pre .0, functions-of-begins c .allocate-functions .ensures))
-    (λ c. let b = entry-of-next c in omega (arith, place b, holds b .head)) input-places-requires
-    (λ c. let (x, y) = entry-of-places (c .before) .pre .1 .0 .narrow in omega arith) (λ c. let (x, y) = entry-of-places (c .before) .pre .1 .0 .narrow in omega arith)
-    (λ c. let x = entry-of-places (c .before) .pre .1 .0 .few in omega arith)
-    (λ c. let w = words (words-of-next (next-of-places (c .before))) in let x = entry-of-places (c .before) .pre .1 .0 .words in omega arith)
-    (λ c κs. room (c .before)) emit-requires
-    (λ c. let b = entry-of-emit (emit-of-code c) in omega (arith, place b, holds b .head))
-    (λ c. let i = inputs-of-outputs (outputs-of-words (words-of-emit (emit-of-code c))) in omega (arith, entries i, holds (entry-of-inputs i) .inputs))
-    put-outputs-requires same-length returns)
+    (λ c κs. input-count (inputs-of-outputs c) .1) (λ c κs. search needs)
+    (λ c. let (x, y) = entry-of-outputs (c .before .before .before .before) .pre .1 .0 .narrow in omega arith)
+    (λ c. let (x, y) = entry-of-outputs (c .before .before .before .before .before) .pre .1 .0 .narrow in omega arith)
+    (λ c. let x = entry-of-outputs (let d = c .before .before .before in d .before .before .before) .pre .1 .0 .few in omega arith)
+    (λ c. let x = entry-of-outputs (let d = c .before .before .before in d .before .before .before) .pre .1 .1 in omega arith)
+    (λ c κs. room (entry-of-outputs (let d = c .before .before .before in d .before .before .before))) walk-requires
+    (λ c. let b = entry-of-walk (walk-of-code c) in omega (arith, place b, holds b .head))
+    (λ c. let i = inputs-of-outputs (outputs-of-walk (walk-of-code c)) in omega (arith, entries i, holds (entry-of-inputs i) .inputs))
+    put-outputs-requires (λ c. search needs) (λ c. search needs) (λ c. search needs) returns)
