@@ -4,3 +4,7 @@ pub mod LastRead
 pub mod Balanced
 pub mod Carried
 pub mod Following
+pub mod Values
+pub mod Held
+pub mod Scan
+pub mod Steps
