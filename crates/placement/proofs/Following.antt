@@ -62,6 +62,12 @@ inputs-along ts = record {
   covers = λ a l. inputs-cover ts 0 a (omega arith) (omega arith);
 }
 
+-- inputs stay where they are
+pub stays : (rs : List Range) (p : Placed) → Is p (map stay rs) → p .place ≡ p .value .first
+stays [] p i = absurd i
+stays (r ∷ rs) p (inl e) = ap (λ (x : Placed). x .place) e ∙ sym (ap (λ (x : Placed). x .value .first) e)
+stays (r ∷ rs) p (inr i) = stays rs p i
+
 pub values-stay : (rs : List Range) → map (λ p. p .value) (map stay rs) ≡ rs
 values-stay [] = refl
 values-stay (r ∷ rs) = ap (λ (xs : List Range). r ∷ xs) (values-stay rs)

@@ -8,3 +8,5 @@ pub mod Values
 pub mod Held
 pub mod Scan
 pub mod Steps
+pub mod Notes
+pub mod Uses

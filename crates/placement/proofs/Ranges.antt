@@ -97,13 +97,19 @@ module _ {A : Type 0} where
       pick false s (inl p) g = never (sym s ∙ ap q (sym p) ∙ e)
       pick false s (inr j) g = g j
 
+pub any-append : (t : ℕ → Bool) (xs ys : List ℕ) → any t (xs ++ ys) ≡ any t xs || any t ys
+any-append t [] ys = refl
+any-append t (x ∷ xs) ys = ap (λ (z : Bool). t x || z) (any-append t xs ys) ∙ regroup (t x) (any t xs) (any t ys)
+  where
+    regroup : (x y z : Bool) → x || (y || z) ≡ (x || y) || z
+    regroup true y z = refl
+    regroup false y z = refl
+
 pub any-append-left : (t : ℕ → Bool) (xs ys : List ℕ) → any t xs ≡ true → any t (xs ++ ys) ≡ true
-any-append-left t [] ys e = never e
-any-append-left t (x ∷ xs) ys e = ⊎-elim (λ p. or-left (t x) _ p) (λ q. or-right (t x) _ (any-append-left t xs ys q)) (or-inv (t x) (any t xs) e)
+any-append-left t xs ys e = any-append t xs ys ∙ or-left (any t xs) (any t ys) e
 
 pub any-append-right : (t : ℕ → Bool) (xs ys : List ℕ) → any t ys ≡ true → any t (xs ++ ys) ≡ true
-any-append-right t [] ys e = e
-any-append-right t (x ∷ xs) ys e = or-right (t x) _ (any-append-right t xs ys e)
+any-append-right t xs ys e = any-append t xs ys ∙ or-right (any t xs) (any t ys) e
 
 -- the first word of an operand is read
 pub any-span : (t : ℕ → Bool) (n a : ℕ) → 1 ≤ n → t a ≡ true → any t (span a n) ≡ true
