@@ -9,4 +9,4 @@ pub mod Held
 pub mod Scan
 pub mod Steps
 pub mod Notes
-pub mod Uses
+pub mod Words

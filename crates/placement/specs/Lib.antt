@@ -4,3 +4,4 @@ pub mod OneValue
 pub mod Balance
 pub mod Arrays
 pub mod Record
+pub mod Cases

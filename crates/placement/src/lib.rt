@@ -62,13 +62,7 @@ fn end_of(k: u16, last: u16) -> u16
 }
 
 // A value of `width` words takes the lowest gap at instruction k, unless the gap passes the limit.
-fn place_one(
-    until: &mut [u16; WORD_LIMIT],
-    k: u16,
-    width: usize,
-    last: u16,
-    high: usize,
-) -> usize
+fn place_one(until: &mut [u16; WORD_LIMIT], k: u16, width: usize, last: u16, high: usize) -> usize
     requires { ⌜ (high ≤ wordLimit) × (1 ≤ width) × (width < 256) × (k < operationLimit) ⌝ }
     ensures { λ r. ⌜ Placing (now (until .entry)) (now (until .exit)) k width last high r ⌝ }
 {
