@@ -97,7 +97,7 @@ uncovered-gap (p ∷ ps) n at l (w, ws) h =
 
 -- the record has just the words of these values, and the words from `high` on are free
 pub lowest-is : (k : ℕ) (until : List ℕ) (high n at : ℕ) (ps : List Placed) → ((a : ℕ) → ltb k (getD until a 0) ≡ covered ps a)
-    → ((a : ℕ) → high ≤ a → getD until a 0 ≤ k) → Each (λ p. 1 ≤ p .value .width) ps → 1 ≤ n → Lowest until k n high at → gap ps n ≡ at
+    → ((a : ℕ) → high ≤ a → getD until a 0 ≤ k) → Each (λ p. 1 ≤ p .value .width) ps → 1 ≤ n → Lowest until k n 0 high at → gap ps n ≡ at
 lowest-is k until high n at ps marks above w one s =
     gap-is ps n at (uncovered-gap ps n at one w (λ j l. sym (marks (at + j)) ∙ le-ltb k (getD until (at + j) 0) (vacant (at + j) (omega arith) (omega arith))))
     (λ c l. no-gap c l (isGap ps n c) refl)
@@ -112,7 +112,7 @@ lowest-is k until high n at ps marks above w one s =
     no-gap : (c : ℕ) → c < at → (b : Bool) → isGap ps n c ≡ b → b ≡ false
     no-gap c l false e = refl
     no-gap c l true e =
-        let (a, p, q, u, v) = s .lower c l in
+        let (a, p, q, v) = s .lower c (omega arith) l in
         let there : c + (a - c) ≡ a = omega arith in
         never
-        (sym (gap-uncovered ps n c (gap-each ps n c e) (a - c) (omega arith)) ∙ ap (covered ps) there ∙ sym (marks a) ∙ lt-ltb k (getD until a 0) v)
+        (sym (gap-uncovered ps n c (gap-each ps n c e) (a - c) (omega arith)) ∙ ap (covered ps) there ∙ sym (marks a) ∙ lt-ltb k (getD until a 0) (omega arith))

@@ -114,14 +114,14 @@ above-free inputs b until place high count from ps k n a l =
 
 -- ---- the inputs
 
-none-covered : (a : ℕ) (n : ℕ) → _≡_ {A = ℕ} (getD (replicate n 0) a 0) 0
-none-covered a zero = refl
-none-covered zero (suc n) = refl
-none-covered (suc a) (suc n) = none-covered a n
+pub all-zero : (a n : ℕ) → _≡_ {A = ℕ} (getD (replicate n 0) a 0) 0
+all-zero a zero = refl
+all-zero zero (suc n) = refl
+all-zero (suc a) (suc n) = all-zero a n
 
 pub inputs-start : (inputs : List ℕ) (b : BoardList) (place : List ℕ) → Kept (replicate wordLimit 0) place 0 0 0 (firstInputs inputs 0) inputs b
 inputs-start inputs b place = record {
-  marks = λ j a f n. ap (ltb j) (none-covered a wordLimit) ∙ le-ltb j 0 (omega arith);
+  marks = λ j a f n. ap (ltb j) (all-zero a wordLimit) ∙ le-ltb j 0 (omega arith);
   highest = refl;
   places = λ v l. absurd (omega arith);
   wide = tt;
@@ -153,7 +153,7 @@ module _ (widths′ last : List ℕ) (m : ℕ) (inputs : List ℕ) (b : BoardLis
   -- ---- a result
 
   module _ (until place : List ℕ) (high k w a : ℕ) (s : Kept until place high (m + k) k (historyOf inputs b k) inputs b) (l : k < length (b .instructions))
-      (e : w ≡ getD widths′ (m + k) 0) (one : 1 ≤ w) (low : Lowest until k w high a) where
+      (e : w ≡ getD widths′ (m + k) 0) (one : 1 ≤ w) (low : Lowest until k w 0 high a) where
     value-is : valueAt inputs b (m + k) ≡ resultValue (instructionAt b k)
     value-is = ap (λ (x : ℕ). valueAt inputs b (x + k)) (sym (given .before)) ∙ value-result inputs b k l
 

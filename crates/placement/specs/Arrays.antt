@@ -6,6 +6,7 @@ use mathlib.Core.List.{List, [], _∷_, _++_, map}
 use lib.Dec.{eqb, ltb}
 use lib.ListN.{length, getD, take, drop}
 use Rattle.ports.specs.Ports.{width}
+use Rattle.base.specs.Limits.{valueLimit}
 use Rattle.bytecode.specs.Run.{BoardList}
 use Rattle.bytecode.specs.Ranges.{any, Range, end, resultValue}
 use Rattle.placement.specs.Live.{inputValues, live, lastRead}
@@ -19,9 +20,9 @@ valuesOf inputs b = inputValues 0 inputs ++ map resultValue (b .instructions)
 abbrev pub valueAt : List ℕ → BoardList → ℕ → Range
 valueAt inputs b v = getD (valuesOf inputs b) v nothing
 
--- every value has a word
+-- every value has a word, and none more than a matrix
 abbrev pub Wide : List ℕ → ℕ → Type 0
-Wide widths n = (v : ℕ) → v < n → 1 ≤ getD widths v 0
+Wide widths n = (v : ℕ) → v < n → (1 ≤ getD widths v 0) × (getD widths v 0 ≤ valueLimit)
 
 -- the values of a list with m inputs have these widths
 pub record Widths (widths : List ℕ) (m : ℕ) (inputs : List ℕ) (b : BoardList) : Type 0 where

@@ -8,17 +8,18 @@ use native.Mathlib.Omega.{arith}
 use lib.ListN.{length, replicate, set, getD, length-replicate, length-set}
 use lib.Seq.{sets, length-sets}
 use Rattle.base.specs.Limits.{wordLimit, placedLimit}
+use Rattle.base.proofs.Stores.{stored-above}
 use Rattle.bytecode.specs.Run.{BoardList}
 use Rattle.placement.specs.Place.{Placed}
 use Rattle.placement.specs.Arrays.{Widths, Lasting}
 use Rattle.placement.specs.Balance.{historyOf}
 use Rattle.placement.specs.Record.{Rest, Kept}
 use Rattle.placement.proofs.Values.{firstInputs, inputs-all}
-use Rattle.placement.proofs.Steps.{rest-next, inputs-start, inputs-step}
+use Rattle.placement.proofs.Steps.{rest-next, all-zero, inputs-start, inputs-step}
 
 abbrev Inv-loop : tie.InvT-loop
 Inv-loop widths m until₀ place₀ at₀ v₀ until place at v =
-    (v ≤ m) × (at ≤ 255 * v) × (length until ≡ wordLimit) × (length place ≡ placedLimit) × Rest place₀ place v
+    (v ≤ m) × (at ≤ 255 * v) × ((a : ℕ) → at ≤ a → getD until a 0 ≡ 0) × (length until ≡ wordLimit) × (length place ≡ placedLimit) × Rest place₀ place v
     × ((inputs : List ℕ) (b : BoardList) → Widths widths m inputs b → Lasting place₀ m inputs b → Kept until place at v 0 (firstInputs inputs v) inputs b)
 
 abbrev μ-loop : tie.MeasureT-loop
@@ -30,6 +31,7 @@ loop-holds c =
     let e = c .pre .1 in (
       omega arith,
       omega arith,
+      λ x l. ap (λ (u : List ℕ). getD u x 0) e ∙ all-zero x wordLimit,
       ap length e ∙ length-replicate {A = ℕ} wordLimit 0,
       c .pre .2,
       λ u h. refl,
@@ -43,11 +45,15 @@ loop-again c =
     let l = d .before .loop in
     let a = d .before .before .args in
     let width = t .wide .result in
-    let (p, q, r, u, g, f) = l .inv in
+    let (p, q, z, r, u, g, f) = l .inv in
     let few = d .before .before .pre .0 in
     let e = c .hold .ensures ∙ ap (λ (y : ℕ). sets (l .until) (l .at) (replicate width y)) (g (l .v) (omega arith)) in (
       omega arith,
       omega (arith, t .wide .ensures),
+      λ x m.
+          ap (λ (y : List ℕ). getD y x 0) e
+          ∙ stored-above 0 (replicate width (getD (a .place .now) (l .v) 0)) (l .until) (l .at) x (omega (arith, length-replicate width (getD (a .place .now) (l .v) 0)))
+          ∙ z x (omega arith),
       ap length e ∙ length-sets (l .until) (l .at) (replicate width (getD (a .place .now) (l .v) 0)) ∙ r,
       length-set (l .place) (l .v) (l .at) ∙ u,
       rest-next (a .place .now) (l .place) (l .v) (l .at) g,
@@ -61,11 +67,12 @@ returns : tie.Need-returns Inv-loop μ-loop
 returns c =
     let l = c .before .loop in
     let a = c .before .before .args in
-    let (p, q, r, u, g, f) = l .inv in
+    let (p, q, z, r, u, g, f) = l .inv in
     let few = c .before .before .pre .0 in
     let vm : l .v ≡ a .m = omega (arith, c .loop-test .left) in
     record {
       room = omega arith;
+      fresh = z;
       words = r;
       values = u;
       rest = subst (λ (v : ℕ). Rest (a .place .now) (l .place) v) vm g;
