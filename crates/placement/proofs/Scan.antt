@@ -77,13 +77,13 @@ module _ (until : List ℕ) (k n from high : ℕ) where
             let short = s .short in
             (at, omega arith, omega arith, omega arith)
 
-    pub scan-free : getD until at 0 ≤ k → (at - start + 1 ≡ n → ⊥) → Scan until k n from high start (at + 1) bound
+    pub scan-free : getD until at 0 ≤ k → (at + 1 ≡ start + n → ⊥) → Scan until k n from high start (at + 1) bound
     scan-free h e =
         let short = s .short in
         let back = s .back in
         record { to = omega arith; after = s .after; back = omega arith; short = omega arith; vacant = one-more h; lower = s .lower }
 
-    pub scan-found : getD until at 0 ≤ k → at - start + 1 ≡ n → Lowest until k n from high start
+    pub scan-found : getD until at 0 ≤ k → at + 1 ≡ start + n → Lowest until k n from high start
     scan-found h e =
         let back = s .back in
         record {

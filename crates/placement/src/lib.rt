@@ -23,7 +23,7 @@ pub enum Extent {
 
 // The lowest word from which `width` words are free at instruction k. The words from `high` on are free.
 fn scan_words(until: &[u16; WORD_LIMIT], k: u16, width: usize, high: usize) -> usize
-    requires { ⌜ (high ≤ wordLimit) × (1 ≤ width) ⌝ }
+    requires { ⌜ (high ≤ wordLimit) × (1 ≤ width) × (width ≤ valueLimit) ⌝ }
     ensures { λ r. ⌜ Lowest (now (until .entry)) k width 0 high r ⌝ }
 {
     let mut start = 0;
@@ -33,7 +33,7 @@ fn scan_words(until: &[u16; WORD_LIMIT], k: u16, width: usize, high: usize) -> u
         if k < stop {
             at += 1;
             start = at;
-        } else if at - start + 1 == width {
+        } else if at + 1 == start + width {
             return start;
         } else {
             at += 1;

@@ -39,14 +39,15 @@ returns-2 c =
     let e = c .before .before .before in
     let l = e .before .before .loop in
     let a = e .before .before .before .args in
-    scan-found (a .until .now) (a .k) (a .width) (a .from) (a .high) (l .start) (l .at) (l .bound) (l .inv .0) (e .if1 .left) (c .before .if2 .left) (c .if3 .taken)
+    scan-found (a .until .now) (a .k) (a .width) (a .from) (a .high) (l .start) (l .at) (l .bound) (l .inv .0) (e .if1 .left) (c .before .if2 .left) (omega (arith, c .if3 .taken, l .inv .0 .back))
 
 loop-again-2 : tie.Need-loop-again-2 Inv-loop μ-loop
 loop-again-2 c =
     let e = c .before .before .before in
     let l = e .before .before .loop in
     let a = e .before .before .before .args in (
-      scan-free (a .until .now) (a .k) (a .width) (a .from) (a .high) (l .start) (l .at) (l .bound) (l .inv .0) (e .if1 .left) (c .before .if2 .left) (c .if3 .left),
+      scan-free (a .until .now) (a .k) (a .width) (a .from) (a .high) (l .start) (l .at) (l .bound) (l .inv .0) (e .if1 .left) (c .before .if2 .left)
+          (λ e. c .if3 .left (omega (arith, e, l .inv .0 .back))),
       l .inv .1,
     )
 
