@@ -1,4 +1,5 @@
--- The placed list reads words of the same origins as the list that it was placed from.
+-- The placed list reads words of the same origins as the list that it was placed from. Version 1 writes no word twice, so that a word's origin
+-- there is known from the end; in version 2 a value's words keep theirs while it is held, since a result is placed apart from all held values.
 use Prim.Native.Nat.{ℕ, zero, suc, _+_, _-_, _≤_, _<_}
 use mathlib.Core.Path.{_≡_, refl, ap, ap₂, sym, _∙_, subst}
 use mathlib.Core.Bool.{Bool, true, false, cond}
@@ -12,6 +13,7 @@ use lib.Seq.{sets, length-sets}
 use borrow.Author.Tests.{ltb-true, ltb-false}
 use Rattle.ports.specs.Kinds.{Kind, unknown, addition, subtraction, multiplication, division, constant, constvec, constmat, composevector, vectorfromscalar, decomposevector, composematrix, matrixfromcolumns, matrixfromrows, dot, cross, matvecmultiplication, transpose, min, max, abs, fmod, select, clamp, call, kindOf}
 use Rattle.ports.specs.Ports.{width, widths, portsOf, takes, gives, formOf, executable, typeFits, legalInstruction}
+use Rattle.base.specs.Limits.{valueLimit}
 use Rattle.base.specs.Lists.{span, Each, Is}
 use Rattle.base.proofs.Bools.{never, and-inv}
 use Rattle.base.proofs.Lists.{made-at, made-length, each-in, each-on, each-both}
@@ -27,47 +29,53 @@ use Rattle.placement.specs.OneValue.{InOneEach, AllInOne}
 use Rattle.placement.proofs.Ranges.{inside-is, inside-not, apart-inv, apart-is, apart-outside, each-fewer, is-keep, live-before, live-read, stored-outside, any-append-left, any-append-right, any-span}
 use Rattle.placement.proofs.Gaps.{gap-free}
 
--- ---- every value has a word
+-- ---- every value has a word, and none more than a matrix
+
+pub width-bounds : (t : ℕ) → (1 ≤ width t) × (width t ≤ valueLimit)
+width-bounds t = pick (eqb t 1) (eqb t 2)
+  where
+    pick : (b c : Bool) → (1 ≤ cond b 1 (cond c 3 16)) × (cond b 1 (cond c 3 16) ≤ valueLimit)
+    pick true c = (omega arith, omega arith)
+    pick false true = (omega arith, omega arith)
+    pick false false = (omega arith, omega arith)
 
 pub some-word : (t : ℕ) → 1 ≤ width t
-some-word t = pick (eqb t 1) (eqb t 2)
-  where
-    pick : (b c : Bool) → 1 ≤ cond b 1 (cond c 3 16)
-    pick true c = omega arith
-    pick false true = omega arith
-    pick false false = omega arith
+some-word t = width-bounds t .0
 
-some-result : (k : Kind) (t : ℕ) → executable (formOf k) ≡ true → 1 ≤ widths (gives k t)
-some-result unknown t e = never e
-some-result addition t e = let w = some-word t in omega arith
-some-result subtraction t e = let w = some-word t in omega arith
-some-result multiplication t e = let w = some-word t in omega arith
-some-result division t e = let w = some-word t in omega arith
-some-result constant t e = omega arith
-some-result constvec t e = omega arith
-some-result constmat t e = omega arith
-some-result composevector t e = omega arith
-some-result vectorfromscalar t e = omega arith
-some-result decomposevector t e = omega arith
-some-result composematrix t e = omega arith
-some-result matrixfromcolumns t e = omega arith
-some-result matrixfromrows t e = omega arith
-some-result dot t e = omega arith
-some-result cross t e = omega arith
-some-result matvecmultiplication t e = omega arith
-some-result transpose t e = omega arith
-some-result min t e = let w = some-word t in omega arith
-some-result max t e = let w = some-word t in omega arith
-some-result abs t e = let w = some-word t in omega arith
-some-result fmod t e = let w = some-word t in omega arith
-some-result select t e = let w = some-word t in omega arith
-some-result clamp t e = let w = some-word t in omega arith
-some-result call t e = never e
+result-bounds : (k : Kind) (t : ℕ) → executable (formOf k) ≡ true → (1 ≤ widths (gives k t)) × (widths (gives k t) ≤ valueLimit)
+result-bounds unknown t e = never e
+result-bounds addition t e = let (u, v) = width-bounds t in (omega arith, omega arith)
+result-bounds subtraction t e = let (u, v) = width-bounds t in (omega arith, omega arith)
+result-bounds multiplication t e = let (u, v) = width-bounds t in (omega arith, omega arith)
+result-bounds division t e = let (u, v) = width-bounds t in (omega arith, omega arith)
+result-bounds constant t e = (omega arith, omega arith)
+result-bounds constvec t e = (omega arith, omega arith)
+result-bounds constmat t e = (omega arith, omega arith)
+result-bounds composevector t e = (omega arith, omega arith)
+result-bounds vectorfromscalar t e = (omega arith, omega arith)
+result-bounds decomposevector t e = (omega arith, omega arith)
+result-bounds composematrix t e = (omega arith, omega arith)
+result-bounds matrixfromcolumns t e = (omega arith, omega arith)
+result-bounds matrixfromrows t e = (omega arith, omega arith)
+result-bounds dot t e = (omega arith, omega arith)
+result-bounds cross t e = (omega arith, omega arith)
+result-bounds matvecmultiplication t e = (omega arith, omega arith)
+result-bounds transpose t e = (omega arith, omega arith)
+result-bounds min t e = let (u, v) = width-bounds t in (omega arith, omega arith)
+result-bounds max t e = let (u, v) = width-bounds t in (omega arith, omega arith)
+result-bounds abs t e = let (u, v) = width-bounds t in (omega arith, omega arith)
+result-bounds fmod t e = let (u, v) = width-bounds t in (omega arith, omega arith)
+result-bounds select t e = let (u, v) = width-bounds t in (omega arith, omega arith)
+result-bounds clamp t e = let (u, v) = width-bounds t in (omega arith, omega arith)
+result-bounds call t e = never e
 
-pub legal-some-word : (i : Instruction) → legalInstruction (kindOf (i .kind)) (i .type) ≡ true → 1 ≤ resultWidth i
-legal-some-word i e =
+pub legal-bounds : (i : Instruction) → legalInstruction (kindOf (i .kind)) (i .type) ≡ true → (1 ≤ resultWidth i) × (resultWidth i ≤ valueLimit)
+legal-bounds i e =
     let k = kindOf (i .kind) in
-    some-result k (i .type) (and-inv (executable (formOf k)) (typeFits (portsOf k) (i .type)) e .0)
+    result-bounds k (i .type) (and-inv (executable (formOf k)) (typeFits (portsOf k) (i .type)) e .0)
+
+pub legal-wide : (i : Instruction) → legalInstruction (kindOf (i .kind)) (i .type) ≡ true → 1 ≤ resultWidth i
+legal-wide i e = legal-bounds i e .0
 
 -- ---- where the words of version 1 come from: none is written twice
 
@@ -221,7 +229,7 @@ pub place-result : (outputs : List ℕ) (i : Instruction) (is : List Instruction
 place-result outputs i is next stop h (x, f) =
     let p = placed outputs h i is in
     let e : i .result ≡ next = x .result in
-    let w : 1 ≤ resultWidth i = legal-some-word i (x .legal) in
+    let w : 1 ≤ resultWidth i = legal-wide i (x .legal) in
     place-rename outputs is (nextWord next i) stop (p ∷ h) (i .result) f (omega arith)
     ∙ rw (inside-is (resultValue i) (i .result) (omega arith) (omega arith)) (omega arith)
 

@@ -8,5 +8,6 @@ pub mod Values
 pub mod Held
 pub mod Scan
 pub mod Steps
+pub mod Loop
 pub mod Notes
 pub mod Words

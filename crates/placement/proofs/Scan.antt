@@ -12,6 +12,7 @@ use lib.Dec.{ltb, eqb}
 use lib.ListN.{length, getD, set, replicate, length-replicate, length-set}
 use lib.Seq.{sets, getD-set-same, getD-set-other}
 use borrow.Author.Tests.{ltb-true, ltb-false, eqb-true, eqb-false}
+use Rattle.base.specs.Limits.{wordLimit, valueLimit}
 use Rattle.bytecode.specs.Ranges.{Range, end, inside}
 use Rattle.placement.specs.Record.{Stopped, Lowest, Bounds, blockWords, blocks, boundLimit}
 use Rattle.placement.proofs.Ranges.{inside-inv, inside-not, stored-run}
@@ -110,7 +111,7 @@ module _ (until : List ℕ) (k n from high : ℕ) where
 abbrev pub Passed : List ℕ → ℕ → ℕ → ℕ → Type 0
 Passed until k n block = (c : ℕ) → c < block * blockWords → Stopped until c n (suc k)
 
-module _ (until low : List ℕ) (k n high block : ℕ) (b : Bounds until low high) (some-words : 1 ≤ n) (few : n ≤ 16) (l : block * blockWords < high) (within : high ≤ 8192)
+module _ (until low : List ℕ) (k n high block : ℕ) (b : Bounds until low high) (some-words : 1 ≤ n) (few : n ≤ valueLimit) (l : block * blockWords < high) (within : high ≤ wordLimit)
     (passed : Passed until k n block) where
   abbrev index : ℕ
   index = (n - 1) * blocks + block

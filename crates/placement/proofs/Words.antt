@@ -1,27 +1,31 @@
 -- Where the words of version 1 stand, by the definition and by what `place_all` gives.
-use Prim.Native.Nat.{ℕ, _+_, _-_, _≤_, _<_}
-use mathlib.Core.Path.{_≡_, ap, sym, _∙_, subst}
-use mathlib.Core.Bool.{true}
+use Prim.Native.Nat.{ℕ, zero, suc, _+_, _-_, _≤_, _<_}
+use mathlib.Core.Path.{_≡_, refl, ap, sym, _∙_, subst}
+use mathlib.Core.Bool.{Bool, true, false}
 use mathlib.Core.List.{List, [], _∷_, map}
 use native.Mathlib.Omega.{arith}
+use lib.Dec.{ltb}
 use lib.ListN.{length, getD}
-use Rattle.ports.specs.Ports.{width}
-use Rattle.base.specs.Limits.{wordLimit}
+use borrow.Author.Tests.{ltb-true, ltb-false}
+use Rattle.ports.specs.Kinds.{kindOf}
+use Rattle.ports.specs.Ports.{width, legalInstruction}
+use Rattle.base.specs.Limits.{wordLimit, valueLimit}
 use Rattle.base.specs.Lists.{span, Each, Is}
 use Rattle.base.proofs.Lists.{each-in, each-append, span-each}
-use Rattle.bytecode.specs.Run.{BoardList, spans}
+use Rattle.bytecode.specs.Run.{Instruction, BoardList, spans}
+use Rattle.bytecode.specs.Sequential.{nextWord, AllFit}
 use Rattle.bytecode.specs.Ranges.{any, Range, end, inside}
 use Rattle.placement.specs.declared.Extent.{Extent}
 use Rattle.placement.specs.Place.{Placed, words, top, inputsOf, placesOf, rename, reusing}
 use Rattle.placement.specs.OneValue.{InOneEach, Placeable}
-use Rattle.placement.specs.Balance.{historyOf}
-use Rattle.placement.specs.Arrays.{valueAt}
+use Rattle.placement.specs.Balance.{blank, instructionAt, historyOf}
+use Rattle.placement.specs.Arrays.{valueAt, Wide, Widths}
 use Rattle.placement.specs.Record.{extentOf, PlacedAt, Placement}
 use Rattle.placement.proofs.Ranges.{inside-is, any-append-left, any-append-right, any-span}
 use Rattle.placement.proofs.Balanced.{tops}
-use Rattle.placement.proofs.Carried.{some-word, Distinct, rename-is, Along, place-along, is-value}
+use Rattle.placement.proofs.Carried.{width-bounds, some-word, legal-bounds, Distinct, rename-is, Along, place-along, is-value}
 use Rattle.placement.proofs.Following.{inputs-along}
-use Rattle.placement.proofs.Values.{history-all}
+use Rattle.placement.proofs.Values.{value-input, value-result, history-all}
 
 -- the values of a list share no word of version 1, and have all of them
 pub all-along : (inputs : List ℕ) (b : BoardList) → Placeable inputs b → Along (b .words) (placesOf inputs b)
@@ -77,6 +81,36 @@ module _ (H : List Placed) (distinct : Distinct H) where
       let q : p .place + (a - p .value .first + j) ≡ rename H a + j = omega arith in
       subst P q (all (a - p .value .first + j) (omega arith))))
       (operands-each P h ts at s w (λ q z y. c q z (any-append-right (inside (q .value)) (span a n) (spans ts at) y)))
+
+-- ---- widths
+
+fit-legal : (is : List Instruction) (next stop k : ℕ) → AllFit next is stop → k < length is
+    → legalInstruction (kindOf (getD is k blank .kind)) (getD is k blank .type) ≡ true
+fit-legal [] next stop k f l = absurd (omega arith)
+fit-legal (i ∷ is) next stop zero (x, f) l = x .legal
+fit-legal (i ∷ is) next stop (suc k) (x, f) l = fit-legal is (nextWord next i) stop k f (omega arith)
+
+-- the widths of a list's values are such that `place_all` takes them
+pub all-wide : (widths : List ℕ) (m : ℕ) (inputs : List ℕ) (b : BoardList) → Placeable inputs b → Widths widths m inputs b → Wide widths (m + length (b .instructions))
+all-wide widths m inputs b t w v l = pick (ltb v m) refl
+  where
+    pick : (c : Bool) → ltb v m ≡ c → (1 ≤ getD widths v 0) × (getD widths v 0 ≤ valueLimit)
+    pick true e =
+        let before = w .before in
+        let lv : v < m = ltb-true v m e in
+        let is = ap (λ (r : Range). r .width) (value-input inputs b v (omega arith)) in
+        let said = w .wide v l in
+        let (x, y) = width-bounds (getD inputs v 0) in
+        (omega arith, omega arith)
+    pick false e =
+        let before = w .before in
+        let lv : m ≤ v = ltb-false v m e in
+        let there : length inputs + (v - m) ≡ v = omega arith in
+        let lk : v - m < length (b .instructions) = omega arith in
+        let is = ap (λ (r : Range). r .width) (sym (ap (valueAt inputs b) there) ∙ value-result inputs b (v - m) lk) in
+        let said = w .wide v l in
+        let (x, y) = legal-bounds (instructionAt b (v - m)) (fit-legal (b .instructions) (b .arguments) (b .words) (v - m) (t .fit) lk) in
+        (omega arith, omega arith)
 
 -- ---- after `place_all` for all instructions
 

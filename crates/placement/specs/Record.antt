@@ -6,7 +6,7 @@ use mathlib.Core.List.{List}
 use lib.Dec.{leb, ltb}
 use lib.ListN.{length, getD, drop, replicate}
 use lib.Seq.{sets}
-use Rattle.base.specs.Limits.{wordLimit, valueLimit, placedLimit}
+use Rattle.base.specs.Limits.{portLimit, wordLimit, valueLimit, placedLimit}
 use Rattle.base.specs.Lists.{Each, Is}
 use Rattle.bytecode.specs.Run.{BoardList}
 use Rattle.bytecode.specs.Ranges.{any, inside}
@@ -88,7 +88,7 @@ Rest last place count = (v : ℕ) → count ≤ v → getD place v 0 ≡ getD la
 
 -- after the inputs
 pub record Begun (widths last : List ℕ) (m : ℕ) (until place : List ℕ) (high : ℕ) : Type 0 where
-  pub room : high ≤ 8 * 255
+  pub room : high ≤ portLimit * 255
   pub fresh : (a : ℕ) → high ≤ a → getD until a 0 ≡ 0
   pub words : length until ≡ wordLimit
   pub values : length place ≡ placedLimit
