@@ -1,13 +1,13 @@
 -- At each instruction no two held values share a word: an instruction's result takes a gap. So the words of the held values are as many
 -- as their lengths together, and with the words that belong to none they are all words up to the highest so far.
-use Prim.Native.Nat.{ℕ, zero, suc, _+_, _-_, _≤_, _<_, min, max}
-use mathlib.Core.Path.{_≡_, refl, ap, ap₂, sym, _∙_, subst}
+use Prim.Native.Nat.{ℕ, zero, suc, _+_, _-_, _≤_, min, max}
+use mathlib.Core.Path.{_≡_, refl, ap, ap₂, sym, _∙_}
 use mathlib.Core.Bool.{Bool, true, false, not, _&&_, _||_, cond}
 use mathlib.Core.List.{List, [], _∷_, map}
 use mathlib.Core.Logic.{inl}
 use native.Mathlib.Omega.{arith}
 use lib.Dec.{leb, ltb}
-use lib.ListN.{length, drop}
+use lib.ListN.{drop}
 use borrow.Author.Tests.{ltb-true, ltb-false, leb-true, leb-false}
 use Rattle.ports.specs.Ports.{width, widths}
 use Rattle.base.specs.Lists.{Each}
@@ -18,7 +18,7 @@ use Rattle.bytecode.specs.Origin.{resultWidth}
 use Rattle.bytecode.specs.Ranges.{Range, end, inside}
 use Rattle.placement.specs.Live.{keep, inputValues, live}
 use Rattle.placement.specs.Place.{Placed, words, top, apart, stay, inputsOf, heldAt, placed}
-use Rattle.placement.specs.Balance.{historyAt, historyOf, earlier, Apart, widthsOf, count}
+use Rattle.placement.specs.Balance.{historyAt, earlier, Apart, widthsOf, count}
 use Rattle.placement.specs.Record.{covered}
 use Rattle.placement.proofs.Ranges.{apart-is, apart-outside, any-none, each-keep, each-fewer, live-before}
 use Rattle.placement.proofs.Gaps.{gap-free}

@@ -1,4 +1,6 @@
--- The placed list follows the list that it was placed from, and has no more words.
+-- The placed list follows the list that it was placed from, and has no more words. The inputs stand where they stood, so that all held values
+-- have their origins at the start, and at the end the values with an output word still do. A gap is never above the highest word held, so
+-- that each result ends no higher than in version 1.
 use Prim.Native.Nat.{ℕ, suc, _+_, _-_, _≤_, _<_}
 use mathlib.Core.Path.{_≡_, refl, ap, ap₂, sym, _∙_, subst}
 use mathlib.Core.Bool.{Bool, true, false, cond}

@@ -10,7 +10,6 @@ use lib.Seq.{sets, length-sets}
 use Rattle.base.specs.Limits.{portLimit, wordLimit, placedLimit}
 use Rattle.base.proofs.Stores.{stored-above}
 use Rattle.bytecode.specs.Run.{BoardList}
-use Rattle.placement.specs.declared.Extent.{Extent}
 use Rattle.placement.specs.declared.Extent.the-variants.{Words, Over}
 use Rattle.placement.specs.Place.{Placed}
 use Rattle.placement.specs.Balance.{historyOf, Balanced}

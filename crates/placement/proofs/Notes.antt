@@ -10,7 +10,7 @@ use native.Mathlib.Omega.{arith}
 use native.Mathlib.Nat.{add-zero}
 use native.Mathlib.Numerals.{add-one}
 use lib.Dec.{eqb, ltb}
-use lib.ListN.{length, getD, set, take, drop, replicate, getD-replicate}
+use lib.ListN.{length, getD, set, take, replicate}
 use lib.Seq.{take-suc, take-all, length-take-le, getD-set-same, getD-set-other}
 use borrow.Author.Tests.{eqb-true, eqb-false, ltb-true, ltb-false, lt-ltb}
 use Rattle.ports.specs.Kinds.{kindOf}
@@ -21,7 +21,7 @@ use Rattle.base.proofs.Lists.{span-each}
 use Rattle.bytecode.specs.Run.{Instruction, BoardList, spans}
 use Rattle.bytecode.specs.Sequential.{nextWord, AllFit}
 use Rattle.bytecode.specs.Ranges.{any, Range, end, inside, resultValue}
-use Rattle.placement.specs.Live.{inputValues, readBy, live, lastRead}
+use Rattle.placement.specs.Live.{inputValues, readBy, lastRead}
 use Rattle.placement.specs.OneValue.{Placeable}
 use Rattle.placement.specs.Balance.{blank, instructionAt}
 use Rattle.placement.specs.Arrays.{nothing, valuesOf, valueAt, Named, among, Noted, Lasting, Stored}

@@ -1,6 +1,6 @@
 -- The search for a gap, word by word and by blocks, and the stores that hold words. A word that is free at an instruction is held later at
 -- most longer than before, so that what is known of a block stays true.
-use Prim.Native.Nat.{ℕ, zero, suc, _+_, _-_, _*_, _/_, _%_, _≤_, _<_, max, min}
+use Prim.Native.Nat.{ℕ, zero, suc, _+_, _-_, _*_, _/_, _%_, _≤_, _<_, max}
 use mathlib.Core.Path.{_≡_, refl, ap, sym, _∙_, subst}
 use mathlib.Core.Bool.{Bool, true, false, cond}
 use mathlib.Core.List.{List}
@@ -13,7 +13,7 @@ use lib.ListN.{length, getD, set, replicate, length-replicate, length-set}
 use lib.Seq.{sets, getD-set-same, getD-set-other}
 use borrow.Author.Tests.{ltb-true, ltb-false, eqb-true, eqb-false}
 use Rattle.base.specs.Limits.{wordLimit, valueLimit}
-use Rattle.bytecode.specs.Ranges.{Range, end, inside}
+use Rattle.bytecode.specs.Ranges.{inside}
 use Rattle.placement.specs.Record.{Stopped, Lowest, Bounds, blockWords, blocks, boundLimit}
 use Rattle.placement.proofs.Ranges.{inside-inv, inside-not, stored-run}
 

@@ -1,10 +1,10 @@
 -- Lists placed, as one table: the places of inputs and results, and the words.
-use Prim.Native.Nat.{ℕ, suc}
+use Prim.Native.Nat.{ℕ}
 use mathlib.Core.Path.{_≡_, refl}
-use mathlib.Core.List.{List, [], _∷_, map, reverse}
+use mathlib.Core.List.{List, [], _∷_, map}
 use Rattle.base.specs.Lists.{Each}
 use Rattle.bytecode.specs.Run.{Instruction, BoardList}
-use Rattle.placement.specs.Place.{Placed, top, placesOf, reusing}
+use Rattle.placement.specs.Place.{top, reusing}
 use Rattle.placement.specs.Balance.{historyOf, heldDuring, widthsOf, count, free}
 
 -- an instruction without constants, and 0 as a constant

@@ -2,7 +2,7 @@
 use borrow.Author.Needs.{needs}
 use Prim.Native.Nat.{_+_, _-_, _≤_, _<_}
 use native.Mathlib.Omega.{arith}
-use Rattle.base.specs.Limits.{wordLimit, valueLimit}
+use Rattle.base.specs.Limits.{valueLimit}
 use Rattle.placement.proofs.Loop.{Going, going, going-next, going-over, going-end}
 use Rattle.placement.proofs.place_all.Statement.{statement}
 use Rattle.placement.proofs.place_all.Tie as tie
