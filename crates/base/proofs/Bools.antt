@@ -5,6 +5,9 @@ use mathlib.Core.Bool.{Bool, true, false, _&&_, _||_, cond}
 use mathlib.Core.Logic.{_⊎_, inl, inr}
 use native.Mathlib.Omega.{arith}
 
+pub never : {A : Type 0} → false ≡ true → A
+never e = let z : _≡_ {A = ℕ} 0 1 = cc in absurd (omega arith)
+
 pub or-inv : (a b : Bool) → a || b ≡ true → (a ≡ true) ⊎ (b ≡ true)
 or-inv true b e = inl refl
 or-inv false b e = inr e

@@ -31,6 +31,19 @@ module _ {A : Type 0} where
   each-drop P (suc n) [] h = tt
   each-drop P (suc n) (x ∷ xs) (p, h) = each-drop P n xs h
 
+  pub each-in : (P : A → Type 0) (xs : List A) → Each P xs → (x : A) → Is x xs → P x
+  each-in P [] h x i = absurd i
+  each-in P (y ∷ ys) (p, h) x (inl e) = subst P (sym e) p
+  each-in P (y ∷ ys) (p, h) x (inr i) = each-in P ys h x i
+
+  pub each-on : (P Q : A → Type 0) → ((x : A) → P x → Q x) → (xs : List A) → Each P xs → Each Q xs
+  each-on P Q f [] h = tt
+  each-on P Q f (x ∷ xs) (p, h) = (f x p, each-on P Q f xs h)
+
+  pub each-both : (P Q R : A → Type 0) → ((x : A) → P x → Q x → R x) → (xs : List A) → Each P xs → Each Q xs → Each R xs
+  each-both P Q R f [] h k = tt
+  each-both P Q R f (x ∷ xs) (p, h) (q, k) = (f x p q, each-both P Q R f xs h k)
+
   -- past the end stands nothing
   pub past-end : (xs : List A) (i : ℕ) → getElem? xs i ≡ none → length xs ≤ i
   past-end [] i e = omega arith
@@ -53,6 +66,10 @@ module _ {A : Type 0} where
   reversed-back x (y ∷ xs) ys (inl (inl e)) = reversed-back x xs (y ∷ ys) (inr (inl e))
   reversed-back x (y ∷ xs) ys (inl (inr h)) = reversed-back x xs (y ∷ ys) (inl h)
   reversed-back x (y ∷ xs) ys (inr h) = reversed-back x xs (y ∷ ys) (inr (inr h))
+
+pub each-map : (P : ℕ → Type 0) (g : ℕ → ℕ) (xs : List ℕ) → ((a : ℕ) → Is a xs → P (g a)) → Each P (map g xs)
+each-map P g [] h = tt
+each-map P g (x ∷ xs) h = (h x (inl refl), each-map P g xs (λ a i. h a (inr i)))
 
 pub each-less : (xs : List ℕ) (m n : ℕ) → m ≤ n → Each (λ a. a < m) xs → Each (λ a. a < n) xs
 each-less [] m n h e = tt
@@ -133,6 +150,13 @@ span-length a (suc n) = ap suc (span-length (suc a) n)
 pub span-below : (n a hi : ℕ) → a + n ≤ hi → Each (λ x. x < hi) (span a n)
 span-below zero a hi h = tt
 span-below (suc n) a hi h = (omega arith, span-below n (suc a) hi (omega arith))
+
+pub span-each : (P : ℕ → Type 0) (n a : ℕ) → ((j : ℕ) → j < n → P (a + j)) → Each P (span a n)
+span-each P zero a h = tt
+span-each P (suc n) a h = (
+  subst P (add-zero a) (h 0 (omega arith)),
+  span-each P n (suc a) (λ j l. subst P (add-suc a j ∙ sym (suc-add a j)) (h (suc j) (omega arith))),
+)
 
 pub made-at : (A : Type 0) (d : A) (g : ℕ → A) (n a j : ℕ) → j < n → getD (map g (span a n)) j d ≡ g (a + j)
 made-at A d g zero a j h = absurd (omega arith)

@@ -34,6 +34,10 @@ operationLimit = 4096
 abbrev pub wordLimit : ℕ
 wordLimit = 8192
 
+-- values of a list that can be compiled: its inputs and its results
+abbrev pub placedLimit : ℕ
+placedLimit = portLimit + operationLimit
+
 -- both sums of a function are within the limits
 abbrev pub withinLimits : ℕ → ℕ → Bool
 withinLimits operations words = leb operations operationLimit && leb words wordLimit

@@ -24,6 +24,8 @@ pub const SLOT_LIMIT: usize = NODE_LIMIT * OPERAND_LIMIT;
 pub const OPERATION_LIMIT: usize = 4096;
 
 pub const WORD_LIMIT: usize = 8192;
+// Values of a list that can be compiled: its inputs and its results.
+pub const PLACED_LIMIT: usize = PORT_LIMIT + OPERATION_LIMIT;
 // Words of a value: a matrix has the most.
 pub const VALUE_LIMIT: usize = 16;
 // Bytes of one instruction, with the most operands and a matrix as its constant, and of all instructions of a function

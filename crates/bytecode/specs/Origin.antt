@@ -8,8 +8,8 @@ use lib.ListN.{length, getD, getElem?, replicate}
 use lib.Seq.{sets}
 use Rattle.ports.specs.Kinds.{kindOf}
 use Rattle.ports.specs.Ports.{widths, takes, gives, legalInstruction}
-use Rattle.base.specs.Lists.{span, Each}
-use Rattle.bytecode.specs.Run.{Instruction, BoardList, spans}
+use Rattle.base.specs.Lists.{span}
+use Rattle.bytecode.specs.Run.{Instruction, spans}
 
 pub data Origin : Type 0 where
   unwritten : Origin
@@ -87,15 +87,3 @@ pub record Roomy (words : ℕ) (i : Instruction) : Type 0 where
   pub legal : legalInstruction (kindOf (i .kind)) (i .type) ≡ true
   pub count : length (i .operands) ≡ length (takes (kindOf (i .kind)) (i .type))
   pub room : i .result + resultWidth i ≤ words
-
--- ---- what is asked of a list that gives the same words as another
-
-pub record Routed (b b′ : BoardList) (xs : List Numbered) : Type 0 where
-  pub arguments : b′ .arguments ≡ b .arguments
-  pub within : b .arguments ≤ b′ .words
-  pub listed : b′ .instructions ≡ map (λ x. x .instruction) xs
-  pub rooms : Each (λ x. Roomy (b′ .words) (x .instruction)) xs
-  pub carries : Carries (readings 0 (b .instructions) (start (b .arguments) (b .words))) (start (b .arguments) (b′ .words)) xs
-  pub outputs :
-      map (originAt (final 0 (b .instructions) (start (b .arguments) (b .words)))) (b .outputs)
-      ≡ map (originAt (finalOf xs (start (b .arguments) (b′ .words)))) (b′ .outputs)

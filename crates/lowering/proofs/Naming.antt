@@ -27,7 +27,10 @@ use Rattle.bytecode.specs.declared.Version.the-variants.{V2}
 use Rattle.bytecode.specs.Run.{Instruction, places}
 use Rattle.bytecode.specs.Ranges.{Range, resultValue}
 use Rattle.lowering.specs.Compile.{Written, portsAt, address, Inlined, Inline, single, inlineNode, Body, also, inlineNodes, inlineFunction, inlined, boardListOf}
-use Rattle.lowering.specs.Naming.{inputValues, nameStep, sizing, names, namedOf, nothing, Names, AllNames, AllRename, Whole, AllWhole}
+use Rattle.placement.specs.Live.{inputValues}
+use Rattle.placement.specs.Arrays.{nothing}
+use Rattle.placement.specs.OneValue.{InOneEach, AllInOne}
+use Rattle.lowering.specs.Naming.{nameStep, sizing, names, namedOf, Names, AllNames, AllRename}
 use Rattle.lowering.proofs.Simulate.{writtenIds, all-ready}
 
 -- ---- how many instructions: as many for every size, wherever the arguments and the results stand
@@ -411,7 +414,7 @@ value-is [] i l = absurd (omega arith)
 value-is (v ∷ values) zero l = inl refl
 value-is (v ∷ values) (suc i) l = inr (value-is values i (omega arith))
 
-names-whole : (values all : List Range) → ((r : Range) → Is r values → Is r all) → (ts at xs : List ℕ) → AllNames values ts at xs → Whole all ts xs
+names-whole : (values all : List Range) → ((r : Range) → Is r values → Is r all) → (ts at xs : List ℕ) → AllNames values ts at xs → InOneEach all ts xs
 names-whole values all among [] [] [] h = tt
 names-whole values all among [] [] (x ∷ xs) h = absurd h
 names-whole values all among [] (a ∷ at) xs h = absurd h
@@ -425,7 +428,7 @@ names-whole values all among (t ∷ ts) (a ∷ at) (x ∷ xs) (n, h) =
       names-whole values all among ts at xs h,
     )
 
-rename-whole : (values all : List Range) → ((r : Range) → Is r values → Is r all) → (is js : List Instruction) → AllRename values is js → AllWhole all js
+rename-whole : (values all : List Range) → ((r : Range) → Is r values → Is r all) → (is js : List Instruction) → AllRename values is js → AllInOne all js
 rename-whole values all among [] [] h = tt
 rename-whole values all among [] (j ∷ js) h = absurd h
 rename-whole values all among (i ∷ is) [] h = absurd h
@@ -440,6 +443,6 @@ rename-whole values all among (i ∷ is) (j ∷ js) (r, h) = (
     last (u ∷ vs) g v (inl e) = g v (inl e)
     last (u ∷ vs) g v (inr k) = last vs (λ w l. g w (inr l)) v k
 
-pub one-value : (early : List Function) (f : Function) → AllSound (f ∷ early) → AllWhole (inputValues 0 (f .inputs)) (boardListOf early f .instructions)
+pub one-value : (early : List Function) (f : Function) → AllSound (f ∷ early) → AllInOne (inputValues 0 (f .inputs)) (boardListOf early f .instructions)
 one-value early f sound =
     rename-whole (inputValues 0 (f .inputs)) (inputValues 0 (f .inputs)) (λ v k. k) (namedOf early f .code) (boardListOf early f .instructions) (naming early f sound .code)

@@ -6,18 +6,13 @@ use mathlib.Core.List.{List, [], _∷_, _++_}
 use lib.ListN.{length, getD}
 use Rattle.ports.specs.Kinds.{kindOf}
 use Rattle.ports.specs.Ports.{width, widths, takes}
-use Rattle.base.specs.Lists.{Is}
 use Rattle.graph.specs.Graph.{Function}
 use Rattle.bytecode.specs.declared.Version.{Version}
 use Rattle.bytecode.specs.declared.Version.the-variants.{V1, V2}
 use Rattle.bytecode.specs.Run.{Instruction}
-use Rattle.bytecode.specs.Ranges.{Range, end, resultValue}
+use Rattle.bytecode.specs.Ranges.{Range, resultValue}
+use Rattle.placement.specs.Arrays.{nothing}
 use Rattle.lowering.specs.Compile.{Inlined, inlineFunction, inlined}
-
--- the values of inputs of these types, one after the other
-abbrev pub inputValues : ℕ → List ℕ → List Range
-inputValues at [] = []
-inputValues at (t ∷ ts) = record { first = at; width = width t } ∷ inputValues (at + width t) ts
 
 -- more than the ports of an instruction: decomposevector has three
 abbrev pub nameStep : ℕ
@@ -38,9 +33,6 @@ abbrev pub namedOf : List Function → Function → Inlined
 namedOf early f = inlineFunction (sizing V2) (inlined (sizing V2) early) f (names 0 (length (f .inputs))) (nameStep * length (f .inputs))
 
 -- ---- what a name stands for
-
-abbrev pub nothing : Range
-nothing = record { first = 0; width = 0 }
 
 -- where these are the values, the name a stands for the word x, and a value of the type t there is within one of them
 pub record Names (values : List Range) (t a x : ℕ) : Type 0 where
@@ -69,23 +61,3 @@ AllRename values [] [] = Unit {0}
 AllRename values [] (j ∷ js) = ⊥
 AllRename values (i ∷ is) [] = ⊥
 AllRename values (i ∷ is) (j ∷ js) = Renames values i j × AllRename (values ++ (resultValue j ∷ [])) is js
-
--- ---- lists whose instructions read each operand from one value
-
--- the n words from `at` on are words of one of these values
-pub record Within (values : List Range) (n at : ℕ) : Type 0 where
-  pub value : Range
-  pub is : Is value values
-  pub from : value .first ≤ at
-  pub to : at + n ≤ end value
-
--- values of these types at these addresses
-abbrev pub Whole : List Range → List ℕ → List ℕ → Type 0
-Whole values [] [] = Unit {0}
-Whole values [] (a ∷ at) = ⊥
-Whole values (t ∷ ts) [] = ⊥
-Whole values (t ∷ ts) (a ∷ at) = Within values (width t) a × Whole values ts at
-
-abbrev pub AllWhole : List Range → List Instruction → Type 0
-AllWhole values [] = Unit {0}
-AllWhole values (i ∷ is) = Whole values (takes (kindOf (i .kind)) (i .type)) (i .operands) × AllWhole (resultValue i ∷ values) is

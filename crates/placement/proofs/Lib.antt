@@ -1,0 +1,13 @@
+pub mod Ranges
+pub mod Gaps
+pub mod LastRead
+pub mod Balanced
+pub mod Carried
+pub mod Following
+pub mod Values
+pub mod Held
+pub mod Scan
+pub mod Steps
+pub mod Loop
+pub mod Notes
+pub mod Words
