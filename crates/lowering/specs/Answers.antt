@@ -10,40 +10,62 @@ use Rattle.graph.specs.Graph.{Function}
 use Rattle.graph.specs.Judge.{table}
 use Rattle.graph.specs.Sums.{functionOperations, operationsOf, functionWords}
 use Rattle.graph.specs.Table.{Chosen, chosen}
-use Rattle.bytecode.specs.declared.Version.the-variants.{V1}
+use Rattle.bytecode.specs.declared.Version.{Version}
+use Rattle.bytecode.specs.declared.Version.the-variants.{V1, V2}
+use Rattle.bytecode.specs.Version.{versionOf}
+use Rattle.bytecode.specs.Run.{BoardList}
 use Rattle.bytecode.specs.Code.{encode}
 use Rattle.bytecode.specs.Answers.{ran}
+use Rattle.placement.specs.Place.{reusing}
 use Rattle.lowering.specs.Compile.{boardListOf}
 
--- ---- the compiler: 14, 15, 16, 17
+-- ---- a function's list in a version
 
--- the function of an id, within the limits; the functions stand the last first
-abbrev pub within : List Function → ℕ → Outcome Chosen
-within latest c = do
+-- in version 2 its words are used again
+abbrev pub listOf : Version → Chosen → BoardList
+listOf V1 x = boardListOf (x .early) (x .function)
+listOf V2 x = reusing (x .function .inputs) (boardListOf (x .early) (x .function))
+
+-- 01's sum; in version 2 the highest word ever held plus one
+abbrev pub wordsOf : Version → Chosen → ℕ
+wordsOf V1 x = functionWords (x .early) (x .function)
+wordsOf V2 x = listOf V2 x .words
+
+abbrev pub codeOf : Version → Chosen → List ℕ
+codeOf v x = encode v (listOf v x)
+
+-- ---- the compiler: 14, 31, 15, 16, 17
+
+-- a function and a version of its list
+pub record Job : Type 0 where
+  pub chosen : Chosen
+  pub version : Version
+
+-- the function of an id and the version of a number, within the limits; the functions stand the last first
+abbrev pub within : List Function → ℕ → ℕ → Outcome Job
+within latest c n = do
   x ← orElse (chosen c latest) 14 0
+  v ← orElse (versionOf n) 31 0
   need (leb (functionOperations (operationsOf (x .early)) (x .function)) operationLimit) 15 0
-  need (leb (functionWords (x .early) (x .function)) wordLimit) 16 0
-  ok x
+  need (leb (wordsOf v x) wordLimit) 16 0
+  ok (record { chosen = x; version = v })
 
 -- of an accepted table
-abbrev pub compilable : List ℕ → ℕ → Outcome Chosen
-compilable s c = do
+abbrev pub compilable : List ℕ → ℕ → ℕ → Outcome Job
+compilable s c n = do
   latest ← table s
-  within latest c
-
-abbrev pub codeOf : Chosen → List ℕ
-codeOf x = encode V1 (boardListOf (x .early) (x .function))
+  within latest c n
 
 -- the code's length, and the buffer with the code at its front
 pub record Compiled : Type 0 where
   pub size : ℕ
   pub buffer : List ℕ
 
-unfoldable pub compiled : List ℕ → ℕ → List ℕ → Outcome Compiled
-compiled s c buffer = do
-  x ← compilable s c
-  need (leb (length (codeOf x)) (length buffer)) 17 0
-  ok (record { size = length (codeOf x); buffer = sets buffer 0 (codeOf x) })
+unfoldable pub compiled : List ℕ → ℕ → ℕ → List ℕ → Outcome Compiled
+compiled s c n buffer = do
+  j ← compilable s c n
+  need (leb (length (codeOf (j .version) (j .chosen))) (length buffer)) 17 0
+  ok (record { size = length (codeOf (j .version) (j .chosen)); buffer = sets buffer 0 (codeOf (j .version) (j .chosen)) })
 
 -- ---- from table to output words: the compiler's answer, then the runner's on the code's bytes alone
 
@@ -55,8 +77,8 @@ pub record Evaluated : Type 0 where
   pub out : List ℕ
 
 -- a refusal leaves all three buffers as they were
-unfoldable pub evaluated : List ℕ → ℕ → List ℕ → List ℕ → List ℕ → List ℕ → Outcome Evaluated
-evaluated s c arguments code work out = do
-  a ← compiled s c code
+unfoldable pub evaluated : List ℕ → ℕ → ℕ → List ℕ → List ℕ → List ℕ → List ℕ → Outcome Evaluated
+evaluated s c n arguments code work out = do
+  a ← compiled s c n code
   b ← ran (take (a .size) (a .buffer)) arguments work out
   ok (record { count = b .count; code = a .buffer; work = b .work; out = b .out })

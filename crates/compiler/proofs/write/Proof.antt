@@ -120,8 +120,7 @@ walk-requires c κs =
     let f = first-of-header h in
     let b = entry-of-outputs (f .before) in
     let e = h .put-header .kept .0 in
-    let l = b .pre .1 .2 in
-    (
+    let l = b .pre .1 .2 in (
       (low b, b .pre .0 .1),
       (
         b .pre .0 .2 .allocated,
