@@ -133,17 +133,14 @@ noted-start size m inputs b v l = none v size
     none zero (suc n) = refl
     none (suc a) (suc n) = none a n
 
-module _ (m : ℕ) (inputs : List ℕ) (b : BoardList) (t : Placeable inputs b) (before : length inputs ≡ m) (few : length (b .instructions) + m ≤ placedLimit)
+module _ (m : ℕ) (inputs : List ℕ) (b : BoardList) (t : Placeable inputs b) (before : length inputs ≡ m) (few : m + length (b .instructions) ≤ placedLimit)
     (last last′ vs : List ℕ) (size : length last ≡ placedLimit) where
-  abbrev all : ℕ
-  all = m + length (b .instructions)
-
   up : (u v : ℕ) → u < v → v < m + length (b .instructions) → end (valueAt inputs b u) ≤ valueAt inputs b v .first
   up u v l h = values-up inputs b t u v l (omega arith)
 
   -- the operands of instruction k stand in the values numbered vs, and each has k + 1
   pub noted-step : (k : ℕ) → k < length (b .instructions) → Noted last m inputs b k
-      → Named (valueAt inputs b) all vs (takes (kindOf (instructionAt b k .kind)) (instructionAt b k .type)) (instructionAt b k .operands) → Stored last last′ vs (k + 1)
+      → Named (valueAt inputs b) (m + length (b .instructions)) vs (takes (kindOf (instructionAt b k .kind)) (instructionAt b k .type)) (instructionAt b k .operands) → Stored last last′ vs (k + 1)
       → Noted last′ m inputs b (k + 1)
   noted-step k l h named s v lv =
       let is = b .instructions in
@@ -153,18 +150,18 @@ module _ (m : ℕ) (inputs : List ℕ) (b : BoardList) (t : Placeable inputs b) 
       let next : lastRead (take (suc k) is) r ≡ cond (readBy r i) (suc (length (take k is))) (lastRead (take k is) r) =
       ap (λ (js : List Instruction). lastRead js r) (take-suc is k blank l) ∙ last-next (take k is) i r in
       s v (omega arith)
-      ∙ ap₂ (λ (c : Bool) (y : ℕ). cond c (k + 1) y) (sym (named-among (valueAt inputs b) all up v lv vs (takes (kindOf (i .kind)) (i .type)) (i .operands) named)) (h v lv)
+      ∙ ap₂ (λ (c : Bool) (y : ℕ). cond c (k + 1) y) (sym (named-among (valueAt inputs b) (m + length (b .instructions)) up v lv vs (takes (kindOf (i .kind)) (i .type)) (i .operands) named)) (h v lv)
       ∙ ap (λ (y : ℕ). cond (readBy r i) y (lastRead (take k is) r)) (add-one k ∙ ap suc (sym length-k))
       ∙ sym next
       ∙ ap (λ (j : ℕ). lastRead (take j is) r) (sym (add-one k))
 
   -- behind the last one the outputs of these types stand in the values numbered vs, and each has n + 1
   pub noted-end : (n : ℕ) (types ports : List ℕ) → n ≡ length (b .instructions) → Noted last m inputs b n → b .outputs ≡ spans types ports
-      → Named (valueAt inputs b) all vs types ports → Stored last last′ vs (n + 1) → Lasting last′ m inputs b
+      → Named (valueAt inputs b) (m + length (b .instructions)) vs types ports → Stored last last′ vs (n + 1) → Lasting last′ m inputs b
   noted-end n types ports e h outs named s v j lv lj =
       let r = valueAt inputs b v in
       live-last (b .instructions) (b .outputs) r j
-      ∙ ap (λ (c : Bool). ltb j (lastRead (b .instructions) r) || c) (ap (any (inside r)) outs ∙ named-among (valueAt inputs b) all up v lv vs types ports named)
+      ∙ ap (λ (c : Bool). ltb j (lastRead (b .instructions) r) || c) (ap (any (inside r)) outs ∙ named-among (valueAt inputs b) (m + length (b .instructions)) up v lv vs types ports named)
       ∙ pick (lastRead (b .instructions) r) (among v vs)
       ∙ ap (λ (y : ℕ). ltb j (cond (among v vs) (n + 1) y)) (sym (h v lv ∙ ap (λ (js : List Instruction). lastRead js r) (take-all n (b .instructions) (omega arith))))
       ∙ ap (ltb j) (sym (s v (omega arith)))

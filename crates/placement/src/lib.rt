@@ -50,7 +50,7 @@ const BLOCK: usize = 64;
 const BLOCKS: usize = WORD_LIMIT / BLOCK;
 
 const BOUND_LIMIT: usize = VALUE_LIMIT * BLOCKS;
-// Fewer words than this are searched one by one.
+// Up to this many words are searched one by one.
 const FEW: usize = 64;
 // Behind all instructions.
 const NEVER: u16 = 0xFFFF;
