@@ -5,16 +5,20 @@ use mathlib.Core.List.{List, _++_, map}
 use lib.ListN.{length, replicate}
 use lib.Seq.{sets}
 use Rattle.base.specs.Bytes.{allBytes}
-use Rattle.base.specs.Limits.{operationLimit, portLimit, portWordLimit}
+use Rattle.base.specs.Limits.{operationLimit, placedLimit, portLimit, portWordLimit, wordLimit}
 use Rattle.ports.specs.Ports.{widths}
 use Rattle.graph.specs.Types.{outputTypes}
 use Rattle.bytecode.specs.declared.Version.{Version}
 use Rattle.bytecode.specs.declared.Version.the-variants.{V1, V2}
 use Rattle.bytecode.specs.Version.{number}
-use Rattle.bytecode.specs.Run.{places, spans}
+use Rattle.bytecode.specs.Run.{BoardList, places, spans}
 use Rattle.bytecode.specs.Code.{headerCode, encode}
 use Rattle.lowering.specs.Compile.{Inlined, inlineFunction, inlined, boardListOf}
 use Rattle.lowering.specs.Naming.{nameStep, sizing, names}
+use Rattle.placement.specs.declared.Extent.{Extent}
+use Rattle.placement.specs.Place.{reusing}
+use Rattle.placement.specs.Arrays.{Widths, Lasting}
+use Rattle.placement.specs.Record.{extentOf}
 use Rattle.sums.specs.Position.{functionIn, before}
 use Rattle.compiler.specs.declared.Pass.{Pass}
 use Rattle.compiler.specs.declared.Pass.the-variants.{Survey, Sequential, Addressed}
@@ -76,3 +80,23 @@ pub record Prepared (v : Version) (s : List ℕ) (k : ℕ) (outs order locations
   pub allocated : AllAllocated v s begins order locations (suc k)
   pub ports : AllOuts v s outs (suc k)
   pub inputs : ins ≡ sets (replicate portLimit 0) 0 (inputsBy v (functionIn s k .inputs))
+
+-- ---- version 2
+
+-- the list of version 1 that its words are named by, and the list of version 2
+abbrev pub sourceAt : List ℕ → ℕ → BoardList
+sourceAt s k = boardListOf (before s k) (functionIn s k)
+
+abbrev pub reusedAt : List ℕ → ℕ → BoardList
+reusedAt s k = reusing (functionIn s k .inputs) (sourceAt s k)
+
+-- the width of each value, and the instruction before which it is no longer held
+pub record Surveyed (s : List ℕ) (k : ℕ) (last wide : List ℕ) : Type 0 where
+  pub widths : Widths wide (length (functionIn s k .inputs)) (functionIn s k .inputs) (sourceAt s k)
+  pub lasting : Lasting last (length (functionIn s k .inputs)) (functionIn s k .inputs) (sourceAt s k)
+  pub size : length last ≡ placedLimit
+
+-- the word count, or more than the limit; within it, what is written with these places is the code of the list
+pub record Places (s : List ℕ) (k : ℕ) (place : List ℕ) (r : Extent) : Type 0 where
+  pub extent : r ≡ extentOf (reusedAt s k .words)
+  pub text : reusedAt s k .words ≤ wordLimit → textOf Addressed place s k (reusedAt s k .words) ≡ encode V2 (reusedAt s k)
