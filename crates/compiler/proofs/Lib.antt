@@ -14,3 +14,4 @@ pub mod Outputs
 pub mod Tables
 pub mod Ending
 pub mod Assembly
+pub mod Placing

@@ -126,3 +126,11 @@ module _ (inputs : List ℕ) (b : BoardList) (m n : ℕ) (place until : List ℕ
       let e = ap (λ (k : ℕ). historyOf inputs b k) all ∙ history-all inputs b in
       word-place (placesOf inputs b) (record { value = valueAt inputs b v; place = getD place v 0 }) a (all-along inputs b t .distinct)
       (subst (λ (ps : List Placed). PlacedAt inputs b place ps v) e (p .places (subst (λ (ps : List Placed). top ps ≤ wordLimit) (sym e) fits) v l)) lo hi
+
+  -- and it is below the word count
+  pub placed-below : Placeable inputs b → reusing inputs b .words ≤ wordLimit → (v a : ℕ) → v < m + n → valueAt inputs b v .first ≤ a → a < end (valueAt inputs b v)
+      → rename (placesOf inputs b) a < reusing inputs b .words
+  placed-below t fits v a l lo hi =
+      let e = ap (λ (k : ℕ). historyOf inputs b k) all ∙ history-all inputs b in
+      word-below (placesOf inputs b) (record { value = valueAt inputs b v; place = getD place v 0 }) a (all-along inputs b t .distinct)
+      (subst (λ (ps : List Placed). PlacedAt inputs b place ps v) e (p .places (subst (λ (ps : List Placed). top ps ≤ wordLimit) (sym e) fits) v l)) lo hi
