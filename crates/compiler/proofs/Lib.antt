@@ -13,4 +13,5 @@ pub mod Allocating
 pub mod Outputs
 pub mod Tables
 pub mod Ending
+pub mod Inputs
 pub mod Assembly
