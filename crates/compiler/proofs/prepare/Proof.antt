@@ -1,13 +1,11 @@
 use borrow.Author.Needs.{needs}
 use Prim.Native.Nat.{ℕ, suc, _+_, _≤_, _<_}
-use mathlib.Core.Path.{_≡_, ap, sym, _∙_}
-use mathlib.Core.List.{List}
+use mathlib.Core.Path.{_≡_, ap, _∙_}
 use native.Mathlib.Omega.{arith}
-use lib.ListN.{length, getD, replicate}
-use lib.Seq.{sets}
+use lib.ListN.{getD}
 use Rattle.base.specs.Limits.{functionLimit, portLimit}
 use Rattle.base.specs.Bytes.{byte}
-use Rattle.reader.specs.Layout.{inputCount, functionAt}
+use Rattle.reader.specs.Layout.{inputCount}
 use Rattle.reader.specs.Find.{ReadsFunction}
 use Rattle.reader.proofs.Passed.{Holds, function-holds}
 use Rattle.sums.specs.Position.{placeOf}

@@ -4,13 +4,13 @@ use mathlib.Core.Path.{_≡_, ap, _∙_}
 use native.Mathlib.Omega.{arith}
 use lib.ListN.{length, getD}
 use Rattle.ports.specs.Ports.{width}
+use Rattle.base.specs.Limits.{functionLimit, portLimit}
 use Rattle.base.specs.Bytes.{byte}
 use Rattle.compiler.specs.Emit.{addressOf}
 use Rattle.compiler.specs.Whole.{relocateBy}
 use Rattle.compiler.proofs.Ending.{Outgoing, out-start, out-room, out-step, out-done}
 use Rattle.compiler.proofs.assemble.put_outputs.Statement.{statement}
 use Rattle.compiler.proofs.assemble.put_outputs.Tie as tie
-use Rattle.base.specs.Limits.{functionLimit, portLimit}
 
 abbrev Inv-loop : tie.InvT-loop
 Inv-loop pass table entries n outs k ins first place code₀ at q₀ here₀ j₀ code q here j =
@@ -53,7 +53,7 @@ addressed c =
 wide : (c : tie.After-width Inv-loop μ-loop) → let l = loop-of-width c .before in c .width .result ≡ width (byte (entry-of-head l .args .table .now) (l .loop .q))
 wide c = c .width .ensures .0
 
--- there is room for the words at hand
+-- there is room for the words at hand; `good` has the length of `code`
 room : (c : tie.After-width Inv-loop μ-loop) →
     let l = loop-of-width c .before in
     let end = l .loop .here + 2 * c .width .result in
@@ -61,8 +61,9 @@ room : (c : tie.After-width Inv-loop μ-loop) →
 room c =
     let d = loop-of-width c in
     let x = out-room (d .before .loop .inv) (d .loop-test .taken) (wide c) in
-    let y = entry-of-head (d .before) .pre .1 in
-    (omega arith, omega (arith, d .before .before .slice-known .given))
+    let b = entry-of-head (d .before) in
+    let y = b .pre .1 in
+    (omega arith, omega (arith, b .good .1 .1 .1 .1 .1 .1 .1 .1 .1 .0))
 
 -- the element of `outs`
 output : (c : tie.In-loop Inv-loop μ-loop) → (c .before .loop .j < portLimit) × (entry-of-head (c .before) .args .k < functionLimit)
