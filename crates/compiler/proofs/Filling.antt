@@ -1,5 +1,5 @@
 -- The loops that fill the layout's arrays, in plain terms.
-use Prim.Native.Nat.{ℕ, suc, _+_, _-_, _/_, _%_, _≤_, _<_}
+use Prim.Native.Nat.{ℕ, suc, _+_, _-_, _*_, _/_, _%_, _≤_, _<_}
 use mathlib.Core.Path.{_≡_, refl, sym, ap, _∙_, subst}
 use mathlib.Core.Bool.{Bool, true, false, cond}
 use mathlib.Core.List.{List, [], _∷_, map}
@@ -21,7 +21,7 @@ use Rattle.reader.specs.declared.Found.the-variants.{At, Nothing}
 use Rattle.order.specs.Indices.{slot}
 use Rattle.order.specs.Resolve.{indexFrom, indexOf, target}
 use Rattle.sums.specs.Answers.{typesBy}
-use Rattle.lowering.specs.Naming.{nameStep}
+use Rattle.lowering.specs.Naming.{nameStep, names}
 use Rattle.compiler.specs.Emit.{addressOf, addressesIn, relocate, noted}
 use Rattle.compiler.specs.Locating.{Slots, portCode, readCodes, rebasedCode, rebasedCodes, resultCodes, outputCodes}
 use Rattle.resolver.specs.Slots.{rowsOf, placesOf, PlacesAre, nodesBy}
@@ -46,6 +46,11 @@ places-next place locations ins first b {n} {j} h e ew ex =
 
 pub span-next : (a : ℕ) {n j : ℕ} → j < n → span (a + j) (n - j) ≡ (a + j) ∷ span (a + (j + 1)) (n - (j + 1))
 span-next a {n} {j} h = let z : a + (j + 1) ≡ suc (a + j) = omega arith in rw z (ap (span (a + j)) (one-less n j h))
+
+pub names-next : {n j : ℕ} → j < n → names j (n - j) ≡ (nameStep * j) ∷ names (j + 1) (n - (j + 1))
+names-next {n} {j} h =
+    let z : suc j ≡ j + 1 = omega arith in
+    ap (names j) (one-less n j h) ∙ ap (λ (i : ℕ). (nameStep * j) ∷ names i (n - (j + 1))) z
 
 pub types-next : (step : ℕ) (s : List ℕ) (q : ℕ) {n j : ℕ} → j < n → typesBy step (n - j) s q ≡ byte s q ∷ typesBy step (n - (j + 1)) s (q + step)
 types-next step s q {n} {j} h = ap (λ (m : ℕ). typesBy step m s q) (one-less n j h)

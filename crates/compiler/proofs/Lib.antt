@@ -13,5 +13,6 @@ pub mod Allocating
 pub mod Outputs
 pub mod Tables
 pub mod Ending
+pub mod Inputs
 pub mod Assembly
 pub mod Placing

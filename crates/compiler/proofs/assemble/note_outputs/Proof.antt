@@ -1,94 +1,66 @@
+use borrow.Author.Needs.{needs}
+use Prim.Native.Nat.{_+_, _-_, _*_, _≤_, _<_}
+use mathlib.Core.Path.{_≡_, refl, sym, _∙_, ap}
+use mathlib.Core.Logic.{⊎-elim}
+use native.Mathlib.Omega.{arith}
+use lib.Seq.{set-out}
+use Rattle.base.specs.Limits.{functionLimit, portLimit}
+use Rattle.base.proofs.Stores.{none-left}
+use Rattle.compiler.specs.Emit.{addressOf, addressesIn}
+use Rattle.compiler.proofs.Filling.{addresses-next, Noting, note-more, note-done}
 use Rattle.compiler.proofs.assemble.note_outputs.Statement.{statement}
 use Rattle.compiler.proofs.assemble.note_outputs.Tie as tie
-use Rattle.compiler.proofs.assemble.note_outputs.Reads as reads
-use Rattle.compiler.proofs.assemble.note_outputs.Lts as lts
-use Rattle.base.proofs.wide16.Reads as wide16-reads
-use Rattle.compiler.proofs.walk.address.Reads as address-reads
 
 abbrev Inv-loop : tie.InvT-loop
-Inv-loop n outs k ins first place₀ x j₀ place j = ?
+Inv-loop n outs k ins first place₀ x j₀ place j =
+    (j ≤ n) × Noting place₀ x (addressesIn outs ins first (portLimit * k) n) place (addressesIn outs ins first (portLimit * k + j) (n - j))
 
 abbrev μ-loop : tie.MeasureT-loop
-μ-loop n outs k ins first place₀ x j₀ place j = ?
+μ-loop n outs k ins first place₀ x j₀ place j = n - j
 
--- src/assemble.rt:126:5
+-- ---- places: from one back to another
+
+abbrev entry-of-loop : tie.In-loop Inv-loop μ-loop → tie.Start Inv-loop μ-loop
+entry-of-loop c = c .before .before .before
+
+abbrev loop-of-location : tie.After-wide16 Inv-loop μ-loop → tie.In-loop Inv-loop μ-loop
+loop-of-location c = c .before .before
+
+abbrev loop-of-address : tie.After-address Inv-loop μ-loop → tie.In-loop Inv-loop μ-loop
+loop-of-address c = loop-of-location (c .before)
+
+abbrev address-of-end : tie.Joined1 Inv-loop μ-loop → tie.After-address Inv-loop μ-loop
+address-of-end c = c .before .before
+
+-- the element of `outs`
+output : (c : tie.In-loop Inv-loop μ-loop) → (c .before .loop .j < portLimit) × (entry-of-loop c .args .k < functionLimit)
+output c = let t = c .loop-test .taken in let (n, k, first) = entry-of-loop c .pre in (omega arith, k)
+
 loop-holds : tie.Need-loop-holds Inv-loop μ-loop
-loop-holds c = ?
+loop-holds c =
+    let a = c .before .args in
+    let z : a .n - 0 ≡ a .n = omega arith in
+    let y : portLimit * a .k + 0 ≡ portLimit * a .k = omega arith in
+    (omega arith, record { same = refl; rest = rw (z, y) })
 
--- src/assemble.rt:127:29
-mul-wide16 : tie.Need-mul-wide16 Inv-loop μ-loop
-mul-wide16 c = ?
-
--- src/assemble.rt:127:29
-add-wide16 : tie.Need-add-wide16 Inv-loop μ-loop
-add-wide16 c = ?
-
--- src/assemble.rt:127:24
-mul-wide16-2 : tie.Need-mul-wide16-2 Inv-loop μ-loop
-mul-wide16-2 c = ?
-
--- src/assemble.rt:127:24
-element-copy-out-wide16 : tie.Need-element-copy-out-wide16 Inv-loop μ-loop
-element-copy-out-wide16 c = ?
-
--- src/assemble.rt:127:13
-wide16-requires : tie.Need-wide16-requires Inv-loop μ-loop
-wide16-requires c κs = ?
-
--- src/assemble.rt:128:24
-address-requires : tie.Need-address-requires Inv-loop μ-loop
-address-requires c κs = ?
-
--- src/assemble.rt:128:17
-wide16-requires-2 : tie.Need-wide16-requires-2 Inv-loop μ-loop
-wide16-requires-2 c κs = ?
-
--- src/assemble.rt:130:13
-mul-place : tie.Need-mul-place Inv-loop μ-loop
-mul-place c = ?
-
--- src/assemble.rt:130:13
-slice-write-place : tie.Need-slice-write-place Inv-loop μ-loop
-slice-write-place c = ?
-
--- src/assemble.rt:132:9
-add-j : tie.Need-add-j Inv-loop μ-loop
-add-j c = ?
-
--- src/assemble.rt:126:5
-loop-less : tie.Need-loop-less Inv-loop μ-loop
-loop-less c = ?
-
--- src/assemble.rt:126:5
 loop-again : tie.Need-loop-again Inv-loop μ-loop
-loop-again c = ?
+loop-again c =
+    let d = address-of-end c in
+    let l = loop-of-address d in
+    let a = entry-of-loop l .args in
+    let e = addresses-next (a .outs .now) (a .ins .now) (a .first) (portLimit * a .k) (l .loop-test .taken) (d .address .ensures ∙ ap (addressOf (a .ins .now) (a .first)) (d .before .wide16 .ensures .0)) in
+    (omega arith, note-more (l .before .loop .inv .1) e (c .before .wide162 .ensures .0) (⊎-elim (λ h. h .1) (λ h. h .1 ∙ sym (set-out _ _ _ (h .0 .left))) (c .if1 .came)))
 
--- src/assemble.rt:113:1
-same-length : tie.Need-same-length Inv-loop μ-loop
-same-length c = ?
-
--- src/assemble.rt:113:1
 returns : tie.Need-returns Inv-loop μ-loop
-returns c = ?
+unfolding addressesIn
+returns c =
+    let a = c .before .before .before .args in
+    let l = c .before .loop in
+    note-done (l .inv .1) (none-left (addressesIn (a .outs .now) (a .ins .now) (a .first) (portLimit * a .k + l .j)) (c .loop-test .left) refl)
 
 pub note-outputs-spec : {M : Type 1} → statement M
 note-outputs-spec =
     tie.close
-    (tie.spec
-    Inv-loop
-    μ-loop
-    loop-holds
-    mul-wide16
-    add-wide16
-    mul-wide16-2
-    element-copy-out-wide16
-    wide16-requires
-    address-requires
-    wide16-requires-2
-    mul-place
-    slice-write-place
-    add-j
-    loop-less
-    loop-again
-    same-length
-    returns)
+    (tie.spec Inv-loop μ-loop loop-holds (λ c. search needs) (λ c. let (j, k) = output c in omega arith) (λ c. search needs) (λ c. let (j, k) = output c in omega arith) (λ c κs. search needs)
+    (λ c κs. (entry-of-loop (loop-of-location c) .pre .2, c .wide16 .ensures .1)) (λ c κs. search needs) (λ c. search needs) (λ c. search needs)
+    (λ c. let (j, k) = output (loop-of-address (address-of-end c)) in omega arith) (λ c. search needs) loop-again (λ c. c .before .loop .inv .1 .same) returns)

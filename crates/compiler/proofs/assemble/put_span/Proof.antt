@@ -1,11 +1,13 @@
 use borrow.Author.Needs.{needs}
 use Prim.Native.Nat.{_+_, _-_, _*_, _≤_}
-use mathlib.Core.Path.{_≡_, refl, ap}
+use mathlib.Core.Path.{_≡_, refl, ap, _∙_}
 use native.Mathlib.Omega.{arith}
+use lib.Seq.{sets}
 use Rattle.base.proofs.Stores.{Run, run-start, run-more, run-done, none-left}
 use Rattle.base.specs.Bytes.{allBytes, bytesOf}
 use Rattle.base.specs.Lists.{span}
 use Rattle.compiler.proofs.Filling.{span-next}
+use Rattle.compiler.proofs.Ending.{address-bytes}
 use Rattle.compiler.proofs.assemble.put_span.Statement.{statement}
 use Rattle.compiler.proofs.assemble.put_span.Tie as tie
 
@@ -29,7 +31,10 @@ loop-again : tie.Need-loop-again Inv-loop μ-loop
 loop-again c =
     let l = put-of-end c .before in
     let b = l .before .before .before .args in
-    (omega arith, run-more (l .before .loop .inv .1) (bytesOf 2 (b .a + l .before .loop .j)) (ap (allBytes 2) (span-next (b .a) (l .loop-test .taken))) (c .before .before .put16 .ensures) (omega arith))
+    let h = l .before .loop in
+    let x = b .a + h .j in
+    let e = c .before .before .put16 .ensures ∙ ap (sets (h .code) (b .at + 2 * h .j)) (address-bytes x) in
+    (omega arith, run-more (h .inv .1) (bytesOf 2 x) (ap (allBytes 2) (span-next (b .a) (l .loop-test .taken))) e (omega arith))
 
 returns : tie.Need-returns Inv-loop μ-loop
 returns c =

@@ -1,52 +1,24 @@
 use borrow.Author.Needs.{needs}
+use mathlib.Core.Path.{ap, _∙_}
+use Rattle.compiler.specs.Emit.{relocate}
 use Rattle.compiler.proofs.assemble.written.Statement.{statement}
 use Rattle.compiler.proofs.assemble.written.Tie as tie
-use Rattle.compiler.proofs.assemble.written.Reads as reads
-use Rattle.compiler.proofs.assemble.written.Lts as lts
-use Rattle.base.proofs.wide16.Reads as wide16-reads
-use Rattle.compiler.proofs.walk.relocate.Reads as relocate-reads
 
--- src/assemble.rt:73:25
-enum-told : tie.Need-enum-told
-enum-told c = search needs
+-- ---- places: from one back to another
 
--- src/assemble.rt:74:29
-enum-told-2 : tie.Need-enum-told-2
-enum-told-2 c = search needs
+abbrev arm-of-place : tie.After-relocate → tie.After-enum-told3
+arm-of-place c = c .before .before
 
--- src/assemble.rt:75:44
-enum-told-3 : tie.Need-enum-told-3
-enum-told-3 c = search needs
+abbrev entry-of-arm : tie.After-enum-told3 → tie.Start
+entry-of-arm c = c .before .before .before
 
--- src/assemble.rt:75:44
-wide16-requires : tie.Need-wide16-requires
-wide16-requires c κs = search needs
-
--- src/assemble.rt:75:28
-relocate-requires : tie.Need-relocate-requires
-relocate-requires c κs = search needs
-
--- src/assemble.rt:69:1
-returns : tie.Need-returns
-returns c = search needs
-
--- src/assemble.rt:69:1
-returns-2 : tie.Need-returns-2
-returns-2 c = search needs
-
--- src/assemble.rt:69:1
 returns-3 : tie.Need-returns-3
-returns-3 c = ?
+returns-3 c =
+    let k = arm-of-place c in
+    let a = entry-of-arm k .args in
+    rw (k .enum-told3 .given .1) (c .relocate .ensures ∙ ap (relocate (a .place .now)) (c .before .wide16 .ensures .0))
 
 pub written-spec : {M : Type 1} → statement M
 written-spec =
     tie.close
-    (tie.spec
-    enum-told
-    enum-told-2
-    enum-told-3
-    wide16-requires
-    relocate-requires
-    returns
-    returns-2
-    returns-3)
+    (tie.spec (λ c. search needs) (λ c. search needs) (λ c. search needs) (λ c κs. search needs) (λ c κs. search needs) (λ c. search needs) (λ c. search needs) returns-3)
