@@ -130,7 +130,7 @@ module _ (pass : Pass) {s : List ℕ} {k : ℕ} (acc : Accepted s (suc k)) {coun
       let e : length (inputsBy ver (f .inputs)) ≡ length (f .inputs) = inputs-length ver (f .inputs) in
       subst (Same (inputsBy ver (f .inputs))) (sym (pr .inputs)) (padded portLimit (inputsBy ver (f .inputs)) (omega arith))
 
-  inlined-is : functionInlined ver s k ins first ≡ list
+  pub inlined-is : functionInlined ver s k ins first ≡ list
   unfolding functionInlined inlinedAt
   inlined-is = sym (function-same ver (inputsBy ver (f .inputs)) ins same (inlined (sizing ver) (before s k)) f first)
 
@@ -152,6 +152,11 @@ module _ (pass : Pass) {s : List ℕ} {k : ℕ} (acc : Accepted s (suc k)) {coun
   outputs-length place =
       spans-length (outputTypes (f .outputs)) (map (relocateBy pass place) (list .ports)) (length-map (list .ports) (relocateBy pass place) ∙ ports-length)
 
+  pub room-for : {code place : List ℕ} {at : ℕ} → at + length (bytesBy pass place (list .code)) ≤ length code → CodeRoom pass code place at first (functionInlined ver s k ins first)
+  room-for {code} {place} {at} l =
+      subst (λ (o : Inlined). CodeRoom pass code place at first o) (sym inlined-is)
+      (record { room = l; end = let a = next-is in let b = ms .end in omega arith; own = let a = next-is in let b = ms .own in omega arith })
+
   module _ (place : List ℕ) (words : ℕ) where
     pub text-length : length (textOf pass place s k words) ≡ 12 + length (bytesBy pass place (list .code)) + 2 * outputs
     unfolding textOf
@@ -167,9 +172,7 @@ module _ (pass : Pass) {s : List ℕ} {k : ℕ} (acc : Accepted s (suc k)) {coun
         omega arith
 
     pub walk-room : {code : List ℕ} → length (textOf pass place s k words) ≤ length code → CodeRoom pass code place 12 first (functionInlined ver s k ins first)
-    walk-room {code} l =
-        subst (λ (o : Inlined). CodeRoom pass code place 12 first o) (sym inlined-is)
-        (record { room = let a = text-length in omega arith; end = let a = next-is in let b = ms .end in omega arith; own = let a = next-is in let b = ms .own in omega arith })
+    walk-room {code} l = room-for (let a = text-length in omega arith)
 
   pub first-low : first ≤ unitBound
   first-low = let a = ms .end in let b = end-bound ver in omega arith
@@ -243,3 +246,8 @@ module _ (pass : Pass) {s : List ℕ} {k : ℕ} (acc : Accepted s (suc k)) {coun
         ∙ sym (sets-append i o code₁ 12)
         ∙ ap (λ (l : List ℕ). sets l 12 (i ++ o)) ec
         ∙ sym (sets-append h (i ++ o) code 0)
+
+-- a survey asks for no room
+pub survey-room : {s : List ℕ} {k : ℕ} → Accepted s (suc k) → {count inputs outputs : ℕ} → Measured V2 s k count inputs outputs → {outs order locations begins ins : List ℕ}
+    → Prepared V2 s k outs order locations begins ins → {code place : List ℕ} → CodeRoom Survey code place 0 (firstBy V2 (functionIn s k .inputs)) (functionInlined V2 s k ins (firstBy V2 (functionIn s k .inputs)))
+survey-room acc ms pr = room-for Survey acc ms pr (omega arith)

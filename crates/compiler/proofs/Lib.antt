@@ -16,3 +16,4 @@ pub mod Ending
 pub mod Inputs
 pub mod Assembly
 pub mod Placing
+pub mod Texts

@@ -52,7 +52,7 @@ measures-length wide [] = refl
 measures-length wide (i ∷ is) = measures-length _ is ∙ length-set wide (i .result / nameStep) (resultWidth i)
 
 -- these are the widths of these values
-abbrev Wides : List ℕ → List Range → Type 0
+abbrev pub Wides : List ℕ → List Range → Type 0
 Wides wide values = (v : ℕ) → v < length values → getD values v nothing .width ≡ getD wide v 0
 
 same-width : {values : List Range} {i j : Instruction} → Renames values i j → resultWidth i ≡ resultWidth j
@@ -93,7 +93,7 @@ wides-all (i ∷ is) (j ∷ js) wide values (a, r) l h =
 
 -- ---- notes
 
-noted-length : (last : List ℕ) (x : ℕ) (names : List ℕ) → length (noted last x names) ≡ length last
+pub noted-length : (last : List ℕ) (x : ℕ) (names : List ℕ) → length (noted last x names) ≡ length last
 noted-length last x [] = refl
 noted-length last x (a ∷ names) = noted-length (set last (a / nameStep) x) x names ∙ length-set last (a / nameStep) x
 
