@@ -2,7 +2,7 @@
 -- instruction writes; so every word from the word count on.
 use Prim.Native.Nat.{ℕ, _+_, _≤_, _<_}
 use mathlib.Core.Path.{_≡_, refl, ap, _∙_}
-use mathlib.Core.Bool.{Bool, true, false}
+use mathlib.Core.Bool.{false}
 use mathlib.Core.List.{List, [], _∷_}
 use mathlib.Core.Logic.{_⊎_, inl, inr}
 use native.Mathlib.Omega.{arith}
@@ -16,7 +16,7 @@ use Rattle.base.proofs.Bools.{and-inv-false, and-false}
 use Rattle.base.proofs.Stores.{sets-below, sets-above}
 use Rattle.value.specs.Values.{allWords}
 use Rattle.bytecode.specs.Run.{Instruction, BoardList, given, execute, executeAll, run}
-use Rattle.bytecode.specs.Origin.{operandPlaces, resultWidth}
+use Rattle.bytecode.specs.Origin.{resultWidth}
 use Rattle.bytecode.specs.Ranges.{Range, end, inside, behind, resultValue}
 use Rattle.bytecode.specs.declared.Version.{Version}
 use Rattle.bytecode.specs.Code.{argumentWords}

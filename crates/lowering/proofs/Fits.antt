@@ -10,14 +10,14 @@ use lib.ListN.{length, length-map}
 use Rattle.ports.specs.Kinds.{kindOf}
 use Rattle.ports.specs.Ports.{widths, takes}
 use Rattle.base.specs.Limits.{operationLimit, wordLimit, portWordLimit, addressLimit}
-use Rattle.base.specs.Lists.{Each, Is}
+use Rattle.base.specs.Lists.{Is}
 use Rattle.base.proofs.Bools.{or-left, or-right}
 use Rattle.base.proofs.Lists.{each-in, each-less, each-map}
 use Rattle.bytecode.specs.declared.Version.the-variants.{V2}
 use Rattle.bytecode.specs.Run.{Instruction, BoardList}
 use Rattle.bytecode.specs.Code.{readable, argumentWords}
 use Rattle.bytecode.specs.Origin.{resultWidth}
-use Rattle.bytecode.specs.Ranges.{any, Range, end, inside, behind, resultValue}
+use Rattle.bytecode.specs.Ranges.{Range, end, inside, behind, resultValue}
 use Rattle.bytecode.specs.Sequential.{nextWord, AllFit}
 use Rattle.bytecode.specs.WellFormed.{writtenBy, AllFormed, FormedList}
 use Rattle.bytecode.proofs.Sequential.{below-length}

@@ -1,10 +1,9 @@
 -- What demand 3 asks of a version of the list, and that both versions have it.
 use Prim.Native.Nat.{ℕ, _≤_}
 use mathlib.Core.Path.{_≡_, refl, _∙_}
-use mathlib.Core.List.{List, _∷_, map}
+use mathlib.Core.List.{List, _∷_}
 use mathlib.Core.Option.{some}
 use native.Mathlib.Omega.{arith}
-use native.Mathlib.Nat.{le-of-eq}
 use lib.ListN.{length, replicate, length-replicate, length-map}
 use Rattle.ports.specs.Ports.{widths}
 use Rattle.base.specs.Limits.{operationLimit, wordLimit}

@@ -1,4 +1,4 @@
--- The settled examples that are proved, as one table.
+-- The settled examples that are proved: a table of 01's, and one of the versions of the list.
 use Prim.Native.Nat.{ℕ}
 use mathlib.Core.Path.{_≡_, refl}
 use mathlib.Core.List.{List, [], _∷_, _++_}
@@ -124,7 +124,7 @@ half = 0x3FE0_0000_0000_0000
 abbrev pub threeHalves : ℕ
 threeHalves = 0x3FF8_0000_0000_0000
 
-abbrev one : ℕ
+abbrev pub one : ℕ
 one = 0x3FF0_0000_0000_0000
 
 abbrev six : ℕ
@@ -133,7 +133,7 @@ six = 0x4018_0000_0000_0000
 abbrev twelve : ℕ
 twelve = 0x4028_0000_0000_0000
 
-abbrev seventyTwo : ℕ
+abbrev pub seventyTwo : ℕ
 seventyTwo = 0x4052_0000_0000_0000
 
 abbrev infinite : ℕ
