@@ -23,13 +23,13 @@ use Rattle.bytecode.specs.Code.{argumentWords}
 use Rattle.bytecode.specs.WellFormed.{writtenBy, Formed, AllFormed, FormedList}
 use Rattle.bytecode.proofs.Origins.{given-words, given-width, execute-length}
 
-pub all-length : (is : List Instruction) (m : List ℕ) → length (executeAll is m) ≡ length m
-all-length [] m = refl
-all-length (i ∷ is) m = all-length is (execute i m) ∙ execute-length i m
+pub executed-length : (is : List Instruction) (m : List ℕ) → length (executeAll is m) ≡ length m
+executed-length [] m = refl
+executed-length (i ∷ is) m = executed-length is (execute i m) ∙ execute-length i m
 
 -- the memory keeps its length
 pub run-length : (b : BoardList) (arguments m : List ℕ) → length (run b arguments m .memory) ≡ length m
-run-length b arguments m = all-length (b .instructions) (sets m 0 arguments) ∙ length-sets m 0 arguments
+run-length b arguments m = executed-length (b .instructions) (sets m 0 arguments) ∙ length-sets m 0 arguments
 
 outside : (r : Range) (a : ℕ) → inside r a ≡ false → (a < r .first) ⊎ (end r ≤ a)
 outside r a e = pick (and-inv-false (leb (r .first) a) (ltb a (end r)) e)
