@@ -4,3 +4,4 @@ pub mod Back
 pub mod Decoded
 pub mod Origins
 pub mod Length
+pub mod Unwritten

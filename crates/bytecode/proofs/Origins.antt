@@ -30,7 +30,7 @@ use Rattle.bytecode.specs.Origin.{Origin, unwritten, argument, result, K
 
 -- ---- what an instruction gives hangs on the words that it reads
 
-abbrev fromWords : Instruction → List ℕ → List Value
+abbrev pub fromWords : Instruction → List ℕ → List Value
 fromWords i ws = results (kindOf (i .kind)) (i .constants) (valuesOf (takes (kindOf (i .kind)) (i .type)) ws)
 
 values-cut : (m ts at : List ℕ) → length at ≡ length ts → valuesAt m ts at ≡ valuesOf ts (map (wordAt m) (spans ts at))
@@ -46,7 +46,7 @@ values-cut m (t ∷ ts) (a ∷ at) l =
     let ih : valuesAt m ts at ≡ valuesOf ts back = values-cut m ts at (omega arith) in
     ap₂ (λ (x : Value) (y : List Value). x ∷ y) (Laws.value-at m t a ∙ ap (valueOf t) (sym p)) (ih ∙ ap (valuesOf ts) (sym q)) ∙ ap (valuesOf (t ∷ ts)) (sym e)
 
-given-words : (i : Instruction) (m : List ℕ) → length (i .operands) ≡ length (takes (kindOf (i .kind)) (i .type))
+pub given-words : (i : Instruction) (m : List ℕ) → length (i .operands) ≡ length (takes (kindOf (i .kind)) (i .type))
     → given i m ≡ fromWords i (map (wordAt m) (operandPlaces i))
 given-words i m l = ap (results (kindOf (i .kind)) (i .constants)) (values-cut m (takes (kindOf (i .kind)) (i .type)) (i .operands) l)
 
@@ -85,7 +85,7 @@ takes-codes k t e =
     let r = portsOf k in
     codes-by (hasType r) (r .operands) (r .first) (r .rest) t (every-kind (λ k. let r = portsOf k in operandTypes (hasType r) (r .operands) (r .first) (r .rest)) refl k) e
 
-given-width : (words : ℕ) (i : Instruction) (ws : List ℕ) → Roomy words i → length (allWords (fromWords i ws)) ≡ resultWidth i
+pub given-width : (words : ℕ) (i : Instruction) (ws : List ℕ) → Roomy words i → length (allWords (fromWords i ws)) ≡ resultWidth i
 given-width words i ws r =
     let k = kindOf (i .kind) in
     let (a, b) = and-inv (executable (formOf k)) (typeFits (portsOf k) (i .type)) (r .legal) in

@@ -2,6 +2,8 @@ pub mod Simulate
 pub mod Promise
 pub mod Limits
 pub mod Naming
-pub mod Whole
 pub mod Routed
+pub mod Fits
+pub mod Lawful
+pub mod Whole
 pub mod Witness

@@ -1,9 +1,8 @@
--- The sums of a function are those of its board list, and within the limits the board list has a code.
+-- The sums of a function are those of its board list, and within the limits the board list is well formed in version 1.
 use Prim.Native.Nat.{ℕ, _+_, _*_, _≤_, _<_}
 use mathlib.Core.Path.{_≡_, refl, ap, _∙_, subst}
 use mathlib.Core.Bool.{Bool, true, false, cond}
 use mathlib.Core.List.{List, [], _∷_, _++_, map}
-use mathlib.Core.Option.{some}
 use mathlib.Core.Logic.{_⊎_, inl, inr}
 use native.Mathlib.Omega.{arith}
 use lib.Dec.{eqb}
@@ -21,7 +20,7 @@ use Rattle.graph.specs.Sound.{Sound, AllSound}
 use Rattle.bytecode.specs.Run.{places}
 use Rattle.graph.specs.Schedule.{schedule}
 use Rattle.lowering.specs.Compile.{Written, address, Inline, inlineNode, also, inlineNodes, inlineFunction, inlined, boardListOf}
-use Rattle.bytecode.specs.Code.{argumentWords, encode, decode}
+use Rattle.bytecode.specs.Code.{argumentWords}
 use Rattle.bytecode.specs.declared.Version.the-variants.{V1}
 use Rattle.bytecode.specs.Sequential.{AllFit}
 use Rattle.bytecode.specs.WellFormed.{writtenBy, FormedList}
@@ -29,8 +28,7 @@ use Rattle.bytecode.proofs.Sequential.{spans-below, below-readable, all-fit-for
 use Rattle.graph.proofs.Order.{scheduled}
 use Rattle.lowering.proofs.Simulate.{stand-below}
 use Rattle.lowering.proofs.Promise.{whole-served}
-use Rattle.bytecode.proofs.Back.{decode-encode}
-use Rattle.base.specs.Limits.{operationLimit, wordLimit, addressLimit}
+use Rattle.base.specs.Limits.{operationLimit, wordLimit, portWordLimit, addressLimit}
 
 -- ---- operations
 
@@ -153,26 +151,33 @@ laid early f sound =
 pub output-words : (early : List Function) (f : Function) → AllSound (f ∷ early) → length (boardListOf early f .outputs) ≡ widths (outputTypes (f .outputs))
 output-words early f sound = laid early f sound .2
 
-pub formed-list : (early : List Function) (f : Function) → AllSound (f ∷ early) → functionOperations (operationsOf early) f ≤ operationLimit → functionWords early f ≤ wordLimit
-    → FormedList V1 (boardListOf early f)
-formed-list early f sound ops words =
-    let b = boardListOf early f in
+-- the counts of a function's ports
+pub port-words : (early : List Function) (f : Function) → AllSound (f ∷ early)
+    → (boardListOf early f .arguments ≤ portWordLimit) × (1 ≤ length (boardListOf early f .outputs)) × (length (boardListOf early f .outputs) ≤ portWordLimit)
+port-words early f sound =
     let formed = sound .0 .resolved .formed in
     let outs = outputTypes (f .outputs) in
-    let size : length (b .outputs) ≡ widths outs = output-words early f sound in
+    let size : length (boardListOf early f .outputs) ≡ widths outs = output-words early f sound in
     let (i1, i2) = wides-bounds (f .inputs) (formed .inputTypes) in
     let (o1, o2) = wides-bounds outs (formed .outputTypes) in
     let ol : length outs ≡ length (f .outputs) = length-map (f .outputs) (λ o. o .type) in
     let li : length (f .inputs) ≤ 8 = formed .inputs in
     let lo : length (f .outputs) ≤ 8 = formed .outputs in
     let ls : 1 ≤ length (f .outputs) = formed .some-output in
+    (omega arith, omega arith, omega arith)
+
+pub formed-list : (early : List Function) (f : Function) → AllSound (f ∷ early) → functionOperations (operationsOf early) f ≤ operationLimit → functionWords early f ≤ wordLimit
+    → FormedList V1 (boardListOf early f)
+formed-list early f sound ops words =
+    let b = boardListOf early f in
+    let (la, lo, ho) = port-words early f sound in
     let n : length (b .instructions) ≤ functionOperations (operationsOf early) f = count-of early f sound in
     let w : b .words ≡ functionWords early f = words-of early f sound in
     let (instructions, highest) = all-fit-formed (b .instructions) (argumentWords (b .arguments)) (b .arguments) (b .words) (omega arith) (omega arith) (laid early f sound .0) in
     record {
-      arguments = omega arith;
-      some-output = omega arith;
-      outputs = omega arith;
+      arguments = la;
+      some-output = lo;
+      outputs = ho;
       count = omega arith;
       words = omega arith;
       instructions = instructions;
@@ -180,8 +185,3 @@ formed-list early f sound ops words =
       small = each-less (b .outputs) (b .words) addressLimit (omega arith) (laid early f sound .1);
       reads = below-readable (writtenBy (argumentWords (b .arguments)) (b .instructions)) (b .words) (b .outputs) highest (laid early f sound .1);
     }
-
--- within the limits the code is well formed, and stands for the board list
-pub code-of : (early : List Function) (f : Function) → AllSound (f ∷ early) → functionOperations (operationsOf early) f ≤ operationLimit → functionWords early f ≤ wordLimit
-    → decode (encode V1 (boardListOf early f)) ≡ some (boardListOf early f)
-code-of early f sound ops words = decode-encode V1 (boardListOf early f) (formed-list early f sound ops words)

@@ -1,5 +1,6 @@
--- From table to output words. A function within the limits is compiled; its list is read back as it was written, so that the runner
--- judges and runs that list; and a run of it gives the words of what the graph means.
+-- From table to output words, for both versions of the list. A function within the limits is compiled; its list is read back as it was
+-- written, so that the runner judges and runs that list; and a run of it gives the words of what the graph means. Of the version only what
+-- `Lawful` says is used.
 use Prim.Native.Nat.{ℕ, _+_, _*_, _≤_}
 use mathlib.Core.Path.{_≡_, refl, ap, sym, _∙_, subst}
 use mathlib.Core.Bool.{_&&_}
@@ -11,104 +12,105 @@ use lib.ListN.{length}
 use lib.Seq.{sets}
 use borrow.Author.Tests.{leb-true, le-leb, eq-eqb}
 use Rattle.ports.specs.Ports.{widths}
-use Rattle.value.specs.Values.{allWords, valuesOf, argumentWord}
+use Rattle.base.specs.Bytes.{Bytes}
+use Rattle.base.specs.Limits.{operationLimit, wordLimit, portWordLimit}
 use Rattle.base.specs.Lists.{wordAt, every}
-use Rattle.value.proofs.Laws.{values-typed, words-of-values, typed-widths, all-finite}
 use Rattle.base.specs.Outcome.{Outcome, ok, _>>=_, _>>_, need, orElse}
+use Rattle.base.proofs.Bools.{and-both}
+use Rattle.base.proofs.Outcomes.{took, passed, takes, passes, ok-is, some-else, else-some}
+use Rattle.base.proofs.Stores.{front}
+use Rattle.value.specs.Values.{allWords, valuesOf, argumentWord}
+use Rattle.value.proofs.Laws.{values-typed, words-of-values, typed-widths, all-finite}
 use Rattle.graph.specs.Graph.{Function}
 use Rattle.graph.specs.Types.{outputTypes}
 use Rattle.graph.specs.Judge.{table}
-use Rattle.graph.specs.Sums.{functionOperations, operationsOf, functionWords}
+use Rattle.graph.specs.Sums.{functionOperations, operationsOf}
 use Rattle.graph.specs.Sound.{AllSound}
 use Rattle.graph.specs.Meaning.{meaningOf}
 use Rattle.graph.specs.Table.{Chosen, chosen}
-use Rattle.base.proofs.Bools.{and-both}
-use Rattle.base.proofs.Outcomes.{took, passed, takes, passes, ok-is, some-else, else-some}
-use Rattle.base.specs.Bytes.{Bytes}
 use Rattle.graph.proofs.Formed.{accepted}
 use Rattle.graph.proofs.Exactly.{table-back, table-there}
 use Rattle.graph.proofs.Table.{chosen-sound, chosen-means}
-use Rattle.bytecode.specs.Run.{BoardList, run}
-use Rattle.lowering.specs.Compile.{boardListOf}
-use Rattle.base.specs.Limits.{operationLimit, wordLimit, portWordLimit}
-use Rattle.base.proofs.Stores.{front}
-use Rattle.bytecode.specs.Code.{decode}
-use Rattle.bytecode.specs.declared.Version.the-variants.{V1}
+use Rattle.bytecode.specs.declared.Version.{Version}
+use Rattle.bytecode.specs.Version.{versionOf}
+use Rattle.bytecode.specs.Run.{run}
+use Rattle.bytecode.specs.Code.{resultBytes, decode}
 use Rattle.bytecode.specs.WellFormed.{FormedList}
-use Rattle.bytecode.proofs.Length.{encode-length}
-use Rattle.lowering.specs.Answers.{within, compilable, codeOf, compiled, Evaluated, evaluated}
 use Rattle.bytecode.specs.Answers.{Buffers, ran}
+use Rattle.bytecode.proofs.Back.{decode-encode}
+use Rattle.bytecode.proofs.Length.{encode-length}
+use Rattle.bytecode.proofs.Unwritten.{run-length, above-stays}
+use Rattle.lowering.specs.Answers.{listOf, wordsOf, codeOf, Job, within, compilable, compiled, Evaluated, evaluated}
 use Rattle.lowering.specs.Demand3.{Within, Lent, Meant, Demand3}
-use Rattle.lowering.proofs.Promise.{runs}
-use Rattle.lowering.proofs.Limits.{words-of, output-words, formed-list, code-of}
+use Rattle.lowering.proofs.Lawful.{Lawful, lawful}
 
--- a function that the compiler finds is within the limits
-pub compilable-within : (s : List ℕ) (c : ℕ) (x : Chosen) → Bytes s → compilable s c ≡ ok x → (functions : List Function) × Within s c functions x
-compilable-within s c x small e =
-    let (latest, t, e1) = took (table s) (λ latest. within latest c) x e in
+-- what the compiler takes is within the limits
+pub compilable-within : (s : List ℕ) (c n : ℕ) (j : Job) → Bytes s → compilable s c n ≡ ok j
+    → (functions : List Function) × Within s c n functions (j .version) (j .chosen)
+compilable-within s c n j small e =
+    let (latest, t, e1) = took (table s) (λ latest. within latest c n) j e in
     let (functions, m, q) = table-there s small latest t in
-    let (y, p, e2) = took (orElse (chosen c latest) 14 0) _ x e1 in
-    let (o, e3) = passed (leb (functionOperations (operationsOf (y .early)) (y .function)) operationLimit) 15 0 _ x e2 in
-    let (v, e4) = passed (leb (functionWords (y .early) (y .function)) wordLimit) 16 0 _ x e3 in
-    let same : y ≡ x = ok-is e4 in (
+    let (x, p, e2) = took (orElse (chosen c latest) 14 0) _ j e1 in
+    let (v, r, e3) = took (orElse (versionOf n) 31 0) _ j e2 in
+    let (o, e4) = passed (leb (functionOperations (operationsOf (x .early)) (x .function)) operationLimit) 15 0 _ j e3 in
+    let (l, e5) = passed (leb (wordsOf v x) wordLimit) 16 0 _ j e4 in
+    let same : record { chosen = x; version = v } ≡ j = ok-is e5 in (
       functions,
-      record {
-        bytes = small;
-        meets = m;
-        chosen = ap (chosen c) q ∙ else-some (chosen c latest) 14 0 y p ∙ ap some same;
-        operations = subst (λ (z : Chosen). functionOperations (operationsOf (z .early)) (z .function) ≤ operationLimit) same (leb-true _ _ o);
-        words = subst (λ (z : Chosen). functionWords (z .early) (z .function) ≤ wordLimit) same (leb-true _ _ v);
-      },
+      subst (λ (k : Job). Within s c n functions (k .version) (k .chosen)) same
+          (record {
+            bytes = small;
+            meets = m;
+            chosen = ap (chosen c) q ∙ else-some (chosen c latest) 14 0 x p;
+            version = else-some (versionOf n) 31 0 v r;
+            operations = leb-true _ _ o;
+            words = leb-true _ _ l;
+          }),
     )
 
-abbrev pub listOf : Chosen → BoardList
-listOf x = boardListOf (x .early) (x .function)
-
 -- what a run of the list leaves, and with the code what an evaluation does
-abbrev pub leaves : Chosen → List ℕ → List ℕ → List ℕ → Buffers
-leaves x arguments work out =
+abbrev pub leaves : Version → Chosen → List ℕ → List ℕ → List ℕ → Buffers
+leaves v x arguments work out =
     record {
       count = widths (outputTypes (x .function .outputs));
-      work = run (listOf x) arguments work .memory;
-      out = sets out 0 (run (listOf x) arguments work .outputs);
+      work = run (listOf v x) arguments work .memory;
+      out = sets out 0 (run (listOf v x) arguments work .outputs);
     }
 
-abbrev pub withCode : Chosen → List ℕ → Buffers → Evaluated
-withCode x code b = record { count = b .count; code = sets code 0 (codeOf x); work = b .work; out = b .out }
+abbrev pub withCode : Version → Chosen → List ℕ → Buffers → Evaluated
+withCode v x code b = record { count = b .count; code = sets code 0 (codeOf v x); work = b .work; out = b .out }
 
-module _ (s : List ℕ) (c : ℕ) (functions : List Function) (x : Chosen) (w : Within s c functions x) where
+module _ (s : List ℕ) (c n : ℕ) (functions : List Function) (v : Version) (x : Chosen) (w : Within s c n functions v x) where
   latest-are : table s ≡ ok (reverse functions)
   latest-are = table-back s functions (w .meets)
 
   pub sound : AllSound (x .function ∷ x .early)
   sound = chosen-sound c (reverse functions) x (w .chosen) (accepted s (w .bytes) (reverse functions) latest-are)
 
-  words-are : listOf x .words ≡ functionWords (x .early) (x .function)
-  words-are = words-of (x .early) (x .function) sound
+  pub laws : Lawful v x
+  laws = lawful v x sound
 
-  outputs-are : length (listOf x .outputs) ≡ widths (outputTypes (x .function .outputs))
-  outputs-are = output-words (x .early) (x .function) sound
+  pub fits : FormedList v (listOf v x)
+  fits = laws .formed (w .operations) (w .words)
 
-  fits : FormedList V1 (listOf x)
-  fits = formed-list (x .early) (x .function) sound (w .operations) (w .words)
-
-  pub code-length : length (codeOf x) ≤ 12 + 130 * operationLimit + 2 * portWordLimit
-  code-length = encode-length V1 (listOf x) fits
+  pub code-length : length (codeOf v x) ≤ 12 + (130 + resultBytes v) * operationLimit + 2 * portWordLimit
+  code-length = encode-length v (listOf v x) fits
 
   pub output-count : widths (outputTypes (x .function .outputs)) ≤ portWordLimit
-  output-count = let l = fits .outputs in let e = outputs-are in omega arith
+  output-count = let l = fits .outputs in let e = laws .outputs in omega arith
 
   -- ---- the compiler
 
-  pub compiles : (code : List ℕ) → length (codeOf x) ≤ length code → compiled s c code ≡ ok (record { size = length (codeOf x); buffer = sets code 0 (codeOf x) })
+  pub compiles : (code : List ℕ) → length (codeOf v x) ≤ length code
+      → compiled s c n code ≡ ok (record { size = length (codeOf v x); buffer = sets code 0 (codeOf v x) })
   unfolding compiled
   compiles code l =
-      let found : compilable s c ≡ ok x =
+      let found : compilable s c n ≡ ok (record { chosen = x; version = v }) =
       takes (table s) _ (reverse functions) latest-are
       ∙ takes (orElse (chosen c (reverse functions)) _ _) _ x (some-else _ _ (w .chosen))
+      ∙ takes (orElse (versionOf n) _ _) _ v (some-else _ _ (w .version))
       ∙ passes (leb (functionOperations (operationsOf (x .early)) (x .function)) operationLimit) _ _ _ (le-leb _ _ (w .operations))
-      ∙ passes (leb (functionWords (x .early) (x .function)) wordLimit) _ _ _ (le-leb _ _ (w .words)) in
-      takes (compilable s c) _ x found ∙ passes (leb (length (codeOf x)) (length code)) _ _ _ (le-leb _ _ l)
+      ∙ passes (leb (wordsOf v x) wordLimit) _ _ _ (le-leb _ _ (w .words)) in
+      takes (compilable s c n) _ (record { chosen = x; version = v }) found ∙ passes (leb (length (codeOf v x)) (length code)) _ _ _ (le-leb _ _ l)
 
   module _ (arguments code work out : List ℕ) where
     -- ---- the runner on what the compiler wrote: 18 does not arise, and what the others ask is known from the function
@@ -117,81 +119,79 @@ module _ (s : List ℕ) (c : ℕ) (functions : List Function) (x : Chosen) (w : 
     runOrRefusal = do
       need (eqb (length arguments) (widths (x .function .inputs))) 19 0
       need (every argumentWord arguments) 20 0
-      need (leb (functionWords (x .early) (x .function)) (length work) && leb (widths (outputTypes (x .function .outputs))) (length out)) 21 0
-      ok (leaves x arguments work out)
+      need (leb (wordsOf v x) (length work) && leb (widths (outputTypes (x .function .outputs))) (length out)) 21 0
+      ok (leaves v x arguments work out)
 
-    list-runs : ran (codeOf x) arguments work out ≡ runOrRefusal
+    pub list-runs : ran (codeOf v x) arguments work out ≡ runOrRefusal
     unfolding ran
     list-runs =
-        takes (orElse (decode (codeOf x)) _ _) _ (listOf x) (some-else _ _ (code-of (x .early) (x .function) sound (w .operations) (w .words)))
-        ∙ ap (judged (length (listOf x .outputs))) words-are
-        ∙ ap (λ (n : ℕ). judged n (functionWords (x .early) (x .function))) outputs-are
+        takes (orElse (decode (codeOf v x)) _ _) _ (listOf v x) (some-else _ _ (decode-encode v (listOf v x) fits))
+        ∙ ap (λ (a : ℕ). judged a (length (listOf v x .outputs)) (listOf v x .words)) (laws .arguments)
+        ∙ ap (judged (widths (x .function .inputs)) (length (listOf v x .outputs))) (laws .words)
+        ∙ ap (λ (o : ℕ). judged (widths (x .function .inputs)) o (wordsOf v x)) (laws .outputs)
       where
-        judged : ℕ → ℕ → Outcome Buffers
-        judged outputs words = do
-          need (eqb (length arguments) (widths (x .function .inputs))) 19 0
+        judged : ℕ → ℕ → ℕ → Outcome Buffers
+        judged inputs outputs words = do
+          need (eqb (length arguments) inputs) 19 0
           need (every argumentWord arguments) 20 0
           need (leb words (length work) && leb outputs (length out)) 21 0
-          ok (record { count = outputs; work = run (listOf x) arguments work .memory; out = sets out 0 (run (listOf x) arguments work .outputs) })
+          ok (record { count = outputs; work = run (listOf v x) arguments work .memory; out = sets out 0 (run (listOf v x) arguments work .outputs) })
 
     -- so an evaluation is the runner's judging, once the code fits
-    pub evaluated-is : length (codeOf x) ≤ length code → evaluated s c arguments code work out ≡ (runOrRefusal >>= λ b. ok (withCode x code b))
+    pub evaluated-is : length (codeOf v x) ≤ length code → evaluated s c n arguments code work out ≡ (runOrRefusal >>= λ b. ok (withCode v x code b))
     unfolding evaluated
     evaluated-is l =
-        takes (compiled s c code) _ _ (compiles code l)
-        ∙ ap (λ (ys : List ℕ). ran ys arguments work out >>= λ b. ok (withCode x code b)) (front code (codeOf x) l)
-        ∙ ap (λ (g : Outcome Buffers). g >>= λ b. ok (withCode x code b)) list-runs
+        takes (compiled s c n code) _ _ (compiles code l)
+        ∙ ap (λ (ys : List ℕ). ran ys arguments work out >>= λ b. ok (withCode v x code b)) (front code (codeOf v x) l)
+        ∙ ap (λ (g : Outcome Buffers). g >>= λ b. ok (withCode v x code b)) list-runs
 
-    module _ (l : Lent x arguments code work out) where
-      pub list-ok : ran (codeOf x) arguments work out ≡ ok (leaves x arguments work out)
+    module _ (l : Lent v x arguments code work out) where
+      pub list-ok : ran (codeOf v x) arguments work out ≡ ok (leaves v x arguments work out)
       list-ok =
           list-runs
           ∙ passes (eqb (length arguments) (widths (x .function .inputs))) _ _ _ (eq-eqb _ _ (l .count))
           ∙ passes (every argumentWord arguments) _ _ _ (all-finite arguments (l .finite))
-          ∙ passes (leb (functionWords (x .early) (x .function)) (length work) && leb (widths (outputTypes (x .function .outputs))) (length out)) _ _ _
+          ∙ passes (leb (wordsOf v x) (length work) && leb (widths (outputTypes (x .function .outputs))) (length out)) _ _ _
           (and-both _ _ (le-leb _ _ (l .work-fits)) (le-leb _ _ (l .out-fits)))
 
-      pub evaluated-ok : evaluated s c arguments code work out ≡ ok (withCode x code (leaves x arguments work out))
-      evaluated-ok = evaluated-is (l .code-fits) ∙ takes runOrRefusal _ (leaves x arguments work out) (sym list-runs ∙ list-ok)
+      pub evaluated-ok : evaluated s c n arguments code work out ≡ ok (withCode v x code (leaves v x arguments work out))
+      evaluated-ok = evaluated-is (l .code-fits) ∙ takes runOrRefusal _ (leaves v x arguments work out) (sym list-runs ∙ list-ok)
 
       -- ---- what the run leaves is what the graph means
 
-      pub means : Meant (λ n. widths (outputTypes (x .function .outputs)) ≡ n) functions c x arguments code work out (sets code 0 (codeOf x))
-          (leaves x arguments work out .work) (leaves x arguments work out .out)
+      pub means : Meant (λ n. widths (outputTypes (x .function .outputs)) ≡ n) functions c v x arguments code work out (sets code 0 (codeOf v x))
+          (leaves v x arguments work out .work) (leaves v x arguments work out .out)
       means =
           let f = x .function in
-          let early = x .early in
-          let b = listOf x in
-          let formed = sound .0 .resolved .formed in
+          let b = listOf v x in
           let args = valuesOf (f .inputs) arguments in
           let same : allWords args ≡ arguments = words-of-values (f .inputs) arguments (l .finite) (l .count) in
-          let size : b .words ≡ functionWords early f = words-are in
+          let size : b .words ≡ wordsOf v x = laws .words in
           let room : b .words ≤ length work = let a = l .work-fits in omega arith in
-          let r = runs early f sound args (values-typed (f .inputs) arguments (formed .inputTypes)) work room in
-          let m : meaningOf (reverse functions) c args ≡ some (r .values) = chosen-means c (reverse functions) x args (w .chosen) ∙ r .meant in
-          let count : length (allWords (r .values)) ≡ widths (outputTypes (f .outputs)) = typed-widths (outputTypes (f .outputs)) (r .values) (r .typed) in
+          let (vs, meant, typed, outputs) = laws .means args (values-typed (f .inputs) arguments (sound .0 .resolved .formed .inputTypes)) work room in
+          let m : meaningOf (reverse functions) c args ≡ some vs = chosen-means c (reverse functions) x args (w .chosen) ∙ meant in
+          let count : length (allWords vs) ≡ widths (outputTypes (f .outputs)) = typed-widths (outputTypes (f .outputs)) vs typed in
           record {
-            answer = allWords (r .values);
+            answer = allWords vs;
             meant = rw (w .chosen, m) refl;
             size = count;
             count = sym count;
-            given = ap (sets out 0) (subst (λ (ws : List ℕ). run b ws work .outputs ≡ allWords (r .values)) same (r .outputs));
+            given = ap (sets out 0) (subst (λ (ws : List ℕ). run b ws work .outputs ≡ allWords vs) same outputs);
             list = refl;
-            same = subst (λ (ws : List ℕ). length (run b ws work .memory) ≡ length work) same (r .size);
-            rest = λ i h.
-                subst (λ (ws : List ℕ). wordAt (run b ws work .memory) i ≡ wordAt work i) same (r .rest i (omega arith));
+            same = run-length b arguments work;
+            rest = λ i h. above-stays v b fits arguments work (l .count ∙ sym (laws .arguments)) i (omega arith);
           }
 
 -- ---- demand 3
 
 -- whatever answers as `evaluated` does, in whatever form, and leaves the buffers as that says, meets demand 3
 pub demand3 :
-    (s : List ℕ) (c : ℕ) (arguments code work out : List ℕ) {Answer : ℕ → Type 0} {code′ work′ out′ : List ℕ}
-    → ((e : Evaluated) → evaluated s c arguments code work out ≡ ok e → Answer (e .count) × (code′ ≡ e .code) × (work′ ≡ e .work) × (out′ ≡ e .out))
-    → Demand3 Answer s c arguments code work out code′ work′ out′
-demand3 s c arguments code work out {Answer} h functions x w l =
-    let (a, ec, ew, eo) = h _ (evaluated-ok s c functions x w arguments code work out l) in
-    let m = means s c functions x w arguments code work out l in
+    (s : List ℕ) (c n : ℕ) (arguments code work out : List ℕ) {Answer : ℕ → Type 0} {code′ work′ out′ : List ℕ}
+    → ((e : Evaluated) → evaluated s c n arguments code work out ≡ ok e → Answer (e .count) × (code′ ≡ e .code) × (work′ ≡ e .work) × (out′ ≡ e .out))
+    → Demand3 Answer s c n arguments code work out code′ work′ out′
+demand3 s c n arguments code work out {Answer} h functions v x w l =
+    let (a, ec, ew, eo) = h _ (evaluated-ok s c n functions v x w arguments code work out l) in
+    let m = means s c n functions v x w arguments code work out l in
     record {
       answer = m .answer;
       meant = m .meant;

@@ -1,5 +1,6 @@
--- What demand 3 asks can be so: case A on 3 and 0.5, with buffers longer than need be. What it then gives is 1.5, and the code of A.
-use Prim.Native.Nat.{ℕ, zero, suc}
+-- What demand 3 asks can be so, in both versions: case A on 3 and 0.5, with buffers longer than need be. What it then gives is 1.5, and the
+-- code of A.
+use Prim.Native.Nat.{ℕ, zero, suc, _≤_}
 use mathlib.Core.Path.{_≡_, refl, ap, sym, _∙_, subst}
 use mathlib.Core.Bool.{true}
 use mathlib.Core.List.{List, [], _∷_, _++_, reverse}
@@ -24,11 +25,15 @@ use Rattle.graph.specs.Sums.{operationsOf, resultWordsOf}
 use Rattle.graph.specs.Schedule.{schedule}
 use Rattle.graph.specs.Meaning.{nodeMeans, meaningOf, graphMeans}
 use Rattle.graph.proofs.Loops.{loops-iff}
+use Rattle.bytecode.specs.declared.Version.{Version}
+use Rattle.bytecode.specs.declared.Version.the-variants.{V1, V2}
+use Rattle.bytecode.specs.Version.{number}
 use Rattle.bytecode.specs.Code.{encode}
+use Rattle.bytecode.proofs.Back.{version-number}
 use Rattle.lowering.specs.Compile.{inlined}
-use Rattle.lowering.specs.Answers.{codeOf, Evaluated, evaluated}
+use Rattle.lowering.specs.Answers.{wordsOf, codeOf, Evaluated, evaluated}
 use Rattle.lowering.specs.Demand3.{Within, Lent, Demand3}
-use Rattle.lowering.specs.Cases.{tableA, codeA, functionA, chosenA, three, half, threeHalves}
+use Rattle.lowering.specs.Cases.{tableA, codeA, codeA2, functionA, chosenA, three, half, threeHalves}
 use Rattle.lowering.proofs.Whole.{demand3, evaluated-ok}
 
 all-bytes : (s : List ℕ) → every (λ b. ltb b 256) s ≡ true → Bytes s
@@ -76,7 +81,7 @@ abbrev pub argumentsA : List ℕ
 argumentsA = three ∷ half ∷ []
 
 abbrev pub codeBuffer : List ℕ
-codeBuffer = replicate 22 7
+codeBuffer = replicate 24 7
 
 abbrev pub workBuffer : List ℕ
 workBuffer = replicate 5 7
@@ -84,22 +89,52 @@ workBuffer = replicate 5 7
 abbrev pub outBuffer : List ℕ
 outBuffer = replicate 2 7
 
-code-a : codeOf chosenA ≡ codeA
+-- the code of A, and the code buffer with it
+abbrev pub codeIn : Version → List ℕ
+codeIn V1 = codeA
+codeIn V2 = codeA2
+
+abbrev pub bufferWith : Version → List ℕ
+bufferWith V1 = codeA ++ 7 ∷ 7 ∷ 7 ∷ 7 ∷ []
+bufferWith V2 = codeA2 ++ 7 ∷ 7 ∷ []
+
+pub code-a : (v : Version) → codeOf v chosenA ≡ codeIn v
 unfolding encode inlined schedule
-code-a = refl
+code-a V1 = refl
+code-a V2 = refl
 
-pub within-a : Within tableA 1 (functionA ∷ []) chosenA
-unfolding operationsOf resultWordsOf
-within-a = record { bytes = all-bytes tableA refl; meets = meets-a; chosen = refl; operations = omega arith; words = omega arith }
+pub words-a : (v : Version) → wordsOf v chosenA ≡ 3
+unfolding resultWordsOf inlined schedule
+words-a V1 = refl
+words-a V2 = refl
 
-pub lent-a : Lent chosenA argumentsA codeBuffer workBuffer outBuffer
-unfolding resultWordsOf
-lent-a =
+buffer-a : (v : Version) → sets codeBuffer 0 (codeIn v) ≡ bufferWith v
+buffer-a V1 = refl
+buffer-a V2 = refl
+
+fits-a : (v : Version) → length (codeIn v) ≤ length codeBuffer
+fits-a V1 = omega arith
+fits-a V2 = omega arith
+
+pub within-a : (v : Version) → Within tableA 1 (number v) (functionA ∷ []) v chosenA
+unfolding operationsOf
+within-a v =
+    record {
+      bytes = all-bytes tableA refl;
+      meets = meets-a;
+      chosen = refl;
+      version = version-number v;
+      operations = omega arith;
+      words = let w = words-a v in omega arith;
+    }
+
+pub lent-a : (v : Version) → Lent v chosenA argumentsA codeBuffer workBuffer outBuffer
+lent-a v =
     record {
       finite = ((omega arith, refl), ((omega arith, refl), tt));
       count = refl;
-      code-fits = rw code-a (omega arith);
-      work-fits = omega arith;
+      code-fits = rw (code-a v) (fits-a v);
+      work-fits = let w = words-a v in omega arith;
       out-fits = omega arith;
     }
 
@@ -108,27 +143,31 @@ unfolding nodeMeans meaningOf results Ieee.mul Ieee.ofBits Ieee.toBits
 means-a = refl
 
 -- so demand 3 says of every answer to this that it is one word, 1.5, behind the code of A, and that the rest is as it was
-pub demand3-a : {Answer : ℕ → Type 0} {code′ work′ out′ : List ℕ} → Demand3 Answer tableA 1 argumentsA codeBuffer workBuffer outBuffer code′ work′ out′
-    → Answer 1 × (out′ ≡ threeHalves ∷ 7 ∷ []) × (code′ ≡ codeA ++ 7 ∷ 7 ∷ [])
-demand3-a {Answer} d =
-    let m = d (functionA ∷ []) chosenA within-a lent-a in
-    let e : m .answer ≡ threeHalves ∷ [] = some-is (sym (m .meant) ∙ means-a) in
-    (subst (λ (ws : List ℕ). Answer (length ws)) e (m .count), m .given ∙ ap (sets outBuffer 0) e, m .list ∙ ap (sets codeBuffer 0) code-a)
+pub demand3-a : (v : Version) {Answer : ℕ → Type 0} {code′ work′ out′ : List ℕ}
+    → Demand3 Answer tableA 1 (number v) argumentsA codeBuffer workBuffer outBuffer code′ work′ out′
+    → Answer 1 × (out′ ≡ threeHalves ∷ 7 ∷ []) × (code′ ≡ bufferWith v)
+demand3-a v {Answer} d =
+    let m = d (functionA ∷ []) v chosenA (within-a v) (lent-a v) in
+    let e : m .answer ≡ threeHalves ∷ [] = some-is (sym (m .meant) ∙ means-a) in (
+      subst (λ (ws : List ℕ). Answer (length ws)) e (m .count),
+      m .given ∙ ap (sets outBuffer 0) e,
+      m .list ∙ ap (sets codeBuffer 0) (code-a v) ∙ buffer-a v,
+    )
 
 -- and `evaluated` answers, and answers so
-gives-a : (e : Evaluated) → evaluated tableA 1 argumentsA codeBuffer workBuffer outBuffer ≡ ok e
-    → (e .count ≡ 1) × (e .out ≡ threeHalves ∷ 7 ∷ []) × (e .code ≡ codeA ++ 7 ∷ 7 ∷ [])
-gives-a e q =
-    demand3-a {Answer = λ n. e .count ≡ n}
-    (demand3 tableA 1 argumentsA codeBuffer workBuffer outBuffer
+gives-a : (v : Version) (e : Evaluated) → evaluated tableA 1 (number v) argumentsA codeBuffer workBuffer outBuffer ≡ ok e
+    → (e .count ≡ 1) × (e .out ≡ threeHalves ∷ 7 ∷ []) × (e .code ≡ bufferWith v)
+gives-a v e q =
+    demand3-a v {Answer = λ n. e .count ≡ n}
+    (demand3 tableA 1 (number v) argumentsA codeBuffer workBuffer outBuffer
     (λ f p.
     let same : e ≡ f = ok-is (sym q ∙ p) in
     (ap (λ (g : Evaluated). g .count) same, ap (λ (g : Evaluated). g .code) same, ap (λ (g : Evaluated). g .work) same, ap (λ (g : Evaluated). g .out) same)))
 
-pub evaluated-a :
-    (e : Evaluated) × (evaluated tableA 1 argumentsA codeBuffer workBuffer outBuffer ≡ ok e) × (e .count ≡ 1) × (e .out ≡ threeHalves ∷ 7 ∷ [])
-    × (e .code ≡ codeA ++ 7 ∷ 7 ∷ [])
-evaluated-a =
-    let q = evaluated-ok tableA 1 (functionA ∷ []) chosenA within-a argumentsA codeBuffer workBuffer outBuffer lent-a in
-    let (n, o, l) = gives-a _ q in
+pub evaluated-a : (v : Version)
+    → (e : Evaluated) × (evaluated tableA 1 (number v) argumentsA codeBuffer workBuffer outBuffer ≡ ok e) × (e .count ≡ 1) × (e .out ≡ threeHalves ∷ 7 ∷ [])
+    × (e .code ≡ bufferWith v)
+evaluated-a v =
+    let q = evaluated-ok tableA 1 (number v) (functionA ∷ []) v chosenA (within-a v) argumentsA codeBuffer workBuffer outBuffer (lent-a v) in
+    let (n, o, l) = gives-a v _ q in
     (_, q, n, o, l)

@@ -1,4 +1,4 @@
--- The settled examples that are proved, as one table.
+-- The settled examples that are proved: a table of 01's, and one of the versions of the list.
 use Prim.Native.Nat.{ℕ}
 use mathlib.Core.Path.{_≡_, refl}
 use mathlib.Core.List.{List, [], _∷_, _++_}
@@ -13,7 +13,7 @@ use Rattle.graph.specs.Format.{formatOf}
 use Rattle.graph.specs.Judge.{table, verdict}
 use Rattle.graph.specs.Graph.{refs, Function}
 use Rattle.graph.specs.Written.{flat}
-use Rattle.graph.specs.Sums.{functionOperations, operationsOf, functionWords, resultWordsOf}
+use Rattle.graph.specs.Sums.{functionOperations, operationsOf, resultWordsOf}
 use Rattle.graph.specs.Schedule.{schedule}
 use Rattle.graph.specs.Meaning.{nodeMeans, meaningOf, graphMeans}
 use Rattle.graph.specs.Table.{Chosen}
@@ -21,7 +21,7 @@ use Rattle.bytecode.specs.Run.{execute}
 use Rattle.lowering.specs.Compile.{inlined}
 use Rattle.bytecode.specs.Code.{encode, decode, guard, then}
 use Rattle.bytecode.specs.Answers.{Buffers, ran}
-use Rattle.lowering.specs.Answers.{compilable, codeOf, compiled}
+use Rattle.lowering.specs.Answers.{wordsOf, codeOf, Job, compilable, compiled}
 use Rattle.lowering.specs.Listing.{decimal, functionLine, listing}
 
 -- ---- tables and codes
@@ -31,6 +31,10 @@ tableA = 0x49 ∷ 0x46 ∷ 0x47 ∷ 0x01 ∷ 0x00 ∷ 0x01 ∷ 0x1E ∷ 0x00 ∷
 
 abbrev pub codeA : List ℕ
 codeA = 0x49 ∷ 0x46 ∷ 0x52 ∷ 0x01 ∷ 0x00 ∷ 0x02 ∷ 0x01 ∷ 0x00 ∷ 0x01 ∷ 0x00 ∷ 0x03 ∷ 0x00 ∷ 0x03 ∷ 0x01 ∷ 0x00 ∷ 0x00 ∷ 0x01 ∷ 0x00 ∷ 0x02 ∷ 0x00 ∷ []
+
+-- in version 2 the result's address stands in front of the operands
+abbrev pub codeA2 : List ℕ
+codeA2 = 0x49 ∷ 0x46 ∷ 0x52 ∷ 0x02 ∷ 0x00 ∷ 0x02 ∷ 0x01 ∷ 0x00 ∷ 0x01 ∷ 0x00 ∷ 0x03 ∷ 0x00 ∷ 0x03 ∷ 0x01 ∷ 0x02 ∷ 0x00 ∷ 0x00 ∷ 0x00 ∷ 0x01 ∷ 0x00 ∷ 0x02 ∷ 0x00 ∷ []
 
 -- A as data: the product of the two inputs
 abbrev pub functionA : Function
@@ -72,6 +76,18 @@ tableCalls = 0x49 ∷ 0x46 ∷ 0x47 ∷ 0x01 ∷ 0x00 ∷ 0x02 ∷ 0x46 ∷ 0x00
 abbrev pub codeCalls : List ℕ
 codeCalls = 0x49 ∷ 0x46 ∷ 0x52 ∷ 0x01 ∷ 0x00 ∷ 0x01 ∷ 0x01 ∷ 0x00 ∷ 0x03 ∷ 0x00 ∷ 0x04 ∷ 0x00 ∷ 0x01 ∷ 0x01 ∷ 0x00 ∷ 0x00 ∷ 0x00 ∷ 0x00 ∷ 0x01 ∷ 0x01 ∷ 0x01 ∷ 0x00 ∷ 0x01 ∷ 0x00 ∷ 0x03 ∷ 0x01 ∷ 0x01 ∷ 0x00 ∷ 0x02 ∷ 0x00 ∷ 0x03 ∷ 0x00 ∷ []
 
+-- in version 2 the second double takes the word of x, and the product the next
+abbrev pub codeCalls2 : List ℕ
+codeCalls2 = 0x49 ∷ 0x46 ∷ 0x52 ∷ 0x02 ∷ 0x00 ∷ 0x01 ∷ 0x01 ∷ 0x00 ∷ 0x03 ∷ 0x00 ∷ 0x03 ∷ 0x00 ∷ 0x01 ∷ 0x01 ∷ 0x01 ∷ 0x00 ∷ 0x00 ∷ 0x00 ∷ 0x00 ∷ 0x00 ∷ 0x01 ∷ 0x01 ∷ 0x00 ∷ 0x00 ∷ 0x01 ∷ 0x00 ∷ 0x01 ∷ 0x00 ∷ 0x03 ∷ 0x01 ∷ 0x02 ∷ 0x00 ∷ 0x01 ∷ 0x00 ∷ 0x00 ∷ 0x00 ∷ 0x02 ∷ 0x00 ∷ []
+
+-- version 2, not the compiler's: the double of x stands three words behind x, and nothing between them
+abbrev pub codeApart : List ℕ
+codeApart = 0x49 ∷ 0x46 ∷ 0x52 ∷ 0x02 ∷ 0x00 ∷ 0x01 ∷ 0x01 ∷ 0x00 ∷ 0x01 ∷ 0x00 ∷ 0x04 ∷ 0x00 ∷ 0x01 ∷ 0x01 ∷ 0x03 ∷ 0x00 ∷ 0x00 ∷ 0x00 ∷ 0x00 ∷ 0x00 ∷ 0x03 ∷ 0x00 ∷ []
+
+-- version 2, not the compiler's: the double of a vector stands one word behind it, over its last two words
+abbrev pub codeOver : List ℕ
+codeOver = 0x49 ∷ 0x46 ∷ 0x52 ∷ 0x02 ∷ 0x00 ∷ 0x03 ∷ 0x03 ∷ 0x00 ∷ 0x01 ∷ 0x00 ∷ 0x04 ∷ 0x00 ∷ 0x01 ∷ 0x02 ∷ 0x01 ∷ 0x00 ∷ 0x00 ∷ 0x00 ∷ 0x00 ∷ 0x00 ∷ 0x01 ∷ 0x00 ∷ 0x02 ∷ 0x00 ∷ 0x03 ∷ 0x00 ∷ []
+
 -- K with one node, numbered 1, which nothing reads: its kind and its payload, and the length of the whole in two bytes
 abbrev withNode : ℕ → List ℕ → ℕ → ℕ → List ℕ
 withNode kind payload low high = set (set (set tableK 12 0x01) 6 low) 7 high ++ 0x01 ∷ 0x00 ∷ kind ∷ 0x00 ∷ payload
@@ -98,7 +114,7 @@ tableOperations = set (set (set tableK 5 0x05) 6 0x7F) 7 0x01 ++ eightCalls 2 1 
 abbrev tableWords : List ℕ
 tableWords = set (withNode 0x07 (replicate 128 0x00) 0xA8 0x01) 5 0x04 ++ eightCalls 2 1 ++ eightCalls 3 2 ++ eightCalls 4 3
 
--- 3, 0.5, 1.5, 72 and infinity
+-- 3, 0.5, 1.5, 1, 6, 12, 72 and infinity
 abbrev pub three : ℕ
 three = 0x4008_0000_0000_0000
 
@@ -108,7 +124,16 @@ half = 0x3FE0_0000_0000_0000
 abbrev pub threeHalves : ℕ
 threeHalves = 0x3FF8_0000_0000_0000
 
-abbrev seventyTwo : ℕ
+abbrev pub one : ℕ
+one = 0x3FF0_0000_0000_0000
+
+abbrev six : ℕ
+six = 0x4018_0000_0000_0000
+
+abbrev twelve : ℕ
+twelve = 0x4028_0000_0000_0000
+
+abbrev pub seventyTwo : ℕ
 seventyTwo = 0x4052_0000_0000_0000
 
 abbrev infinite : ℕ
@@ -119,14 +144,16 @@ infinite = 0x7FF0_0000_0000_0000
 pub data Case : Type 0 where
   -- a table, refused with a number at a place
   refused : List ℕ → ℕ → ℕ → Case
-  -- a table with so many functions, accepted; of one function of it the operations, the words and the code
-  compiles : List ℕ → ℕ → ℕ → ℕ → ℕ → List ℕ → Case
+  -- a table with so many functions, accepted; of one function of it, in a version, the operations, the words and the code
+  compiles : List ℕ → ℕ → ℕ → ℕ → ℕ → ℕ → List ℕ → Case
   -- a table and the lister's text
   prints : List ℕ → List ℕ → Case
-  -- a table, a function and a code buffer, refused by the compiler
-  uncompiled : List ℕ → ℕ → List ℕ → ℕ → ℕ → Case
+  -- a table, a function, a version and a code buffer, refused by the compiler
+  uncompiled : List ℕ → ℕ → ℕ → List ℕ → ℕ → ℕ → Case
   -- a code, arguments and the two buffers, refused by the runner
   unrun : List ℕ → List ℕ → List ℕ → List ℕ → ℕ → ℕ → Case
+  -- a code and arguments: what the work buffer then holds, where it held nothing but 7
+  leaves : List ℕ → List ℕ → List ℕ → Case
   -- a table, a function, its code, and arguments: what the code gives, and what the graph means
   gives : List ℕ → ℕ → List ℕ → List ℕ → List ℕ → Case
 
@@ -136,14 +163,19 @@ pub record Sizes : Type 0 where
   pub words : ℕ
   pub code : List ℕ
 
-abbrev sizesOf : Outcome Chosen → Outcome Sizes
+abbrev sizesOf : Outcome Job → Outcome Sizes
 sizesOf (fault n p) = fault n p
-sizesOf (ok x) =
-    ok (record { operations = functionOperations (operationsOf (x .early)) (x .function); words = functionWords (x .early) (x .function); code = codeOf x })
+sizesOf (ok j) =
+    let x = j .chosen in
+    ok (record { operations = functionOperations (operationsOf (x .early)) (x .function); words = wordsOf (j .version) x; code = codeOf (j .version) x })
 
 abbrev outputOf : Outcome Buffers → List ℕ
 outputOf (fault n p) = []
 outputOf (ok b) = b .out
+
+abbrev workOf : Outcome Buffers → List ℕ
+workOf (fault n p) = []
+workOf (ok b) = b .work
 
 abbrev meaningIn : Outcome (List Function) → ℕ → List ℕ → Option (List ℕ)
 meaningIn (fault n p) c arguments = none
@@ -151,18 +183,20 @@ meaningIn (ok fs) c arguments = graphMeans fs c arguments
 
 abbrev pub Holds : Case → Type 0
 Holds (refused s n p) = verdict s ≡ fault n p
-Holds (compiles s count c operations words code) =
-    (verdict s ≡ ok count) × (sizesOf (compilable s c) ≡ ok (record { operations = operations; words = words; code = code }))
+Holds (compiles s count c n operations words code) =
+    (verdict s ≡ ok count) × (sizesOf (compilable s c n) ≡ ok (record { operations = operations; words = words; code = code }))
 Holds (prints s text) = listing s ≡ text
-Holds (uncompiled s c buffer n p) = compiled s c buffer ≡ fault n p
+Holds (uncompiled s c v buffer n p) = compiled s c v buffer ≡ fault n p
 Holds (unrun code arguments work out n p) = ran code arguments work out ≡ fault n p
+Holds (leaves code arguments work) = workOf (ran code arguments (replicate (length work) 7) (replicate 3 7)) ≡ work
 Holds (gives s c code arguments out) =
     (outputOf (ran code arguments (replicate 5 7) (replicate (length out) 7)) ≡ out) × (meaningIn (table s) c arguments ≡ some out)
 
 abbrev pub cases : List Case
 cases =
     -- A
-    compiles tableA 1 1 1 3 codeA ∷ prints tableA textA
+    compiles tableA 1 1 1 1 3 codeA
+    ∷ prints tableA textA
     -- B to I
     ∷ refused [] 1 0
     ∷ refused (set tableA 6 0x1F) 4 6
@@ -175,9 +209,9 @@ cases =
     -- J
     ∷ gives tableA 1 codeA (three ∷ half ∷ []) (threeHalves ∷ [])
     -- K
-    ∷ compiles tableK 1 1 0 1 codeK
+    ∷ compiles tableK 1 1 1 0 1 codeK
     -- the calls
-    ∷ compiles tableCalls 2 2 5 4 codeCalls
+    ∷ compiles tableCalls 2 2 1 5 4 codeCalls
     ∷ gives tableCalls 2 codeCalls (three ∷ []) (seventyTwo ∷ [])
     -- not of 01: the refusals of a table that B to I lack
     ∷ refused (set tableA 0 0x48) 2 0
@@ -200,10 +234,10 @@ cases =
     ∷ refused (set tableCalls 54 0x02) 10 50
     ∷ refused (take 67 (set (set tableCalls 66 0x00) 6 0x43)) 10 60
     -- not of 01: the compiler's refusals
-    ∷ uncompiled tableA 2 (replicate 20 7) 14 0
-    ∷ uncompiled tableOperations 5 (replicate 20 7) 15 0
-    ∷ uncompiled tableWords 4 (replicate 20 7) 16 0
-    ∷ uncompiled tableA 1 (replicate 19 7) 17 0
+    ∷ uncompiled tableA 2 1 (replicate 20 7) 14 0
+    ∷ uncompiled tableOperations 5 1 (replicate 20 7) 15 0
+    ∷ uncompiled tableWords 4 1 (replicate 20 7) 16 0
+    ∷ uncompiled tableA 1 1 (replicate 19 7) 17 0
     -- not of 01: the runner's refusals
     ∷ unrun (set codeA 10 0x04) (three ∷ half ∷ []) (replicate 3 7) (replicate 1 7) 18 0
     ∷ unrun codeA (three ∷ []) (replicate 3 7) (replicate 1 7) 19 0
@@ -214,5 +248,41 @@ cases =
 
 pub settled : Each Holds cases
 unfolding verdict table formatOf need _>>=_ _>>_ via nodeMeans meaningOf results operationsOf resultWordsOf schedule inlined encode decode guard then execute compiled ran decimal functionLine listing Ieee.add Ieee.mul Ieee.ofBits Ieee.toBits
-settled =
-    ((refl, refl), (refl, (refl, (refl, (refl, (refl, (refl, (refl, (refl, (refl, ((refl, refl), ((refl, refl), ((refl, refl), ((refl, refl), (refl, (refl, (refl, (refl, (refl, (refl, (refl, (refl, (refl, (refl, (refl, (refl, (refl, (refl, (refl, (refl, (refl, (refl, (refl, (refl, (refl, (refl, (refl, tt)))))))))))))))))))))))))))))))))))))
+settled = ((refl, refl), (refl, (refl, (refl, (refl, (refl, (refl, (refl, (refl, (refl, ((refl, refl), ((refl, refl), ((refl, refl), ((refl, refl), (refl, (refl, (refl, (refl, (refl, (refl, (refl, (refl, (refl, (refl, (refl, (refl, (refl, (refl, (refl, (refl, (refl, (refl, (refl, (refl, (refl, (refl, (refl, tt)))))))))))))))))))))))))))))))))))))
+
+-- ---- 02, request 9
+
+abbrev pub versionCases : List Case
+versionCases =
+    -- A, K and the calls in version 2
+    compiles tableA 1 1 2 1 3 codeA2
+    ∷ compiles tableK 1 1 2 0 1 (set codeK 3 0x02)
+    ∷ compiles tableCalls 2 2 2 5 3 codeCalls2
+    ∷ gives tableA 1 codeA2 (three ∷ half ∷ []) (threeHalves ∷ [])
+    ∷ gives tableCalls 2 codeCalls2 (three ∷ []) (seventyTwo ∷ [])
+    -- what the work buffer then holds: in version 2 the word of x is used again
+    ∷ leaves codeCalls (three ∷ []) (three ∷ six ∷ twelve ∷ seventyTwo ∷ 7 ∷ [])
+    ∷ leaves codeCalls2 (three ∷ []) (twelve ∷ six ∷ seventyTwo ∷ 7 ∷ [])
+    -- a word never written stays; all operands are read before the result is written
+    ∷ leaves codeApart (three ∷ []) (three ∷ 7 ∷ 7 ∷ six ∷ [])
+    ∷ leaves codeOver (three ∷ half ∷ three ∷ []) (three ∷ six ∷ one ∷ six ∷ [])
+    -- 31: neither 1 nor 2; after 14, before 15 and 16; then 15 and 17 as in version 1
+    ∷ uncompiled tableA 1 0 (replicate 22 7) 31 0
+    ∷ uncompiled tableA 1 3 (replicate 22 7) 31 0
+    ∷ uncompiled tableA 2 3 (replicate 22 7) 14 0
+    ∷ uncompiled tableOperations 5 3 (replicate 22 7) 31 0
+    ∷ uncompiled tableWords 4 3 (replicate 22 7) 31 0
+    ∷ uncompiled tableOperations 5 2 (replicate 22 7) 15 0
+    ∷ uncompiled tableA 1 2 (replicate 21 7) 17 0
+    -- 18: no such version; a word count too high, and too low; an operand not yet written, and never; an output never written
+    ∷ unrun (set codeA2 3 0x03) (three ∷ half ∷ []) (replicate 3 7) (replicate 1 7) 18 0
+    ∷ unrun (set codeCalls2 10 0x04) (three ∷ []) (replicate 4 7) (replicate 1 7) 18 0
+    ∷ unrun (set codeCalls2 10 0x02) (three ∷ []) (replicate 4 7) (replicate 1 7) 18 0
+    ∷ unrun (set codeCalls2 16 0x02) (three ∷ []) (replicate 4 7) (replicate 1 7) 18 0
+    ∷ unrun (set codeApart 16 0x01) (three ∷ []) (replicate 4 7) (replicate 1 7) 18 0
+    ∷ unrun (set codeApart 20 0x02) (three ∷ []) (replicate 4 7) (replicate 1 7) 18 0
+    ∷ []
+
+pub settled-versions : Each Holds versionCases
+unfolding verdict table formatOf need _>>=_ _>>_ via nodeMeans meaningOf results operationsOf resultWordsOf schedule inlined encode decode guard then execute compiled ran Ieee.add Ieee.mul Ieee.ofBits Ieee.toBits
+settled-versions = ((refl, refl), ((refl, refl), ((refl, refl), ((refl, refl), ((refl, refl), (refl, (refl, (refl, (refl, (refl, (refl, (refl, (refl, (refl, (refl, (refl, (refl, (refl, (refl, (refl, (refl, (refl, tt))))))))))))))))))))))

@@ -20,6 +20,7 @@ use Rattle.value.specs.Values.{argumentWord}
 use Rattle.bytecode.specs.Run.{BoardList}
 use Rattle.bytecode.specs.Code.{decode}
 use Rattle.bytecode.specs.Answers.{Buffers}
+use Rattle.bytecode.specs.declared.Version.{Version}
 use Rattle.bytecode.specs.WellFormed.{Codes}
 use Rattle.bytecode.proofs.Decoded.{well-formed, not-well-formed}
 use Rattle.runner.specs.declared.Counts.{Counts}
@@ -105,7 +106,7 @@ pub few-words : {points n : ℕ} → points ≤ pointLimit → n ≤ portWordLim
 few-words = mul-le-mul
 
 pub few-arguments : (s : List ℕ) → Bytes s → {c : Counts} → Decoded s c → c .arguments ≤ portWordLimit
-few-arguments s small d = let f = well-formed s small (d .list) .0 (d .is) .fit .arguments in let e = d .arguments in omega arith
+few-arguments s small d = let (v, k) = well-formed s small (d .list) .0 (d .is) in let f = k .formed .arguments in let e = d .arguments in omega arith
 
 -- ---- backwards: from the answer
 
@@ -189,8 +190,8 @@ module _ (s : List ℕ) (points : ℕ) (arguments work out : List ℕ) where
   -- so 18 is exactly for the code of no list
   pub points-exact : Bytes s → {work′ out′ : List ℕ} {r : Ran} → Answered (ranPoints s points arguments work out) work out work′ out′ r → Refused18 s r
   unfolding answerOf
-  points-exact small h = (λ e. there refl (points-fault 18 0 (is-fault _ 18 0 (sym (h .answer) ∙ e))), λ k. h .answer ∙ ap answerOf (unread s points arguments work out (not-well-formed s small .1 k)))
+  points-exact small h = (λ e. there refl (points-fault 18 0 (is-fault _ 18 0 (sym (h .answer) ∙ e))), λ k. h .answer ∙ ap answerOf (unread s points arguments work out (not-well-formed s small .1 (λ b (v, q). k v b q))))
     where
-      there : {n p : ℕ} → n ≡ 18 → ((decode s ≡ none) × (n ≡ 18) × (p ≡ 0)) ⊎ Late n p → (b : BoardList) → Codes s b → ⊥
-      there z (inl (q, x, y)) = not-well-formed s small .0 q
-      there z (inr (x, y, u)) = absurd (omega arith)
+      there : {n p : ℕ} → n ≡ 18 → ((decode s ≡ none) × (n ≡ 18) × (p ≡ 0)) ⊎ Late n p → (v : Version) (b : BoardList) → Codes v s b → ⊥
+      there z (inl (q, x, y)) v b k = not-well-formed s small .0 q b (v, k)
+      there z (inr (x, y, u)) v b k = omega arith

@@ -1,7 +1,7 @@
 -- Demand 3 for each point. Every call runs the list of the function, so it gives what the graph means at its point, whatever the call before
 -- left in the work buffer.
 use Prim.Native.Nat.{ℕ, _*_, _≤_}
-use mathlib.Core.Path.{_≡_, refl, ap, sym, _∙_, subst}
+use mathlib.Core.Path.{_≡_, refl, ap, ap₂, sym, _∙_, subst}
 use mathlib.Core.Bool.{_&&_}
 use mathlib.Core.List.{List, reverse}
 use mathlib.Core.Option.{some}
@@ -20,15 +20,15 @@ use Rattle.value.specs.Values.{argumentWord}
 use Rattle.value.specs.Typed.{Finite}
 use Rattle.value.proofs.Laws.{all-finite}
 use Rattle.graph.specs.Graph.{Function}
-use Rattle.graph.specs.Sums.{functionWords}
 use Rattle.graph.specs.Meaning.{graphMeans}
 use Rattle.graph.specs.Table.{Chosen}
+use Rattle.bytecode.specs.declared.Version.{Version}
 use Rattle.bytecode.specs.Code.{decode}
 use Rattle.bytecode.specs.Answers.{Buffers, ran}
-use Rattle.lowering.specs.Answers.{codeOf}
+use Rattle.bytecode.proofs.Back.{decode-encode}
+use Rattle.lowering.specs.Answers.{listOf, wordsOf, codeOf}
 use Rattle.lowering.specs.Demand3.{Within, Lent}
-use Rattle.lowering.proofs.Limits.{words-of, output-words, code-of}
-use Rattle.lowering.proofs.Whole.{listOf, leaves, sound, list-ok, means}
+use Rattle.lowering.proofs.Whole.{leaves, laws, fits, list-ok, means}
 use Rattle.runner.specs.declared.Ran.{Ran}
 use Rattle.runner.specs.declared.Ran.the-variants.{Done}
 use Rattle.runner.specs.Runs.{answerOf, workAfter, outAfter, Answered}
@@ -36,9 +36,9 @@ use Rattle.points.specs.Points.{oneByOne, ranPoints}
 use Rattle.points.specs.Demand3.{inputWords, outputWords, LentPoints, Demand3Points}
 use Rattle.points.proofs.Calls.{Called, AllCalled, Keeping, all-called}
 
-module _ (s : List ℕ) (c : ℕ) (functions : List Function) (x : Chosen) (w : Within s c functions x) where
+module _ (s : List ℕ) (c n : ℕ) (functions : List Function) (v : Version) (x : Chosen) (w : Within s c n functions v x) where
   abbrev words : ℕ
-  words = functionWords (x .early) (x .function)
+  words = wordsOf v x
 
   abbrev Means : List ℕ → List ℕ → Type 0
   Means arguments outputs = graphMeans (reverse functions) c arguments ≡ some outputs
@@ -51,58 +51,60 @@ module _ (s : List ℕ) (c : ℕ) (functions : List Function) (x : Chosen) (w : 
   keeping = record { none = λ l. (refl, λ i h. refl); both = λ l m n (p, f) (q, g). (q ∙ p, λ i h. g i h ∙ f i h); size = λ l m (p, f). p }
 
   call : (arguments work out : List ℕ) → length arguments ≡ inputWords x → Each Finite arguments → words ≤ length work → length out ≡ outputWords x
-      → Called Means Kept (outputWords x) (ran (codeOf x) arguments work out) arguments work
+      → Called Means Kept (outputWords x) (ran (codeOf v x) arguments work out) arguments work
   call arguments work out l f r o =
-      let lent : Lent x arguments (codeOf x) work out = record { finite = f; count = l; code-fits = omega arith; work-fits = r; out-fits = omega arith } in
-      let m = means s c functions x w arguments (codeOf x) work out lent in
+      let lent : Lent v x arguments (codeOf v x) work out = record { finite = f; count = l; code-fits = omega arith; work-fits = r; out-fits = omega arith } in
+      let m = means s c n functions v x w arguments (codeOf v x) work out lent in
       let z = m .size in
       let size : length (sets out 0 (m .answer)) ≡ length out = length-sets out 0 (m .answer) in
-      let same : leaves x arguments work out .out ≡ m .answer =
+      let same : leaves v x arguments work out .out ≡ m .answer =
       m .given ∙ sym (take-all (length (m .answer)) (sets out 0 (m .answer)) (omega arith)) ∙ front out (m .answer) (omega arith) in
       record {
-        after = leaves x arguments work out;
-        is = list-ok s c functions x w arguments (codeOf x) work out lent;
+        after = leaves v x arguments work out;
+        is = list-ok s c n functions v x w arguments (codeOf v x) work out lent;
         count = refl;
         size = ap length same ∙ z;
         good = m .meant ∙ ap some (sym same);
         kept = (m .same, m .rest);
       }
 
-  module _ (points : ℕ) (arguments work out : List ℕ) (l : LentPoints x points arguments work out) where
+  module _ (points : ℕ) (arguments work out : List ℕ) (l : LentPoints v x points arguments work out) where
     abbrev calls : Outcome Buffers
-    calls = oneByOne (codeOf x) (inputWords x) (outputWords x) points arguments work out
+    calls = oneByOne (codeOf v x) (inputWords x) (outputWords x) points arguments work out
 
     pub all : AllCalled Means Kept (inputWords x) (outputWords x) points calls arguments work out
     all =
-        all-called (codeOf x) (inputWords x) (outputWords x) words Means Kept Finite keeping call points arguments work out
+        all-called (codeOf v x) (inputWords x) (outputWords x) words Means Kept Finite keeping call points arguments work out
         (l .count) (l .finite) (l .work-fits) (l .out-fits)
 
     -- nothing is refused
-    pub judged : ranPoints (codeOf x) points arguments work out ≡ calls
+    pub judged : ranPoints (codeOf v x) points arguments work out ≡ calls
     unfolding ranPoints
     judged =
-        let sounds = sound s c functions x w in
-        let outputs : length (listOf x .outputs) ≡ outputWords x = output-words (x .early) (x .function) sounds in
-        let list : listOf x .words ≡ words = words-of (x .early) (x .function) sounds in
+        let b = listOf v x in
+        let law = laws s c n functions v x w in
+        let outputs : length (b .outputs) ≡ outputWords x = law .outputs in
+        let list : b .words ≡ words = law .words in
         let r = l .work-fits in
         let o = l .out-fits in
-        let all-out : points * length (listOf x .outputs) ≡ points * outputWords x = ap (λ (k : ℕ). points * k) outputs in
-        takes (orElse (decode (codeOf x)) _ _) _ (listOf x) (some-else _ _ (code-of (x .early) (x .function) sounds (w .operations) (w .words)))
+        let all-in : points * inputWords x ≡ points * b .arguments = ap (λ (k : ℕ). points * k) (sym (law .arguments)) in
+        let all-out : points * length (b .outputs) ≡ points * outputWords x = ap (λ (k : ℕ). points * k) outputs in
+        takes (orElse (decode (codeOf v x)) _ _) _ b (some-else _ _ (decode-encode v b (fits s c n functions v x w)))
         ∙ passes (leb points pointLimit) _ _ _ (le-leb points pointLimit (l .few))
-        ∙ passes (eqb (length arguments) (points * inputWords x)) _ _ _ (eq-eqb _ _ (l .count))
+        ∙ passes (eqb (length arguments) (points * b .arguments)) _ _ _ (eq-eqb _ _ (l .count ∙ all-in))
         ∙ passes (every argumentWord arguments) _ _ _ (all-finite arguments (l .finite))
-        ∙ passes (leb (listOf x .words) (length work) && leb (points * length (listOf x .outputs)) (length out)) _ _ _
-        (and-both _ _ (le-leb (listOf x .words) (length work) (omega arith)) (le-leb (points * length (listOf x .outputs)) (length out) (omega arith)))
-        ∙ ap (λ (k : ℕ). oneByOne (codeOf x) (inputWords x) k points arguments work out) outputs
+        ∙ passes (leb (b .words) (length work) && leb (points * length (b .outputs)) (length out)) _ _ _
+        (and-both _ _ (le-leb (b .words) (length work) (omega arith)) (le-leb (points * length (b .outputs)) (length out) (omega arith)))
+        ∙ ap₂ (λ (i k : ℕ). oneByOne (codeOf v x) i k points arguments work out) (law .arguments) outputs
 
 -- whatever answers as `ranPoints` does, in whatever form, and leaves the buffers as that says, meets demand 3 at each point
 pub demand3-points :
     (code : List ℕ) (points : ℕ) (arguments work out : List ℕ) {Answer : ℕ → Type 0} {work′ out′ : List ℕ}
     → ((b : Buffers) → ranPoints code points arguments work out ≡ ok b → Answer (b .count) × (work′ ≡ b .work) × (out′ ≡ b .out))
     → Demand3Points Answer code points arguments work out work′ out′
-demand3-points code points arguments work out {Answer} {work′} {out′} h s c functions x w is l =
-    let a = all s c functions x w points arguments work out l in
-    let g = ap (λ (ys : List ℕ). ranPoints ys points arguments work out) is ∙ judged s c functions x w points arguments work out l ∙ a .is in
+demand3-points code points arguments work out {Answer} {work′} {out′} h s c n functions v x w is l =
+    let a = all s c n functions v x w points arguments work out l in
+    let g = ap (λ (ys : List ℕ). ranPoints ys points arguments work out) is ∙ judged s c n functions v x w points arguments work out l ∙ a .is in
     let (r, ew, eo) = h (a .after) g in
     record {
       count = subst Answer (a .count) r;

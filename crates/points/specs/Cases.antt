@@ -1,4 +1,4 @@
--- Points of 01's code A, as one table.
+-- Points of 01's code A and of version 2 codes, as one table.
 use Prim.Native.Nat.{ℕ}
 use mathlib.Core.Path.{_≡_, refl}
 use mathlib.Core.List.{List, [], _∷_}
@@ -10,11 +10,14 @@ use Rattle.value.specs.Results.{results}
 use Rattle.bytecode.specs.Run.{execute}
 use Rattle.bytecode.specs.Code.{decode, guard, then}
 use Rattle.bytecode.specs.Answers.{Buffers, ran}
-use Rattle.lowering.specs.Cases.{codeA, three, half, threeHalves}
+use Rattle.lowering.specs.Cases.{codeA, codeA2, codeCalls2, three, half, threeHalves, one, seventyTwo}
 use Rattle.points.specs.Points.{oneByOne, ranPoints}
 
 abbrev pub quarter : ℕ
 quarter = 0x3FD0_0000_0000_0000
+
+abbrev two : ℕ
+two = 0x4000_0000_0000_0000
 
 abbrev infinite : ℕ
 infinite = 0x7FF0_0000_0000_0000
@@ -40,10 +43,16 @@ cases =
     -- 3 times 0.5, then 0.5 times 0.5; the work buffer is as the last point left it
     given codeA 2 (three ∷ half ∷ half ∷ half ∷ []) 4 3
     (ok (record { count = 2; work = half ∷ half ∷ quarter ∷ 7 ∷ []; out = threeHalves ∷ quarter ∷ 7 ∷ [] }))
+    -- in version 2 too
+    ∷ given codeA2 2 (three ∷ half ∷ half ∷ half ∷ []) 4 3
+    (ok (record { count = 2; work = half ∷ half ∷ quarter ∷ 7 ∷ []; out = threeHalves ∷ quarter ∷ 7 ∷ [] }))
+    -- where words are used again
+    ∷ given codeCalls2 2 (three ∷ half ∷ []) 4 3 (ok (record { count = 2; work = two ∷ one ∷ two ∷ 7 ∷ []; out = seventyTwo ∷ two ∷ 7 ∷ [] }))
     -- no points write nothing, and need no output word
     ∷ given codeA 0 [] 3 0 (ok (record { count = 0; work = replicate 3 7; out = [] }))
     -- 18 stays first, then 22, 19, 20
     ∷ given (set codeA 10 0x04) 1025 [] 0 0 (fault 18 0)
+    ∷ given (set codeCalls2 16 0x02) 1025 [] 0 0 (fault 18 0)
     ∷ given codeA 1025 [] 0 0 (fault 22 0)
     ∷ given codeA 2 (three ∷ half ∷ infinite ∷ []) 0 0 (fault 19 0)
     ∷ given codeA 2 (three ∷ half ∷ half ∷ infinite ∷ []) 0 0 (fault 20 0)
@@ -53,5 +62,5 @@ cases =
     ∷ []
 
 pub settled : Each Holds cases
-unfolding oneByOne ranPoints need _>>=_ _>>_ results decode guard then execute ran Ieee.mul Ieee.ofBits Ieee.toBits
-settled = (refl, (refl, (refl, (refl, (refl, (refl, (refl, (refl, tt))))))))
+unfolding oneByOne ranPoints need _>>=_ _>>_ results decode guard then execute ran Ieee.add Ieee.mul Ieee.ofBits Ieee.toBits
+settled = (refl, (refl, (refl, (refl, (refl, (refl, (refl, (refl, (refl, (refl, (refl, tt)))))))))))

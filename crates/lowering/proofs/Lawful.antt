@@ -1,0 +1,83 @@
+-- What demand 3 asks of a version of the list, and that both versions have it.
+use Prim.Native.Nat.{ℕ, _≤_}
+use mathlib.Core.Path.{_≡_, refl, _∙_}
+use mathlib.Core.List.{List, _∷_}
+use mathlib.Core.Option.{some}
+use native.Mathlib.Omega.{arith}
+use lib.ListN.{length, replicate, length-replicate, length-map}
+use Rattle.ports.specs.Ports.{widths}
+use Rattle.base.specs.Limits.{operationLimit, wordLimit}
+use Rattle.value.specs.declared.Value.{Value}
+use Rattle.value.specs.Values.{allWords}
+use Rattle.value.specs.Typed.{Typed}
+use Rattle.graph.specs.Graph.{Function}
+use Rattle.graph.specs.Types.{outputTypes}
+use Rattle.graph.specs.Sums.{functionOperations, operationsOf}
+use Rattle.graph.specs.Sound.{AllSound}
+use Rattle.graph.specs.Meaning.{functionMeans, meaningOf}
+use Rattle.graph.specs.Table.{Chosen}
+use Rattle.bytecode.specs.declared.Version.{Version}
+use Rattle.bytecode.specs.declared.Version.the-variants.{V1, V2}
+use Rattle.bytecode.specs.Run.{BoardList, run}
+use Rattle.bytecode.specs.WellFormed.{FormedList}
+use Rattle.placement.specs.Place.{placesOf, rename, reusing, numbered}
+use Rattle.placement.specs.OneValue.{Placeable}
+use Rattle.placement.proofs.Following.{routed}
+use Rattle.lowering.specs.Compile.{boardListOf}
+use Rattle.lowering.specs.Answers.{listOf, wordsOf}
+use Rattle.lowering.proofs.Promise.{runs}
+use Rattle.lowering.proofs.Limits.{count-of, words-of, laid, output-words, port-words, formed-list}
+use Rattle.lowering.proofs.Naming.{one-value}
+use Rattle.lowering.proofs.Routed.{follows-means}
+use Rattle.lowering.proofs.Fits.{reusing-formed}
+
+-- on any arguments of the right types and in any memory long enough, the list's output words are those of what the function means
+abbrev pub ListMeans : Chosen → BoardList → Type 0
+ListMeans x b =
+    (args : List Value) → Typed (x .function .inputs) args → (m : List ℕ) → b .words ≤ length m
+    → (vs : List Value) × (functionMeans (meaningOf (x .early)) (x .function) args ≡ some vs) × Typed (outputTypes (x .function .outputs)) vs
+    × (run b (allWords args) m .outputs ≡ allWords vs)
+
+-- the list of a function in a version has a code within the limits, the counts that the function says, and the function's meaning
+pub record Lawful (v : Version) (x : Chosen) : Type 0 where
+  pub formed : functionOperations (operationsOf (x .early)) (x .function) ≤ operationLimit → wordsOf v x ≤ wordLimit → FormedList v (listOf v x)
+  pub arguments : listOf v x .arguments ≡ widths (x .function .inputs)
+  pub words : listOf v x .words ≡ wordsOf v x
+  pub outputs : length (listOf v x .outputs) ≡ widths (outputTypes (x .function .outputs))
+  pub means : ListMeans x (listOf v x)
+
+-- a list that can be placed
+pub placeable : (early : List Function) (f : Function) → AllSound (f ∷ early) → Placeable (f .inputs) (boardListOf early f)
+placeable early f sound =
+    let (fit, below, size) = laid early f sound in
+    record { arguments = refl; fit = fit; below = below; whole = one-value early f sound }
+
+pub lawful : (v : Version) (x : Chosen) → AllSound (x .function ∷ x .early) → Lawful v x
+lawful V1 x sound =
+    let early = x .early in
+    let f = x .function in
+    record {
+      formed = formed-list early f sound;
+      arguments = refl;
+      words = words-of early f sound;
+      outputs = output-words early f sound;
+      means = λ args typed m l. let r = runs early f sound args typed m l in (r .values, r .meant, r .typed, r .outputs);
+    }
+lawful V2 x sound =
+    let early = x .early in
+    let f = x .function in
+    let b = boardListOf early f in
+    let b′ = reusing (f .inputs) b in
+    let t = placeable early f sound in
+    let (la, lo, ho) = port-words early f sound in
+    record {
+      formed = λ operations words. reusing-formed (f .inputs) b t la lo ho (let n = count-of early f sound in omega arith) words;
+      arguments = refl;
+      words = refl;
+      outputs = length-map (b .outputs) (rename (placesOf (f .inputs) b)) ∙ output-words early f sound;
+      -- beside a run of version 1's list in a memory of its own
+      means = λ args typed m l.
+          let own : List ℕ = replicate (b .words) 0 in
+          let room : length own ≡ b .words = length-replicate (b .words) 0 in
+          follows-means early f sound b′ (numbered 0 (b′ .instructions)) (routed (f .inputs) b t) args typed own m (omega arith) l;
+    }
