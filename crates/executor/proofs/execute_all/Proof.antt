@@ -69,7 +69,10 @@ add-at-2 : tie.Need-add-at-2 Inv-loop μ-loop
 add-at-2 c = let p = executed c in omega (arith, fits (addressed-at p) .ready .fits, p .execute .ensures .bytes)
 
 add-next : tie.Need-add-next Inv-loop μ-loop
-add-next c = let p = executed (c .before) in omega (arith, fits (addressed-at p) .ready .room, p .execute .ensures .given)
+add-next c =
+    let p = executed (c .before) in
+    let i = turn (addressed-at p) in
+    omega (arith, fits (addressed-at p) .ready .room, p .execute .ensures .given, i .before .loop .inv .1, entry i .good)
 
 more : (c : tie.After-struct-known Inv-loop μ-loop) → 0 < turn (addressed-at (executed c)) .before .loop .left
 more c = turn (addressed-at (executed c)) .loop-test .taken
