@@ -1,6 +1,4 @@
 pub mod Walks
+pub mod Marks
 pub mod Checking
-pub mod Passing
 pub mod Buffers
-pub mod Decoding
-pub mod Exact

@@ -1,19 +1,26 @@
 // The runner of board lists: the check of a code, and the run of a code that was checked.
 ghost use mathlib.Core.Path.{_≡_};
-ghost use mathlib.Core.List.{map};
-ghost use Prim.Native.Nat.{_+_, _*_, _≤_, _<_};
+ghost use mathlib.Core.Bool.{false, cond};
+ghost use mathlib.Core.List.{[], map};
+ghost use Prim.Native.Nat.{_+_, _*_, _≤_, _<_, max};
+ghost use lib.Dec.{eqb};
 ghost use lib.ListN.{length, replicate};
 ghost use lib.Seq.{sets};
 ghost use Rattle.ports.specs.Ports.{types};
 ghost use Rattle.base.specs.Limits.{headerLength};
-ghost use Rattle.base.specs.Lists.{wordAt, every};
+ghost use Rattle.base.specs.Bytes.{u16};
+ghost use Rattle.base.specs.Lists.{wordAt, span, every};
 ghost use Rattle.value.specs.Values.{argumentWord};
 ghost use Rattle.bytecode.specs.Code as Code;
-ghost use Rattle.bytecode.specs.Code.{addresses, allBelow, allLess, readInstruction, readInstructions, countsFit, decode};
+ghost use Rattle.bytecode.specs.Run.{spans};
+ghost use Rattle.bytecode.specs.Version.{version1, version2};
+ghost use Rattle.bytecode.specs.Code.{addresses, argumentWords, readInstructions, countsFit, decode};
 ghost use Rattle.bytecode.specs.Answers.{ran};
-ghost use Rattle.runner.specs.Checks.{operandsPassed, constantPassed, passedOf, endedOf, checkedOf, Exactly, Begun, headerCounts};
+ghost use Rattle.executor.specs.Instructions.{versionBy};
+ghost use Rattle.runner.specs.Checks.{allBelow, allLess, operandsPassed, constantPassed, instructionPassed, marked, Extended, Wrote, Writable, Placed, Placeable, Checkable, Ended, Listable, listOf, checkedOf, Exactly, Begun, headerCounts};
 ghost use Rattle.runner.specs.Runs.{Answered, Refused18, Runnable, OutputsReady, memoryOf, outputsOf};
 use base::HEADER_LENGTH;
+use base::WORD_LIMIT;
 use ports::Ports;
 
 // The counts that a code says.
@@ -36,7 +43,7 @@ pub enum Ran {
     Refused(u8, usize),
 }
 
-// Where the next instruction stands, and where its result goes.
+// Where the next instruction stands, and the word behind all results so far: in version 1 its result goes there.
 pub struct Cursor {
     pub at: usize,
     pub result: usize,
@@ -162,13 +169,12 @@ fn check_constant(s: &[u8], at: usize, count: usize, next: usize) -> Progress
     })
 }
 
-// One instruction, its kind byte at `at`, by its kind's row.
-fn check_instruction(s: &[u8], at: usize, result: usize, row: Ports) -> Progress
-    requires { ⌜ Begun (now s) at result row ⌝ }
-    ensures { λ r. ⌜ r ≡ passedOf result (readInstruction (now (s .entry)) at result) ⌝ }
+// One instruction, its kind byte at `at` and its operands at `from`, by its kind's row.
+fn check_instruction(s: &[u8], at: usize, from: usize, result: usize, row: Ports) -> Progress
+    requires { ⌜ Begun (now s) at from result row ⌝ }
+    ensures { λ r. ⌜ r ≡ instructionPassed (now (s .entry)) at from result ⌝ }
 {
     let t = s[at + 1];
-    let p = at + 2;
     let n = row.operands as usize;
     if ports::has_type(row) {
         if !ports::is_type(t) {
@@ -176,9 +182,9 @@ fn check_instruction(s: &[u8], at: usize, result: usize, row: Ports) -> Progress
         }
         let next = result + ports::width(t);
         if n == 2 {
-            return check_two(s, p, t, t, result, next);
+            return check_two(s, from, t, t, result, next);
         }
-        return check_operands(s, p, n, t, t, result, next);
+        return check_operands(s, from, n, t, t, result, next);
     }
     if t != 0 {
         return Progress::Refused;
@@ -190,27 +196,175 @@ fn check_instruction(s: &[u8], at: usize, result: usize, row: Ports) -> Progress
         return Progress::Refused;
     }
     if n == 0 {
-        return check_constant(s, p, words, next);
+        return check_constant(s, from, words, next);
     }
     let first = row.first;
     let rest = row.rest;
     if n == 2 {
-        return check_two(s, p, first, rest, result, next);
+        return check_two(s, from, first, rest, result, next);
     }
-    check_operands(s, p, n, first, rest, result, next)
+    check_operands(s, from, n, first, rest, result, next)
 }
 
-// All instructions, from behind the header and the word `first` on: what stands behind them.
-fn check_instructions(s: &[u8], count: usize, first: usize) -> Progress
-    requires { ⌜ (headerLength ≤ length (now s)) × (count ≤ 65535) × (first ≤ 255) ⌝ }
-    ensures { λ r. ⌜ r ≡ endedOf (readInstructions count (now (s .entry)) headerLength first) ⌝ }
+// ---- version 2: a mark for each word that is written
+
+// Marks `count` words more.
+fn mark(marks: &mut [bool], from: usize, count: usize)
+    requires { ⌜ from + count ≤ length (now marks) ⌝ }
+    ensures { λ _. ⌜ Extended from count (now (marks .entry)) (now (marks .exit)) ⌝ }
 {
-    let rows = ports::PORTS;
-    let mut at = HEADER_LENGTH;
-    let mut result = first;
+    let end = from + count;
+    let mut i = from;
+    while i < end {
+        marks[i] = true;
+        i += 1;
+    }
+}
+
+fn is_written(marks: &[bool], a: usize) -> bool
+    ensures { λ r. ⌜ r ≡ marked (now (marks .entry)) a ⌝ }
+{
+    if a < marks.len() { marks[a] } else { false }
+}
+
+fn words_written(marks: &[bool], from: usize, count: usize) -> bool
+    requires { ⌜ from + count ≤ 0x1_0000_0000 ⌝ }
+    ensures { λ r. ⌜ r ≡ every (marked (now (marks .entry))) (span from count) ⌝ }
+{
+    let mut at = from;
     let mut left = count;
     while 0 < left {
-        if s.len() - at < 2 {
+        if !is_written(marks, at) {
+            return false;
+        }
+        at += 1;
+        left -= 1;
+    }
+    true
+}
+
+// Every word of the operands, the first of the type `first` and the others of the type `rest`.
+fn operands_written(
+    s: &[u8],
+    from: usize,
+    count: usize,
+    first: u8,
+    rest: u8,
+    marks: &[bool],
+) -> bool
+    requires { ⌜ from + 2 * count ≤ length (now s) ⌝ }
+    ensures { λ r. ⌜ r ≡ every (marked (now (marks .entry))) (spans (types count first rest) (addresses count (now (s .entry)) from)) ⌝ }
+{
+    let mut at = from;
+    let mut left = count;
+    let mut t = first;
+    while 0 < left {
+        if !words_written(marks, base::u16_at(s, at), ports::width(t)) {
+            return false;
+        }
+        at += 2;
+        left -= 1;
+        t = rest;
+    }
+    true
+}
+
+fn outputs_written(s: &[u8], from: usize, count: usize, marks: &[bool]) -> bool
+    requires { ⌜ from + 2 * count ≤ length (now s) ⌝ }
+    ensures { λ r. ⌜ r ≡ every (marked (now (marks .entry))) (addresses count (now (s .entry)) from) ⌝ }
+{
+    let mut at = from;
+    let mut left = count;
+    while 0 < left {
+        if !is_written(marks, base::u16_at(s, at)) {
+            return false;
+        }
+        at += 2;
+        left -= 1;
+    }
+    true
+}
+
+fn higher(a: usize, b: usize) -> usize
+    ensures { λ r. ⌜ r ≡ max a b ⌝ }
+{
+    if a < b { b } else { a }
+}
+
+// All that an instruction reads was written, and the words of its result are written now. More words than a code may have
+// are refused at once: its word count cannot be theirs.
+fn write_result(
+    s: &[u8],
+    at: usize,
+    row: Ports,
+    words: usize,
+    high: usize,
+    next: usize,
+    marks: &mut [bool],
+) -> Progress
+    requires { ⌜ Writable (now s) at row words high ⌝ }
+    ensures { λ r. ⌜ Wrote (now (s .entry)) at row words high next (now (marks .entry)) (now (marks .exit)) r ⌝ }
+{
+    let t = s[at + 1];
+    let p = at + 2;
+    let first = ports::own(t, row.first);
+    let rest = ports::own(t, row.rest);
+    if !operands_written(s, p + 2, row.operands as usize, first, rest, marks) {
+        return Progress::Refused;
+    }
+    let result = base::u16_at(s, p);
+    let end = result + words;
+    if marks.len() < end {
+        return Progress::Refused;
+    }
+    mark(marks, result, words);
+    Progress::Passed(Cursor {
+        at: next,
+        result: higher(high, end),
+    })
+}
+
+// ---- both versions
+
+// What follows an instruction whose operands stand before `high`; `next` is so where its result takes the next words.
+fn place_result(
+    s: &[u8],
+    addressed: bool,
+    at: usize,
+    row: Ports,
+    high: usize,
+    next: Cursor,
+    marks: &mut [bool],
+) -> Progress
+    requires { ⌜ Placeable addressed (now s) at row high next ⌝ }
+    ensures { λ r. ⌜ Placed addressed (now (s .entry)) at row high next (now (marks .entry)) (now (marks .exit)) r ⌝ }
+{
+    if addressed {
+        write_result(s, at, row, next.result - high, high, next.at, marks)
+    } else {
+        Progress::Passed(next)
+    }
+}
+
+// All instructions, from behind the header on, where the arguments take the first `first` words: what stands behind them.
+// One loop for both versions, so that `check_instruction` has one caller and is inlined into it.
+fn check_instructions(
+    s: &[u8],
+    addressed: bool,
+    count: usize,
+    first: usize,
+    marks: &mut [bool],
+) -> Progress
+    requires { ⌜ Checkable addressed (now s) count first (now marks) ⌝ }
+    ensures { λ r. ⌜ Ended addressed (readInstructions (versionBy addressed) count (now (s .entry)) headerLength (argumentWords first)) (now (marks .exit)) r ⌝ }
+{
+    let rows = ports::PORTS;
+    let head = 2 + executor::result_bytes(addressed);
+    let mut at = HEADER_LENGTH;
+    let mut high = first;
+    let mut left = count;
+    while 0 < left {
+        if s.len() - at < head {
             return Progress::Refused;
         }
         let k = base::byte_at(s, at);
@@ -218,17 +372,88 @@ fn check_instructions(s: &[u8], count: usize, first: usize) -> Progress
             return Progress::Refused;
         }
         let row = rows[k];
-        let Progress::Passed(next) = check_instruction(s, at, result, row) else {
+        let Progress::Passed(below) = check_instruction(s, at, at + head, high, row) else {
+            return Progress::Refused;
+        };
+        let Progress::Passed(next) = place_result(s, addressed, at, row, high, below, marks) else {
             return Progress::Refused;
         };
         at = next.at;
-        result = next.result;
+        high = next.result;
         left -= 1;
     }
-    Progress::Passed(Cursor { at, result })
+    if WORD_LIMIT < high {
+        return Progress::Refused;
+    }
+    Progress::Passed(Cursor { at, result: high })
 }
 
-// Mark, version and zero byte.
+// Outputs of words that are written.
+fn outputs_readable(
+    s: &[u8],
+    addressed: bool,
+    from: usize,
+    count: usize,
+    words: usize,
+    marks: &[bool],
+) -> bool
+    requires { ⌜ from + 2 * count ≤ length (now s) ⌝ }
+    ensures { λ r. ⌜ r ≡ cond addressed (every (marked (now (marks .entry))) (addresses count (now (s .entry)) from)) (allLess words (addresses count (now (s .entry)) from)) ⌝ }
+{
+    if addressed {
+        outputs_written(s, from, count, marks)
+    } else {
+        outputs_less(s, from, count, words)
+    }
+}
+
+// The list behind the header.
+fn check_list(s: &[u8], addressed: bool, counts: Counts, marks: &mut [bool]) -> Checked
+    requires { ⌜ Listable addressed (now s) counts (now marks) ⌝ }
+    ensures { λ r. ⌜ r ≡ checkedOf (listOf (versionBy addressed) (now (s .entry)) counts) ⌝ }
+{
+    let Progress::Passed(next) = check_instructions(
+        s,
+        addressed,
+        counts.instructions,
+        counts.arguments,
+        marks,
+    ) else {
+        return Checked::Malformed;
+    };
+    let at = next.at;
+    if next.result != counts.words {
+        return Checked::Malformed;
+    }
+    if s.len() - at != 2 * counts.outputs {
+        return Checked::Malformed;
+    }
+    if !outputs_readable(s, addressed, at, counts.outputs, counts.words, marks) {
+        return Checked::Malformed;
+    }
+    Checked::Formed(counts)
+}
+
+// Version 1 keeps no marks.
+fn check_sequential(s: &[u8], counts: Counts) -> Checked
+    requires { ⌜ Listable false (now s) counts [] ⌝ }
+    ensures { λ r. ⌜ r ≡ checkedOf (listOf version1 (now (s .entry)) counts) ⌝ }
+{
+    let mut marks = [false; 0];
+    check_list(s, false, counts, &mut marks)
+}
+
+// Version 2, with a mark for each word: the arguments are written first.
+fn check_addressed(s: &[u8], counts: Counts) -> Checked
+    requires { ⌜ Listable false (now s) counts [] ⌝ }
+    ensures { λ r. ⌜ r ≡ checkedOf (listOf version2 (now (s .entry)) counts) ⌝ }
+{
+    let mut marks = [false; WORD_LIMIT];
+    mark(&mut marks, 0, counts.arguments);
+    check_list(s, true, counts, &mut marks)
+}
+
+// Mark and zero byte.
 fn marked(s: &[u8]) -> bool
     requires { ⌜ headerLength ≤ length (now s) ⌝ }
     ensures { λ r. ⌜ r ≡ Code.codeMarked (now (s .entry)) ⌝ }
@@ -240,9 +465,6 @@ fn marked(s: &[u8]) -> bool
         return false;
     }
     if s[2] != 0x52 {
-        return false;
-    }
-    if base::u16_at(s, 3) != 1 {
         return false;
     }
     s[7] == 0
@@ -299,20 +521,14 @@ pub fn check_code(s: &[u8]) -> Checked
     if !counts_fit(counts) {
         return Checked::Malformed;
     }
-    let Progress::Passed(next) = check_instructions(s, counts.instructions, counts.arguments) else {
-        return Checked::Malformed;
-    };
-    let at = next.at;
-    if next.result != counts.words {
-        return Checked::Malformed;
+    let version = base::u16_at(s, 3);
+    if version == 1 {
+        return check_sequential(s, counts);
     }
-    if s.len() - at != 2 * counts.outputs {
-        return Checked::Malformed;
+    if version == 2 {
+        return check_addressed(s, counts);
     }
-    if !outputs_less(s, at, counts.outputs, counts.words) {
-        return Checked::Malformed;
-    }
-    Checked::Formed(counts)
+    Checked::Malformed
 }
 
 // Whether every argument is finite.
@@ -353,6 +569,14 @@ fn copy_outputs(s: &[u8], from: usize, count: usize, work: &[u64], out: &mut [u6
     }
 }
 
+// Whether its instructions carry their results' addresses: of the versions that pass the check, only version 2's do.
+fn is_addressed(code: &[u8]) -> bool
+    requires { ⌜ headerLength ≤ length (now code) ⌝ }
+    ensures { λ r. ⌜ r ≡ eqb (u16 (now (code .entry)) 3) 2 ⌝ }
+{
+    base::u16_at(code, 3) == 2
+}
+
 // Runs a code that was checked, with its counts, on as many finite arguments, where both buffers are long enough.
 pub fn run_checked(
     code: &[u8],
@@ -366,8 +590,9 @@ pub fn run_checked(
 {
     let outputs = counts.outputs;
     let at = code.len() - 2 * outputs;
+    let addressed = is_addressed(code);
     copy(arguments, work);
-    executor::execute_all(code, counts.instructions, counts.arguments, work);
+    executor::execute_all(code, addressed, counts.instructions, counts.arguments, work);
     copy_outputs(code, at, outputs, work, out);
 }
 

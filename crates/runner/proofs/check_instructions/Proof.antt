@@ -1,67 +1,133 @@
--- `runner::check_instructions`: what is left decides.
-use borrow.Author.Needs.{needs}
-use Prim.Native.Nat.{ℕ, _+_, _*_, _^_, _≤_, _<_}
-use mathlib.Core.Path.{_≡_, refl, sym, ap, _∙_}
-use mathlib.Core.Option.{none}
-use native.Mathlib.Omega.{arith}
-use denote.Ref.{now}
-use lib.ListN.{length}
-use Rattle.ports.specs.Kinds.{kindOf}
-use Rattle.ports.specs.Ports.{portsOf}
-use Rattle.ports.proofs.Laws.{row-of}
-use Rattle.bytecode.specs.Code.{readInstruction, readInstructions}
-use Rattle.runner.specs.declared.Progress.the-variants.{Refused}
-use Rattle.runner.specs.Checks.{endedOf}
-use Rattle.runner.proofs.Passing.{none-short, none-high, wrong-is, stop, go-on, ended}
 use Rattle.runner.proofs.check_instructions.Statement.{statement}
 use Rattle.runner.proofs.check_instructions.Tie as tie
+use Rattle.runner.proofs.check_instructions.Reads as reads
+use Rattle.runner.proofs.check_instructions.Lts as lts
+use Rattle.base.proofs.byte_at.Reads as byte-at-reads
+use Rattle.executor.proofs.result_bytes.Reads as result-bytes-reads
+use Rattle.runner.proofs.check_instruction.Reads as check-instruction-reads
+use Rattle.runner.proofs.place_result.Reads as place-result-reads
 
 abbrev Inv-loop : tie.InvT-loop
-Inv-loop s count first rows at₀ result₀ left₀ at result left =
-    (endedOf (readInstructions left s at result) ≡ endedOf (readInstructions count s 12 first)) × (at ≤ length s) × (result + 16 * left < 2 ^ 32)
+Inv-loop s addressed count first marks₀ rows head at₀ high₀ left₀ marks at high left = ?
 
 abbrev μ-loop : tie.MeasureT-loop
-μ-loop s count first rows at₀ result₀ left₀ at result left = left
+μ-loop s addressed count first marks₀ rows head at₀ high₀ left₀ marks at high left = ?
 
--- ---- places
+-- src/lib.rt:362:20
+result-bytes-requires : tie.Need-result-bytes-requires Inv-loop μ-loop
+result-bytes-requires c κs = ?
 
-abbrev start : tie.At-loop Inv-loop μ-loop → tie.Start Inv-loop μ-loop
-start p = p .before .before
+-- src/lib.rt:362:16
+add-head : tie.Need-add-head Inv-loop μ-loop
+add-head c = ?
 
-abbrev in-turn : tie.After-byte-at Inv-loop μ-loop → tie.In-loop Inv-loop μ-loop
-in-turn p = p .before .before
+-- src/lib.rt:366:5
+loop-holds : tie.Need-loop-holds Inv-loop μ-loop
+loop-holds c = ?
 
-abbrev kind-of : tie.After-check-instruction Inv-loop μ-loop → tie.After-byte-at Inv-loop μ-loop
-kind-of p = p .before .before .before
+-- src/lib.rt:367:12
+sub-if1 : tie.Need-sub-if1 Inv-loop μ-loop
+sub-if1 c = ?
 
-abbrev checked : tie.After-next Inv-loop μ-loop → tie.After-check-instruction Inv-loop μ-loop
-checked p = p .before .before
+-- src/lib.rt:368:13
+same-length : tie.Need-same-length Inv-loop μ-loop
+same-length c = ?
 
--- ---- needs
+-- src/lib.rt:368:13
+returns : tie.Need-returns Inv-loop μ-loop
+returns c = ?
 
--- an instruction that is not read ends the check
-stopped : (p : tie.In-loop Inv-loop μ-loop) → let a = start (p .before) .args in let l = p .before .loop in
-    readInstruction (now (a .s)) (l .at) (l .result) ≡ none → Refused ≡ endedOf (readInstructions (a .count) (now (a .s)) 12 (a .first))
-stopped p e = let l = p .before .loop in stop (l .left) (now (start (p .before) .args .s)) (l .at) (l .result) (p .loop-test .taken) e ∙ l .inv .0
+-- src/lib.rt:370:13
+byte-at-requires : tie.Need-byte-at-requires Inv-loop μ-loop
+byte-at-requires c κs = ?
 
+-- src/lib.rt:372:13
+same-length-2 : tie.Need-same-length-2 Inv-loop μ-loop
+same-length-2 c = ?
+
+-- src/lib.rt:372:13
+returns-2 : tie.Need-returns-2 Inv-loop μ-loop
+returns-2 c = ?
+
+-- src/lib.rt:374:19
+mul-row : tie.Need-mul-row Inv-loop μ-loop
+mul-row c = ?
+
+-- src/lib.rt:374:19
+array-copy-out-row : tie.Need-array-copy-out-row Inv-loop μ-loop
+array-copy-out-row c = ?
+
+-- src/lib.rt:375:64
+add-check-instruction : tie.Need-add-check-instruction Inv-loop μ-loop
+add-check-instruction c = ?
+
+-- src/lib.rt:375:39
 check-instruction-requires : tie.Need-check-instruction-requires Inv-loop μ-loop
-check-instruction-requires c κs =
-    let p = c .before .before in
-    let l = in-turn p .before .loop in
-    record {
-      bytes = omega (arith, p .before .if1 .left, l .inv .1);
-      row-is = row-of (p .byte-at .result) ∙ ap (λ (k : ℕ). portsOf (kindOf k)) (p .byte-at .ensures .0);
-      result-small = omega (arith, l .inv .2);
-    }
+check-instruction-requires c κs = ?
 
+-- src/lib.rt:375:30
+enum-known-below : tie.Need-enum-known-below Inv-loop μ-loop
+enum-known-below c = ?
+
+-- src/lib.rt:376:13
+enum-told : tie.Need-enum-told Inv-loop μ-loop
+enum-told c = ?
+
+-- src/lib.rt:376:13
+same-length-3 : tie.Need-same-length-3 Inv-loop μ-loop
+same-length-3 c = ?
+
+-- src/lib.rt:376:13
+returns-3 : tie.Need-returns-3 Inv-loop μ-loop
+returns-3 c = ?
+
+-- src/lib.rt:378:38
+place-result-requires : tie.Need-place-result-requires Inv-loop μ-loop
+place-result-requires c κs = ?
+
+-- src/lib.rt:378:30
+enum-known-next : tie.Need-enum-known-next Inv-loop μ-loop
+enum-known-next c = ?
+
+-- src/lib.rt:379:13
+enum-told-2 : tie.Need-enum-told-2 Inv-loop μ-loop
+enum-told-2 c = ?
+
+-- src/lib.rt:379:13
+same-length-4 : tie.Need-same-length-4 Inv-loop μ-loop
+same-length-4 c = ?
+
+-- src/lib.rt:379:13
+returns-4 : tie.Need-returns-4 Inv-loop μ-loop
+returns-4 c = ?
+
+-- src/lib.rt:383:9
+sub-left : tie.Need-sub-left Inv-loop μ-loop
+sub-left c = ?
+
+-- src/lib.rt:366:5
+loop-less : tie.Need-loop-less Inv-loop μ-loop
+loop-less c = ?
+
+-- src/lib.rt:366:5
 loop-again : tie.Need-loop-again Inv-loop μ-loop
-loop-again c =
-    let p = checked (c .before) in
-    let q = in-turn (kind-of p) in
-    let l = q .before .loop in
-    let more = q .loop-test .taken in
-    let g = go-on (l .left) (now (start (q .before) .args .s)) (l .at) (l .result) _ more (sym (p .check-instruction .ensures) ∙ c .before .next .given .1) in
-    (sym (g .same) ∙ l .inv .0, g .next-at, omega (arith, g .next-result, l .inv .2, more))
+loop-again c = ?
+
+-- src/lib.rt:386:9
+same-length-5 : tie.Need-same-length-5 Inv-loop μ-loop
+same-length-5 c = ?
+
+-- src/lib.rt:386:9
+returns-5 : tie.Need-returns-5 Inv-loop μ-loop
+returns-5 c = ?
+
+-- src/lib.rt:351:1
+same-length-6 : tie.Need-same-length-6 Inv-loop μ-loop
+same-length-6 c = ?
+
+-- src/lib.rt:351:1
+returns-6 : tie.Need-returns-6 Inv-loop μ-loop
+returns-6 c = ?
 
 pub check-instructions-spec : {M : Type 1} → statement M
 check-instructions-spec =
@@ -69,18 +135,32 @@ check-instructions-spec =
     (tie.spec
     Inv-loop
     μ-loop
-    (λ c. (refl, omega arith, omega arith))
-    (λ c. omega (arith, c .before .loop .inv .1))
-    (λ c. let q = c .before .before in let l = q .loop in stopped (c .before) (none-short (now (start q .args .s)) (l .at) (l .result) (omega (arith, c .if1 .taken, l .inv .1))))
-    (λ c κs. omega (arith, c .if1 .left))
-    (λ c. let p = c .before in let q = in-turn p .before in let l = q .loop in stopped (in-turn p) (none-high (now (start q .args .s)) (l .at) (l .result) (omega (arith, c .if2 .taken, p .byte-at .ensures .0))))
-    (λ c. omega (arith, c .if2 .left))
-    (λ c. omega (arith, c .if2 .left))
+    result-bytes-requires
+    add-head
+    loop-holds
+    sub-if1
+    same-length
+    returns
+    byte-at-requires
+    same-length-2
+    returns-2
+    mul-row
+    array-copy-out-row
+    add-check-instruction
     check-instruction-requires
-    (λ c. search needs)
-    (λ c. search needs)
-    (λ c. let p = c .before .before in stopped (in-turn (kind-of p)) (wrong-is _ _ (sym (p .check-instruction .ensures) ∙ c .enum-told .given .1)))
-    (λ c. omega (arith, in-turn (kind-of (checked (c .before))) .loop-test .taken))
-    (λ c. omega (arith, in-turn (kind-of (checked (c .before))) .loop-test .taken))
+    enum-known-below
+    enum-told
+    same-length-3
+    returns-3
+    place-result-requires
+    enum-known-next
+    enum-told-2
+    same-length-4
+    returns-4
+    sub-left
+    loop-less
     loop-again
-    (λ c. let l = c .before .loop in ended (l .left) (now (start (c .before) .args .s)) (l .at) (l .result) (omega arith) ∙ l .inv .0))
+    same-length-5
+    returns-5
+    same-length-6
+    returns-6)

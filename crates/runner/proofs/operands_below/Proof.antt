@@ -7,7 +7,8 @@ use denote.Ref.{now}
 use borrow.Author.Tests.{le-leb, lt-leb}
 use Rattle.base.specs.Bytes.{u16}
 use Rattle.ports.specs.Ports.{width}
-use Rattle.bytecode.specs.Code.{addresses, allBelow}
+use Rattle.bytecode.specs.Code.{addresses}
+use Rattle.runner.specs.Checks.{allBelow}
 use lib.ListN.{length, replicate}
 use Rattle.runner.proofs.Walks.{on, off, over}
 use Rattle.runner.proofs.Checking.{operands-walk}
