@@ -1,133 +1,117 @@
+-- `runner::check_instructions`: what is left decides, and in version 2 the record says what was written.
+use borrow.Author.Needs.{needs}
+use Prim.Native.Nat.{ℕ, _+_, _*_, _≤_, _<_}
+use mathlib.Core.Path.{_≡_, refl, sym, ap, _∙_}
+use mathlib.Core.Bool.{Bool}
+use mathlib.Core.List.{List}
+use mathlib.Core.Option.{none}
+use native.Mathlib.Omega.{arith}
+use denote.Ref.{now}
+use lib.ListN.{length}
+use Rattle.ports.specs.Kinds.{kindOf}
+use Rattle.ports.specs.Ports.{portsOf}
+use Rattle.ports.proofs.Laws.{row-of}
+use Rattle.base.specs.Bytes.{byte}
+use Rattle.bytecode.specs.Code.{argumentWords, readInstruction, readInstructions}
+use Rattle.executor.specs.Instructions.{versionBy}
+use Rattle.executor.proofs.Loop.{operandsAt}
+use Rattle.runner.specs.declared.Progress.the-variants.{Refused}
+use Rattle.runner.specs.Checks.{endedOf, Ended}
+use Rattle.runner.proofs.Reading.{none-short, address-short}
+use Rattle.runner.proofs.Passing.{Going, Turned, none-high, start, stop, stopped, row-stops, turned, placeable, too-many, ended}
 use Rattle.runner.proofs.check_instructions.Statement.{statement}
 use Rattle.runner.proofs.check_instructions.Tie as tie
-use Rattle.runner.proofs.check_instructions.Reads as reads
-use Rattle.runner.proofs.check_instructions.Lts as lts
-use Rattle.base.proofs.byte_at.Reads as byte-at-reads
-use Rattle.executor.proofs.result_bytes.Reads as result-bytes-reads
-use Rattle.runner.proofs.check_instruction.Reads as check-instruction-reads
-use Rattle.runner.proofs.place_result.Reads as place-result-reads
 
 abbrev Inv-loop : tie.InvT-loop
-Inv-loop s addressed count first marks₀ rows head at₀ high₀ left₀ marks at high left = ?
+Inv-loop s addressed count first marks₀ rows head at₀ high₀ left₀ marks at high left =
+    Going addressed s (readInstructions (versionBy addressed) count s 12 (argumentWords first)) left at high marks × (length marks ≡ length marks₀)
 
 abbrev μ-loop : tie.MeasureT-loop
-μ-loop s addressed count first marks₀ rows head at₀ high₀ left₀ marks at high left = ?
+μ-loop s addressed count first marks₀ rows head at₀ high₀ left₀ marks at high left = left
 
--- src/lib.rt:362:20
-result-bytes-requires : tie.Need-result-bytes-requires Inv-loop μ-loop
-result-bytes-requires c κs = ?
+-- ---- places: before the loop, in a turn, and behind its calls
 
--- src/lib.rt:362:16
-add-head : tie.Need-add-head Inv-loop μ-loop
-add-head c = ?
+abbrev begun : tie.At-loop Inv-loop μ-loop → tie.After-result-bytes Inv-loop μ-loop
+begun p = p .before
 
--- src/lib.rt:366:5
-loop-holds : tie.Need-loop-holds Inv-loop μ-loop
-loop-holds c = ?
+abbrev entry : tie.At-loop Inv-loop μ-loop → tie.Start Inv-loop μ-loop
+entry p = begun p .before .before .before
 
--- src/lib.rt:367:12
-sub-if1 : tie.Need-sub-if1 Inv-loop μ-loop
-sub-if1 c = ?
+abbrev in-turn : tie.After-byte-at Inv-loop μ-loop → tie.In-loop Inv-loop μ-loop
+in-turn p = p .before .before
 
--- src/lib.rt:368:13
-same-length : tie.Need-same-length Inv-loop μ-loop
-same-length c = ?
+abbrev kind-of : tie.After-row Inv-loop μ-loop → tie.After-byte-at Inv-loop μ-loop
+kind-of p = p .before .before
 
--- src/lib.rt:368:13
-returns : tie.Need-returns Inv-loop μ-loop
-returns c = ?
+abbrev row-of-turn : tie.After-check-instruction Inv-loop μ-loop → tie.After-row Inv-loop μ-loop
+row-of-turn p = p .before
 
--- src/lib.rt:370:13
-byte-at-requires : tie.Need-byte-at-requires Inv-loop μ-loop
-byte-at-requires c κs = ?
+abbrev checked : tie.After-below Inv-loop μ-loop → tie.After-check-instruction Inv-loop μ-loop
+checked p = p .before .before
 
--- src/lib.rt:372:13
-same-length-2 : tie.Need-same-length-2 Inv-loop μ-loop
-same-length-2 c = ?
+abbrev below-at : tie.After-place-result Inv-loop μ-loop → tie.After-below Inv-loop μ-loop
+below-at p = p .before .before .before
 
--- src/lib.rt:372:13
-returns-2 : tie.Need-returns-2 Inv-loop μ-loop
-returns-2 c = ?
+abbrev placed : tie.After-slice-known2 Inv-loop μ-loop → tie.After-place-result Inv-loop μ-loop
+placed p = p .before .before
 
--- src/lib.rt:374:19
-mul-row : tie.Need-mul-row Inv-loop μ-loop
-mul-row c = ?
+-- ---- what is known at each
 
--- src/lib.rt:374:19
-array-copy-out-row : tie.Need-array-copy-out-row Inv-loop μ-loop
-array-copy-out-row c = ?
+going : (i : tie.In-loop Inv-loop μ-loop) → let a = entry (i .before) .args in let l = i .before .loop in
+    Going (a .addressed) (now (a .s)) (readInstructions (versionBy (a .addressed)) (a .count) (now (a .s)) 12 (argumentWords (a .first))) (l .left) (l .at) (l .high) (l .marks)
+going i = i .before .loop .inv .0
 
--- src/lib.rt:375:64
-add-check-instruction : tie.Need-add-check-instruction Inv-loop μ-loop
-add-check-instruction c = ?
+-- an instruction that is not read ends the check
+not-read : (i : tie.In-loop Inv-loop μ-loop) {marks : List Bool} → let a = entry (i .before) .args in
+    readInstruction (versionBy (a .addressed)) (going i .written) (now (a .s)) (i .before .loop .at) ≡ none
+    → Ended (a .addressed) (readInstructions (versionBy (a .addressed)) (a .count) (now (a .s)) 12 (argumentWords (a .first))) marks Refused
+not-read i e = stopped (stop (entry (i .before) .args .addressed) (going i) (i .loop-test .taken) e)
 
--- src/lib.rt:375:39
+from-is : (i : tie.In-loop Inv-loop μ-loop) → let at = i .before .loop .at in
+    at + (2 + begun (i .before) .result-bytes .result) ≡ operandsAt (versionBy (entry (i .before) .args .addressed)) at
+from-is i = omega (arith, begun (i .before) .result-bytes .ensures)
+
+row-is : (p : tie.After-byte-at Inv-loop μ-loop) → let i = in-turn p in
+    portsOf (kindOf (p .byte-at .result)) ≡ portsOf (kindOf (byte (now (entry (i .before) .args .s)) (i .before .loop .at)))
+row-is p = ap (λ (k : ℕ). portsOf (kindOf k)) (p .byte-at .ensures .0)
+
+kept : (p : tie.After-place-result Inv-loop μ-loop) → length (p .place-result .last .1 .1 .1 .1 .1 .1 .0) ≡ length (now (entry (in-turn (kind-of (row-of-turn (checked (below-at p))))  .before) .args .marks))
+kept p = p .place-result .kept .1 .1 .1 .1 .1 .1 .0 ∙ in-turn (kind-of (row-of-turn (checked (below-at p)))) .before .loop .inv .1
+
+-- ---- needs
+
 check-instruction-requires : tie.Need-check-instruction-requires Inv-loop μ-loop
-check-instruction-requires c κs = ?
+check-instruction-requires c κs =
+    let p = kind-of c in
+    let i = in-turn p in
+    record {
+      head = omega arith;
+      bytes = omega (arith, p .before .if1 .left, going i .within);
+      row-is = row-of (p .byte-at .result) ∙ row-is p;
+      result-small = omega (arith, going i .small);
+    }
 
--- src/lib.rt:375:30
-enum-known-below : tie.Need-enum-known-below Inv-loop μ-loop
-enum-known-below c = ?
-
--- src/lib.rt:376:13
-enum-told : tie.Need-enum-told Inv-loop μ-loop
-enum-told c = ?
-
--- src/lib.rt:376:13
-same-length-3 : tie.Need-same-length-3 Inv-loop μ-loop
-same-length-3 c = ?
-
--- src/lib.rt:376:13
-returns-3 : tie.Need-returns-3 Inv-loop μ-loop
-returns-3 c = ?
-
--- src/lib.rt:378:38
 place-result-requires : tie.Need-place-result-requires Inv-loop μ-loop
-place-result-requires c κs = ?
+place-result-requires c κs =
+    let q = c .before .before in
+    let k = checked q in
+    let p = kind-of (row-of-turn k) in
+    let i = in-turn p in
+    placeable (entry (i .before) .args .addressed) (going i) (from-is i) (sym (k .check-instruction .ensures) ∙ q .below .given .1) (row-of (p .byte-at .result) ∙ row-is p)
 
--- src/lib.rt:378:30
-enum-known-next : tie.Need-enum-known-next Inv-loop μ-loop
-enum-known-next c = ?
+turned-at : (p : tie.After-place-result Inv-loop μ-loop) → let i = in-turn (kind-of (row-of-turn (checked (below-at p)))) in let a = entry (i .before) .args in
+    Turned (a .addressed) (now (a .s)) (readInstructions (versionBy (a .addressed)) (a .count) (now (a .s)) 12 (argumentWords (a .first))) (i .before .loop .left)
+    (p .place-result .last .1 .1 .1 .1 .1 .1 .0) (p .place-result .result)
+turned-at p =
+    let q = below-at p in
+    let k = checked q in
+    let j = kind-of (row-of-turn k) in
+    let i = in-turn j in
+    turned (entry (i .before) .args .addressed) (going i) (i .loop-test .taken) (from-is i) (sym (k .check-instruction .ensures) ∙ q .below .given .1)
+    (row-of (j .byte-at .result) ∙ row-is j) (p .place-result .ensures)
 
--- src/lib.rt:379:13
-enum-told-2 : tie.Need-enum-told-2 Inv-loop μ-loop
-enum-told-2 c = ?
-
--- src/lib.rt:379:13
-same-length-4 : tie.Need-same-length-4 Inv-loop μ-loop
-same-length-4 c = ?
-
--- src/lib.rt:379:13
-returns-4 : tie.Need-returns-4 Inv-loop μ-loop
-returns-4 c = ?
-
--- src/lib.rt:383:9
-sub-left : tie.Need-sub-left Inv-loop μ-loop
-sub-left c = ?
-
--- src/lib.rt:366:5
-loop-less : tie.Need-loop-less Inv-loop μ-loop
-loop-less c = ?
-
--- src/lib.rt:366:5
-loop-again : tie.Need-loop-again Inv-loop μ-loop
-loop-again c = ?
-
--- src/lib.rt:386:9
-same-length-5 : tie.Need-same-length-5 Inv-loop μ-loop
-same-length-5 c = ?
-
--- src/lib.rt:386:9
-returns-5 : tie.Need-returns-5 Inv-loop μ-loop
-returns-5 c = ?
-
--- src/lib.rt:351:1
-same-length-6 : tie.Need-same-length-6 Inv-loop μ-loop
-same-length-6 c = ?
-
--- src/lib.rt:351:1
-returns-6 : tie.Need-returns-6 Inv-loop μ-loop
-returns-6 c = ?
+more : (p : tie.After-next Inv-loop μ-loop) → tie.In-loop Inv-loop μ-loop
+more p = in-turn (kind-of (row-of-turn (checked (below-at (placed (p .before .before))))))
 
 pub check-instructions-spec : {M : Type 1} → statement M
 check-instructions-spec =
@@ -135,32 +119,32 @@ check-instructions-spec =
     (tie.spec
     Inv-loop
     μ-loop
-    result-bytes-requires
-    add-head
-    loop-holds
-    sub-if1
-    same-length
-    returns
-    byte-at-requires
-    same-length-2
-    returns-2
-    mul-row
-    array-copy-out-row
-    add-check-instruction
+    (λ c κs. search needs)
+    (λ c. omega (arith, c .result-bytes .ensures, address-short (c .before .before .before .args .addressed)))
+    (λ c. (start _ _ _ _ _ (c .before .before .before .pre), refl))
+    (λ c. omega (arith, going c .within))
+    (λ c. c .before .before .loop .inv .1)
+    (λ c. let i = c .before in not-read i (none-short _ _ _ _ (omega (arith, c .if1 .taken, going i .within, from-is i))))
+    (λ c κs. omega (arith, c .if1 .left))
+    (λ c. in-turn (c .before) .before .loop .inv .1)
+    (λ c. let p = c .before in not-read (in-turn p) (none-high _ _ _ _ (omega (arith, c .if2 .taken, p .byte-at .ensures .0))))
+    (λ c. omega (arith, c .if2 .left))
+    (λ c. omega (arith, c .if2 .left))
+    (λ c. let p = kind-of c in omega (arith, p .before .if1 .left, going (in-turn p) .within))
     check-instruction-requires
-    enum-known-below
-    enum-told
-    same-length-3
-    returns-3
+    (λ c. search needs)
+    (λ c. search needs)
+    (λ c. in-turn (kind-of (row-of-turn (c .before .before))) .before .loop .inv .1)
+    (λ c. let k = c .before .before in let i = in-turn (kind-of (row-of-turn k)) in not-read i (row-stops (entry (i .before) .args .addressed) (going i) (from-is i) (sym (k .check-instruction .ensures) ∙ c .enum-told .given .1)))
     place-result-requires
-    enum-known-next
-    enum-told-2
-    same-length-4
-    returns-4
-    sub-left
-    loop-less
-    loop-again
-    same-length-5
-    returns-5
-    same-length-6
-    returns-6)
+    (λ c. search needs)
+    (λ c. search needs)
+    (λ c. kept (placed (c .before .before)))
+    (λ c. let p = placed (c .before .before) in stopped (turned-at p .refused (c .enum-told2 .given .1)))
+    (λ c. omega (arith, more (c .before) .loop-test .taken))
+    (λ c. omega (arith, more (c .before) .loop-test .taken))
+    (λ c. let p = placed (c .before .before .before) in (turned-at p .passed _ (c .before .next .given .1), kept p))
+    (λ c. c .before .before .loop .inv .1)
+    (λ c. let l = c .before .before in stopped (too-many (entry l .args .addressed) (l .loop .inv .0) (omega (arith, c .before)) (c .if3 .taken)))
+    (λ c. c .before .before .loop .inv .1)
+    (λ c. let l = c .before .before in ended (entry l .args .addressed) (l .loop .inv .0) (omega (arith, c .before)) (c .if3 .left)))

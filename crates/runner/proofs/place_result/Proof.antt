@@ -1,30 +1,48 @@
+-- `runner::place_result`, by the version.
 use borrow.Author.Needs.{needs}
+use mathlib.Core.Path.{refl, sym, subst}
+use mathlib.Core.Bool.{Bool, true}
+use native.Mathlib.Omega.{arith}
+use denote.Ref.{now}
+use Rattle.runner.specs.declared.Progress.the-variants.{Passed}
+use Rattle.runner.specs.Checks.{Placed, Placeable}
 use Rattle.runner.proofs.place_result.Statement.{statement}
 use Rattle.runner.proofs.place_result.Tie as tie
-use Rattle.runner.proofs.place_result.Reads as reads
-use Rattle.runner.proofs.place_result.Lts as lts
-use Rattle.runner.proofs.write_result.Reads as write-result-reads
 
--- src/lib.rt:343:34
-sub-write-result : tie.Need-sub-write-result
-sub-write-result c = ?
+-- ---- places
 
--- src/lib.rt:343:9
-write-result-requires : tie.Need-write-result-requires
-write-result-requires c κs = ?
+abbrev start : tie.After-slice-known → tie.Start
+start p = p .before .before
 
--- src/lib.rt:330:1
-same-length : tie.Need-same-length
-same-length c = search needs
+abbrev addressed : tie.After-struct-known → tie.Then1
+addressed p = p .before
 
--- src/lib.rt:330:1
+-- ---- needs
+
+writable : (t : tie.Then1) → let a = start (t .before) .args in Placeable true (now (a .s)) (a .at) (a .row) (a .high) (a .next)
+writable t =
+    let a = start (t .before) .args in
+    subst (λ (b : Bool). Placeable b (now (a .s)) (a .at) (a .row) (a .high) (a .next)) (t .if1 .taken) (start (t .before) .pre)
+
 returns : tie.Need-returns
-returns c = ?
+returns c =
+    let w = c .before .before in
+    let t = addressed (w .before .before) in
+    let a = start (t .before) .args in
+    subst (λ (b : Bool). Placed b (now (a .s)) (a .at) (a .row) (a .high) (a .next) (now (a .marks)) (w .write-result .last .1 .1 .1 .1 .1 .1 .0) (w .write-result .result)) (sym (t .if1 .taken))
+    (w .write-result .ensures)
 
--- src/lib.rt:330:1
 returns-2 : tie.Need-returns-2
-returns-2 c = ?
+returns-2 c =
+    let a = start (c .before) .args in
+    subst (λ (b : Bool). Placed b (now (a .s)) (a .at) (a .row) (a .high) (a .next) (now (a .marks)) (now (a .marks)) (Passed (a .next))) (sym (c .if1 .left)) refl
 
 pub place-result-spec : {M : Type 1} → statement M
 place-result-spec =
-    tie.close (tie.spec sub-write-result write-result-requires same-length returns returns-2)
+    tie.close
+    (tie.spec
+    (λ c. omega (arith, writable (addressed c) .1))
+    (λ c κs. writable (addressed (c .before)) .0)
+    (λ c. search needs)
+    returns
+    returns-2)

@@ -1,105 +1,84 @@
+-- `runner::write_result`: what is read was written, and the result's words are within the record.
 use borrow.Author.Needs.{needs}
+use Prim.Native.Nat.{ℕ, _+_}
+use mathlib.Core.Path.{_≡_, refl, ap, ap₂, sym, _∙_}
+use mathlib.Core.Bool.{Bool}
+use native.Mathlib.Omega.{arith}
+use denote.Ref.{now}
+use lib.ListN.{length}
+use lib.Dec.{leb}
+use borrow.Author.Tests.{not-true, not-false, le-leb, lt-leb}
+use Rattle.ports.specs.Ports.{takesRow, types}
+use Rattle.base.specs.Bytes.{byte, u16}
+use Rattle.base.specs.Lists.{every}
+use Rattle.bytecode.specs.Run.{spans}
+use Rattle.bytecode.specs.Code.{addresses}
+use Rattle.runner.specs.Checks.{marked}
+use Rattle.runner.proofs.Passing.{write-unread, write-over, write-whole}
 use Rattle.runner.proofs.write_result.Statement.{statement}
 use Rattle.runner.proofs.write_result.Tie as tie
-use Rattle.runner.proofs.write_result.Reads as reads
-use Rattle.runner.proofs.write_result.Lts as lts
-use Rattle.base.proofs.u16_at.Reads as u16-at-reads
-use Rattle.ports.proofs.own.Reads as own-reads
-use Rattle.runner.proofs.higher.Reads as higher-reads
-use Rattle.runner.proofs.mark.Reads as mark-reads
-use Rattle.runner.proofs.operands_written.Reads as operands-written-reads
 
--- src/lib.rt:308:15
-add-t : tie.Need-add-t
-add-t c = search needs
+-- ---- places
 
--- src/lib.rt:308:13
-shared-slice-read-t : tie.Need-shared-slice-read-t
-shared-slice-read-t c = search needs
+abbrev start : tie.After-shared-slice-known2 → tie.Start
+start p = p .before .before .before
 
--- src/lib.rt:309:13
-add-p : tie.Need-add-p
-add-p c = search needs
+abbrev owned : tie.After-operands-written → tie.After-own2
+owned p = p .before .before .before
 
--- src/lib.rt:310:9
-own-requires : tie.Need-own-requires
-own-requires c κs = search needs
+abbrev begun : tie.After-own2 → tie.After-shared-slice-known2
+begun p = p .before .before
 
--- src/lib.rt:311:9
-own-requires-2 : tie.Need-own-requires-2
-own-requires-2 c κs = search needs
+abbrev read : tie.After-u16-at → tie.After-operands-written
+read p = p .before .before
 
--- src/lib.rt:312:29
-add-operands-written : tie.Need-add-operands-written
-add-operands-written c = search needs
+abbrev roomy : tie.After-higher → tie.Else2
+roomy p = p .before .before .before .before .before
 
--- src/lib.rt:312:36
-cast-operands-written : tie.Need-cast-operands-written
-cast-operands-written c = search needs
+-- ---- what is known at each
 
--- src/lib.rt:312:9
-operands-written-requires : tie.Need-operands-written-requires
-operands-written-requires c κs = search needs
+-- the test of the operands' words
+tested : (p : tie.After-operands-written) → let a = start (begun (owned p)) .args in let s = now (a .s) in
+    every (marked (now (a .marks))) (spans (takesRow (a .row) (byte s (a .at + 1))) (addresses (a .row .operands) s (a .at + 2 + 2))) ≡ p .operands-written .result
+tested p =
+    let o = owned p in
+    let a = start (begun o) .args in
+    let s = now (a .s) in
+    ap₂ (λ (x y : ℕ). every (marked (now (a .marks))) (spans (types (a .row .operands) x y) (addresses (a .row .operands) s (a .at + 2 + 2)))) (sym (o .before .own .ensures)) (sym (o .own2 .ensures))
+    ∙ sym (p .operands-written .ensures)
 
--- src/lib.rt:313:9
-same-length : tie.Need-same-length
-same-length c = search needs
+-- ---- needs
 
--- src/lib.rt:313:9
 returns : tie.Need-returns
-returns c = ?
+returns c = write-unread _ _ _ _ _ _ _ _ (tested (c .before) ∙ not-true _ (c .if1 .taken))
 
--- src/lib.rt:315:9
-u16-at-requires : tie.Need-u16-at-requires
-u16-at-requires c κs = search needs
-
--- src/lib.rt:316:15
-add-end : tie.Need-add-end
-add-end c = search needs
-
--- src/lib.rt:318:9
-same-length-2 : tie.Need-same-length-2
-same-length-2 c = search needs
-
--- src/lib.rt:318:9
 returns-2 : tie.Need-returns-2
-returns-2 c = ?
+returns-2 c =
+    let u = c .before in
+    write-over _ _ _ _ _ _ _ _ (omega (arith, c .if2 .taken, u .u16-at .ensures .0))
 
--- src/lib.rt:320:5
-mark-requires : tie.Need-mark-requires
-mark-requires c κs = search needs
-
--- src/lib.rt:323:17
-higher-requires : tie.Need-higher-requires
-higher-requires c κs = search needs
-
--- src/lib.rt:296:1
-same-length-3 : tie.Need-same-length-3
-same-length-3 c = search needs
-
--- src/lib.rt:296:1
 returns-3 : tie.Need-returns-3
-returns-3 c = ?
+returns-3 c =
+    let e = roomy c in
+    let u = e .before in
+    write-whole _ _ _ _ _ _ _ _ (tested (read u) ∙ not-false _ (u .before .if1 .left)) (u .u16-at .ensures .0) (omega (arith, e .if2 .left, u .u16-at .ensures .0)) (c .higher .ensures)
+    (c .before .before .before .mark .ensures)
 
 pub write-result-spec : {M : Type 1} → statement M
 write-result-spec =
     tie.close
     (tie.spec
-    add-t
-    shared-slice-read-t
-    add-p
-    own-requires
-    own-requires-2
-    add-operands-written
-    cast-operands-written
-    operands-written-requires
-    same-length
+    (λ c. search needs) (λ c. search needs) (λ c. search needs) (λ c κs. search needs) (λ c κs. search needs)
+    (λ c. omega (arith, start (begun c) .pre .bytes, start (begun c) .good))
+    (λ c. search needs)
+    (λ c κs. omega (arith, start (begun (c .before .before)) .pre .bytes))
+    (λ c. search needs)
     returns
-    u16-at-requires
-    add-end
-    same-length-2
+    (λ c κs. omega (arith, start (begun (owned (c .before))) .pre .bytes))
+    (λ c. omega (arith, c .u16-at .ensures .1, start (begun (owned (read c))) .pre .few))
+    (λ c. search needs)
     returns-2
-    mark-requires
-    higher-requires
-    same-length-3
+    (λ c κs. omega (arith, c .before .if2 .left))
+    (λ c κs. search needs)
+    (λ c. search needs)
     returns-3)
