@@ -75,7 +75,7 @@ row-is : (p : tie.After-byte-at Inv-loop μ-loop) → let i = in-turn p in
     portsOf (kindOf (p .byte-at .result)) ≡ portsOf (kindOf (byte (now (entry (i .before) .args .s)) (i .before .loop .at)))
 row-is p = ap (λ (k : ℕ). portsOf (kindOf k)) (p .byte-at .ensures .0)
 
-kept : (p : tie.After-place-result Inv-loop μ-loop) → length (p .place-result .last .1 .1 .1 .1 .1 .1 .0) ≡ length (now (entry (in-turn (kind-of (row-of-turn (checked (below-at p))))  .before) .args .marks))
+kept : (p : tie.After-place-result Inv-loop μ-loop) → length (p .place-result .last .1 .1 .1 .1 .1 .1 .0) ≡ length (now (entry (in-turn (kind-of (row-of-turn (checked (below-at p)))) .before) .args .marks))
 kept p = p .place-result .kept .1 .1 .1 .1 .1 .1 .0 ∙ in-turn (kind-of (row-of-turn (checked (below-at p)))) .before .loop .inv .1
 
 -- ---- needs
@@ -124,10 +124,10 @@ check-instructions-spec =
     (λ c. (start _ _ _ _ _ (c .before .before .before .pre), refl))
     (λ c. omega (arith, going c .within))
     (λ c. c .before .before .loop .inv .1)
-    (λ c. let i = c .before in not-read i (none-short _ _ _ _ (omega (arith, c .if1 .taken, going i .within, from-is i))))
+    (λ c. let i = c .before in let a = entry (i .before) .args in not-read i (none-short (versionBy (a .addressed)) (going i .written) (now (a .s)) (i .before .loop .at) (omega (arith, c .if1 .taken, going i .within, from-is i))))
     (λ c κs. omega (arith, c .if1 .left))
     (λ c. in-turn (c .before) .before .loop .inv .1)
-    (λ c. let p = c .before in not-read (in-turn p) (none-high _ _ _ _ (omega (arith, c .if2 .taken, p .byte-at .ensures .0))))
+    (λ c. let p = c .before in let i = in-turn p in let a = entry (i .before) .args in not-read i (none-high (versionBy (a .addressed)) (going i .written) (now (a .s)) (i .before .loop .at) (omega (arith, c .if2 .taken, p .byte-at .ensures .0))))
     (λ c. omega (arith, c .if2 .left))
     (λ c. omega (arith, c .if2 .left))
     (λ c. let p = kind-of c in omega (arith, p .before .if1 .left, going (in-turn p) .within))
