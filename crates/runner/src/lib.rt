@@ -23,6 +23,9 @@ use base::HEADER_LENGTH;
 use base::WORD_LIMIT;
 use ports::Ports;
 
+mod row;
+mod written;
+
 // The counts that a code says.
 pub struct Counts {
     pub arguments: usize,
@@ -57,38 +60,6 @@ pub enum Progress {
 
 // ---- the check of a code
 
-// Operands of the type t, their words all before `result`.
-fn operands_below(s: &[u8], from: usize, count: usize, t: u8, result: usize) -> bool
-    requires { ⌜ from + 2 * count ≤ length (now s) ⌝ }
-    ensures { λ r. ⌜ r ≡ allBelow result (replicate count t) (addresses count (now (s .entry)) from) ⌝ }
-{
-    let width = ports::width(t);
-    let mut at = from;
-    let mut left = count;
-    while 0 < left {
-        if result < base::u16_at(s, at) + width {
-            return false;
-        }
-        at += 2;
-        left -= 1;
-    }
-    true
-}
-
-// The same, where the first operand may be of another type.
-fn all_below(s: &[u8], at: usize, count: usize, first: u8, rest: u8, result: usize) -> bool
-    requires { ⌜ at + 2 * count ≤ length (now s) ⌝ }
-    ensures { λ r. ⌜ r ≡ allBelow result (types count first rest) (addresses count (now (s .entry)) at) ⌝ }
-{
-    if count == 0 {
-        return true;
-    }
-    if result < base::u16_at(s, at) + ports::width(first) {
-        return false;
-    }
-    operands_below(s, at + 2, count - 1, rest, result)
-}
-
 fn outputs_less(s: &[u8], from: usize, count: usize, words: usize) -> bool
     requires { ⌜ from + 2 * count ≤ length (now s) ⌝ }
     ensures { λ r. ⌜ r ≡ allLess words (addresses count (now (s .entry)) from) ⌝ }
@@ -105,227 +76,6 @@ fn outputs_less(s: &[u8], from: usize, count: usize, words: usize) -> bool
     true
 }
 
-// Operands at `at`, and what follows them.
-fn check_operands(
-    s: &[u8],
-    at: usize,
-    count: usize,
-    first: u8,
-    rest: u8,
-    result: usize,
-    next: usize,
-) -> Progress
-    requires { ⌜ (at ≤ length (now s)) × (count < 256) ⌝ }
-    ensures { λ r. ⌜ r ≡ operandsPassed (now (s .entry)) at count first rest result next ⌝ }
-{
-    let size = 2 * count;
-    if s.len() - at < size {
-        return Progress::Refused;
-    }
-    if !all_below(s, at, count, first, rest, result) {
-        return Progress::Refused;
-    }
-    Progress::Passed(Cursor {
-        at: at + size,
-        result: next,
-    })
-}
-
-// Two operands, as most kinds have: the place behind them does not wait for the row, and the check takes half the time.
-fn check_two(s: &[u8], at: usize, first: u8, second: u8, result: usize, next: usize) -> Progress
-    requires { ⌜ at ≤ length (now s) ⌝ }
-    ensures { λ r. ⌜ r ≡ operandsPassed (now (s .entry)) at 2 first second result next ⌝ }
-{
-    if s.len() - at < 4 {
-        return Progress::Refused;
-    }
-    if result < base::u16_at(s, at) + ports::width(first) {
-        return Progress::Refused;
-    }
-    if result < base::u16_at(s, at + 2) + ports::width(second) {
-        return Progress::Refused;
-    }
-    Progress::Passed(Cursor {
-        at: at + 4,
-        result: next,
-    })
-}
-
-// The words of a constant at `at`, and what follows them.
-fn check_constant(s: &[u8], at: usize, count: usize, next: usize) -> Progress
-    requires { ⌜ (at ≤ length (now s)) × (count < 256) ⌝ }
-    ensures { λ r. ⌜ r ≡ constantPassed (now (s .entry)) at count next ⌝ }
-{
-    let size = 8 * count;
-    if s.len() - at < size {
-        return Progress::Refused;
-    }
-    if !value::constants_allowed(s, at, count) {
-        return Progress::Refused;
-    }
-    Progress::Passed(Cursor {
-        at: at + size,
-        result: next,
-    })
-}
-
-// One instruction, its kind byte at `at` and its operands at `from`, by its kind's row.
-fn check_instruction(s: &[u8], at: usize, from: usize, result: usize, row: Ports) -> Progress
-    requires { ⌜ Begun (now s) at from result row ⌝ }
-    ensures { λ r. ⌜ r ≡ instructionPassed (now (s .entry)) at from result ⌝ }
-{
-    let t = s[at + 1];
-    let n = row.operands as usize;
-    if ports::has_type(row) {
-        if !ports::is_type(t) {
-            return Progress::Refused;
-        }
-        let next = result + ports::width(t);
-        if n == 2 {
-            return check_two(s, from, t, t, result, next);
-        }
-        return check_operands(s, from, n, t, t, result, next);
-    }
-    if t != 0 {
-        return Progress::Refused;
-    }
-    let words = row.words as usize;
-    let next = result + words;
-    let form = row.form;
-    if !ports::executable(form) {
-        return Progress::Refused;
-    }
-    if n == 0 {
-        return check_constant(s, from, words, next);
-    }
-    let first = row.first;
-    let rest = row.rest;
-    if n == 2 {
-        return check_two(s, from, first, rest, result, next);
-    }
-    check_operands(s, from, n, first, rest, result, next)
-}
-
-// ---- version 2: a mark for each word that is written
-
-// Marks `count` words more.
-fn mark(marks: &mut [bool], from: usize, count: usize)
-    requires { ⌜ from + count ≤ length (now marks) ⌝ }
-    ensures { λ _. ⌜ Extended from count (now (marks .entry)) (now (marks .exit)) ⌝ }
-{
-    let end = from + count;
-    let mut i = from;
-    while i < end {
-        marks[i] = true;
-        i += 1;
-    }
-}
-
-fn is_written(marks: &[bool], a: usize) -> bool
-    ensures { λ r. ⌜ r ≡ marked (now (marks .entry)) a ⌝ }
-{
-    if a < marks.len() { marks[a] } else { false }
-}
-
-fn words_written(marks: &[bool], from: usize, count: usize) -> bool
-    requires { ⌜ from + count ≤ 0x1_0000_0000 ⌝ }
-    ensures { λ r. ⌜ r ≡ every (marked (now (marks .entry))) (span from count) ⌝ }
-{
-    let mut at = from;
-    let mut left = count;
-    while 0 < left {
-        if !is_written(marks, at) {
-            return false;
-        }
-        at += 1;
-        left -= 1;
-    }
-    true
-}
-
-// Every word of the operands, the first of the type `first` and the others of the type `rest`.
-fn operands_written(
-    s: &[u8],
-    from: usize,
-    count: usize,
-    first: u8,
-    rest: u8,
-    marks: &[bool],
-) -> bool
-    requires { ⌜ from + 2 * count ≤ length (now s) ⌝ }
-    ensures { λ r. ⌜ r ≡ every (marked (now (marks .entry))) (spans (types count first rest) (addresses count (now (s .entry)) from)) ⌝ }
-{
-    let mut at = from;
-    let mut left = count;
-    let mut t = first;
-    while 0 < left {
-        if !words_written(marks, base::u16_at(s, at), ports::width(t)) {
-            return false;
-        }
-        at += 2;
-        left -= 1;
-        t = rest;
-    }
-    true
-}
-
-fn outputs_written(s: &[u8], from: usize, count: usize, marks: &[bool]) -> bool
-    requires { ⌜ from + 2 * count ≤ length (now s) ⌝ }
-    ensures { λ r. ⌜ r ≡ every (marked (now (marks .entry))) (addresses count (now (s .entry)) from) ⌝ }
-{
-    let mut at = from;
-    let mut left = count;
-    while 0 < left {
-        if !is_written(marks, base::u16_at(s, at)) {
-            return false;
-        }
-        at += 2;
-        left -= 1;
-    }
-    true
-}
-
-fn higher(a: usize, b: usize) -> usize
-    ensures { λ r. ⌜ r ≡ max a b ⌝ }
-{
-    if a < b { b } else { a }
-}
-
-// All that an instruction reads was written, and the words of its result are written now. More words than a code may have
-// are refused at once: its word count cannot be theirs.
-fn write_result(
-    s: &[u8],
-    at: usize,
-    row: Ports,
-    words: usize,
-    high: usize,
-    next: usize,
-    marks: &mut [bool],
-) -> Progress
-    requires { ⌜ Writable (now s) at row words high ⌝ }
-    ensures { λ r. ⌜ Wrote (now (s .entry)) at row words high next (now (marks .entry)) (now (marks .exit)) r ⌝ }
-{
-    let t = s[at + 1];
-    let p = at + 2;
-    let first = ports::own(t, row.first);
-    let rest = ports::own(t, row.rest);
-    if !operands_written(s, p + 2, row.operands as usize, first, rest, marks) {
-        return Progress::Refused;
-    }
-    let result = base::u16_at(s, p);
-    let end = result + words;
-    if marks.len() < end {
-        return Progress::Refused;
-    }
-    mark(marks, result, words);
-    Progress::Passed(Cursor {
-        at: next,
-        result: higher(high, end),
-    })
-}
-
-// ---- both versions
-
 // What follows an instruction whose operands stand before `high`; `next` is so where its result takes the next words.
 fn place_result(
     s: &[u8],
@@ -340,7 +90,7 @@ fn place_result(
     ensures { λ r. ⌜ Placed addressed (now (s .entry)) at row high next (now (marks .entry)) (now (marks .exit)) r ⌝ }
 {
     if addressed {
-        write_result(s, at, row, next.result - high, high, next.at, marks)
+        written::write_result(s, at, row, next.result - high, high, next.at, marks)
     } else {
         Progress::Passed(next)
     }
@@ -372,7 +122,7 @@ fn check_instructions(
             return Progress::Refused;
         }
         let row = rows[k];
-        let Progress::Passed(below) = check_instruction(s, at, at + head, high, row) else {
+        let Progress::Passed(below) = row::check_instruction(s, at, at + head, high, row) else {
             return Progress::Refused;
         };
         let Progress::Passed(next) = place_result(s, addressed, at, row, high, below, marks) else {
@@ -401,7 +151,7 @@ fn outputs_readable(
     ensures { λ r. ⌜ r ≡ cond addressed (every (marked (now (marks .entry))) (addresses count (now (s .entry)) from)) (allLess words (addresses count (now (s .entry)) from)) ⌝ }
 {
     if addressed {
-        outputs_written(s, from, count, marks)
+        written::outputs_written(s, from, count, marks)
     } else {
         outputs_less(s, from, count, words)
     }
@@ -449,7 +199,7 @@ fn check_addressed(s: &[u8], counts: Counts) -> Checked
     ensures { λ r. ⌜ r ≡ checkedOf (listOf version2 (now (s .entry)) counts) ⌝ }
 {
     let mut marks = [false; WORD_LIMIT];
-    mark(&mut marks, 0, counts.arguments);
+    written::mark_words(&mut marks, 0, counts.arguments);
     check_list(s, true, counts, &mut marks)
 }
 

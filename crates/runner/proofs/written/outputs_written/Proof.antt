@@ -1,4 +1,4 @@
--- `runner::outputs_written`: what is left decides.
+-- `runner::written::outputs_written`: what is left decides.
 use borrow.Author.Needs.{needs}
 use Prim.Native.Nat.{ℕ, _+_, _*_, _≤_}
 use mathlib.Core.Path.{_≡_, refl, ap, sym, _∙_}
@@ -12,8 +12,8 @@ use Rattle.bytecode.specs.Code.{addresses}
 use Rattle.runner.specs.Checks.{marked}
 use Rattle.runner.proofs.Walks.{on, off, over}
 use Rattle.runner.proofs.Marks.{marked-walk}
-use Rattle.runner.proofs.outputs_written.Statement.{statement}
-use Rattle.runner.proofs.outputs_written.Tie as tie
+use Rattle.runner.proofs.written.outputs_written.Statement.{statement}
+use Rattle.runner.proofs.written.outputs_written.Tie as tie
 
 abbrev Inv-loop : tie.InvT-loop
 Inv-loop s from count marks at₀ left₀ at left =

@@ -1,4 +1,4 @@
--- `runner::words_written`: what is left decides.
+-- `runner::written::words_written`: what is left decides.
 use borrow.Author.Needs.{needs}
 use Prim.Native.Nat.{_+_, _≤_}
 use mathlib.Core.Path.{_≡_, refl, sym, _∙_}
@@ -9,8 +9,8 @@ use Rattle.base.specs.Lists.{every, span}
 use Rattle.runner.specs.Checks.{marked}
 use Rattle.runner.proofs.Walks.{on, off, over}
 use Rattle.runner.proofs.Marks.{words-walk}
-use Rattle.runner.proofs.words_written.Statement.{statement}
-use Rattle.runner.proofs.words_written.Tie as tie
+use Rattle.runner.proofs.written.words_written.Statement.{statement}
+use Rattle.runner.proofs.written.words_written.Tie as tie
 
 abbrev Inv-loop : tie.InvT-loop
 Inv-loop marks from count at₀ left₀ at left =

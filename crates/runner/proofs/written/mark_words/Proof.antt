@@ -1,12 +1,12 @@
--- `runner::mark`, word by word.
+-- `runner::written::mark_words`, word by word.
 use Prim.Native.Nat.{ℕ, _+_, _-_, _≤_}
 use native.Mathlib.Omega.{arith}
 use Rattle.runner.specs.Checks.{Extended}
 use Rattle.runner.proofs.Marks.{extended-none, extended-more}
 use mathlib.Core.Path.{subst}
 use denote.Ref.{now}
-use Rattle.runner.proofs.mark.Statement.{statement}
-use Rattle.runner.proofs.mark.Tie as tie
+use Rattle.runner.proofs.written.mark_words.Statement.{statement}
+use Rattle.runner.proofs.written.mark_words.Tie as tie
 
 abbrev Inv-loop : tie.InvT-loop
 Inv-loop marks₀ from count end i₀ marks i = Extended from (i - from) marks₀ marks × (from ≤ i) × (i ≤ end)
@@ -24,8 +24,8 @@ returns c =
     let a = c .before .before .args in
     subst (λ (n : ℕ). Extended (a .from) n (now (a .marks)) (l .marks)) (omega (arith, l .inv .1, l .inv .2)) (l .inv .0)
 
-pub mark-spec : {M : Type 1} → statement M
-mark-spec =
+pub mark-words-spec : {M : Type 1} → statement M
+mark-words-spec =
     tie.close
     (tie.spec
     Inv-loop

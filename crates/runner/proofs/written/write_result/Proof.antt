@@ -1,4 +1,4 @@
--- `runner::write_result`: what is read was written, and the result's words are within the record.
+-- `runner::written::write_result`: what is read was written, and the result's words are within the record.
 use borrow.Author.Needs.{needs}
 use Prim.Native.Nat.{ℕ, _+_}
 use mathlib.Core.Path.{_≡_, refl, ap, ap₂, sym, _∙_}
@@ -15,8 +15,8 @@ use Rattle.bytecode.specs.Run.{spans}
 use Rattle.bytecode.specs.Code.{addresses}
 use Rattle.runner.specs.Checks.{marked}
 use Rattle.runner.proofs.Passing.{write-unread, write-over, write-whole}
-use Rattle.runner.proofs.write_result.Statement.{statement}
-use Rattle.runner.proofs.write_result.Tie as tie
+use Rattle.runner.proofs.written.write_result.Statement.{statement}
+use Rattle.runner.proofs.written.write_result.Tie as tie
 
 -- ---- places
 
@@ -62,7 +62,7 @@ returns-3 c =
     let e = roomy c in
     let u = e .before in
     write-whole _ _ _ _ _ _ _ _ (tested (read u) ∙ not-false _ (u .before .if1 .left)) (u .u16-at .ensures .0) (omega (arith, e .if2 .left, u .u16-at .ensures .0)) (c .higher .ensures)
-    (c .before .before .before .mark .ensures)
+    (c .before .before .before .mark-words .ensures)
 
 pub write-result-spec : {M : Type 1} → statement M
 write-result-spec =

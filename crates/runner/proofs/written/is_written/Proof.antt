@@ -1,11 +1,11 @@
--- `runner::is_written`: no word past the end is marked.
+-- `runner::written::is_written`: no word past the end is marked.
 use borrow.Author.Needs.{needs}
 use mathlib.Core.Path.{sym}
 use mathlib.Core.Bool.{false}
 use denote.Ref.{now}
 use lib.ListN.{List·getD-eq-default}
-use Rattle.runner.proofs.is_written.Statement.{statement}
-use Rattle.runner.proofs.is_written.Tie as tie
+use Rattle.runner.proofs.written.is_written.Statement.{statement}
+use Rattle.runner.proofs.written.is_written.Tie as tie
 
 pub is-written-spec : {M : Type 1} → statement M
 is-written-spec =

@@ -1,4 +1,4 @@
--- `runner::operands_written`: what is left decides.
+-- `runner::written::operands_written`: what is left decides.
 use borrow.Author.Needs.{needs}
 use Prim.Native.Nat.{ℕ, _+_, _*_, _≤_}
 use mathlib.Core.Path.{_≡_, refl, ap, ap₂, sym, _∙_}
@@ -13,8 +13,8 @@ use Rattle.bytecode.specs.Run.{spans}
 use Rattle.bytecode.specs.Code.{addresses}
 use Rattle.runner.specs.Checks.{marked}
 use Rattle.runner.proofs.Marks.{operands-on, operands-off, operands-over}
-use Rattle.runner.proofs.operands_written.Statement.{statement}
-use Rattle.runner.proofs.operands_written.Tie as tie
+use Rattle.runner.proofs.written.operands_written.Statement.{statement}
+use Rattle.runner.proofs.written.operands_written.Tie as tie
 
 abbrev Inv-loop : tie.InvT-loop
 Inv-loop s from count first rest marks at₀ left₀ t₀ at left t =

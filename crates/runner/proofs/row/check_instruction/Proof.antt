@@ -1,4 +1,4 @@
--- `runner::check_instruction`, by what the row says.
+-- `runner::row::check_instruction`, by what the row says.
 use borrow.Author.Needs.{needs}
 use Prim.Native.Nat.{_+_}
 use mathlib.Core.Path.{_≡_, refl, sym, _∙_}
@@ -9,8 +9,8 @@ use borrow.Author.Tests.{not-true, not-false}
 use Rattle.ports.specs.Ports.{hasType, isType, executable}
 use Rattle.base.specs.Bytes.{byte}
 use Rattle.runner.proofs.Checking.{as-many, typed-here, typed-wrong, plain-wrong, plain-none, plain-here, constant-here}
-use Rattle.runner.proofs.check_instruction.Statement.{statement}
-use Rattle.runner.proofs.check_instruction.Tie as tie
+use Rattle.runner.proofs.row.check_instruction.Statement.{statement}
+use Rattle.runner.proofs.row.check_instruction.Tie as tie
 
 -- ---- places
 
