@@ -12,7 +12,6 @@ use Rattle.ports.specs.Ports.{width}
 use Rattle.base.specs.Lists.{every, span}
 use Rattle.base.proofs.Bools.{and-inv, and-both, or-inv}
 use Rattle.base.proofs.Lists.{some-is}
-use Rattle.bytecode.specs.Run.{spans}
 use Rattle.bytecode.specs.Ranges.{any, Range, end, inside, behind, resultValue}
 use Rattle.bytecode.specs.Version.{Version, version1, version2}
 use Rattle.bytecode.specs.Code.{readable, resultAt, readInstruction, Listed, readInstructions, argumentWords}

@@ -13,7 +13,6 @@ use Rattle.ports.specs.Ports.{width, types}
 use Rattle.base.specs.Bytes.{u16}
 use Rattle.base.specs.Lists.{every, span}
 use Rattle.base.specs.Limits.{wordLimit}
-use Rattle.base.proofs.Bools.{and-false}
 use Rattle.bytecode.specs.Run.{spans}
 use Rattle.bytecode.specs.Ranges.{Range, inside}
 use Rattle.bytecode.specs.Code.{addresses, argumentWords}

@@ -1,18 +1,18 @@
 -- The check of all instructions of either version, and of the list behind the header. The loop's invariant knows the words that are written so far: the loop
 -- keeps the word behind them, and in version 2 a mark for each.
-use Prim.Native.Nat.{ℕ, zero, suc, _+_, _-_, _*_, _^_, _≤_, _<_, max}
+use Prim.Native.Nat.{ℕ, zero, suc, _+_, _-_, _*_, _≤_, _<_, max}
 use mathlib.Core.Path.{_≡_, refl, ap, ap₂, sym, _∙_, subst}
 use mathlib.Core.Bool.{Bool, true, false, _&&_, cond}
 use mathlib.Core.List.{List, _∷_}
 use mathlib.Core.Option.{Option, none, some}
 use native.Mathlib.Omega.{arith}
 use native.Mathlib.Numerals.{sub-one}
-use borrow.Author.Tests.{le-leb, lt-leb, leb-true, leb-false, eq-eqb, ne-eqb}
-use lib.Dec.{leb, eqb}
+use borrow.Author.Tests.{le-leb, lt-leb, leb-true, leb-false}
+use lib.Dec.{leb}
 use lib.ListN.{length}
 use Rattle.ports.specs.declared.Ports.{Ports}
 use Rattle.ports.specs.Kinds.{kindOf}
-use Rattle.ports.specs.Ports.{rows, portsOf, takesRow, arity, executable, typeFits, legalInstruction}
+use Rattle.ports.specs.Ports.{rows, portsOf, takesRow, arity, executable, typeFits}
 use Rattle.ports.proofs.Laws.{no-kind, words-few}
 use Rattle.base.specs.Bytes.{byte, u16}
 use Rattle.base.specs.Lists.{every}
@@ -20,23 +20,20 @@ use Rattle.base.specs.Limits.{wordLimit}
 use Rattle.base.specs.Outcome.{Part}
 use Rattle.base.proofs.Bools.{and-false}
 use Rattle.base.proofs.Lists.{some-is}
-use Rattle.bytecode.specs.Run.{Instruction, BoardList, spans}
+use Rattle.bytecode.specs.Run.{Instruction, spans}
 use Rattle.bytecode.specs.Ranges.{Range, behind, resultValue}
 use Rattle.bytecode.specs.Version.{Version, version1, version2}
-use Rattle.bytecode.specs.Code.{guard, then, addresses, readable, resultAt, resultBytes, argumentWords, readInstruction, Listed, readInstructions, readOutputs}
-use Rattle.bytecode.proofs.Decoded.{then-inv, addresses-length}
+use Rattle.bytecode.specs.Code.{then, addresses, readable, argumentWords, readInstruction, Listed, readInstructions}
 use Rattle.bytecode.proofs.Readable.{behind-grows}
 use Rattle.executor.specs.Execution.{endOf, wordsGiven}
 use Rattle.executor.specs.Instructions.{versionBy}
-use Rattle.executor.proofs.Loop.{operandsAt, read-inv}
-use Rattle.runner.specs.declared.Counts.{Counts}
+use Rattle.executor.proofs.Loop.{operandsAt}
 use Rattle.runner.specs.declared.Cursor.{Cursor}
 use Rattle.runner.specs.declared.Progress.{Progress}
 use Rattle.runner.specs.declared.Progress.the-variants.{Passed, Refused}
-use Rattle.runner.specs.declared.Checked.the-variants.{Formed, Malformed}
-use Rattle.runner.specs.Checks.{allLess, marked, Records, Recorded, Extended, instructionPassed, writePassed, Wrote, Placed, Placeable, endedOf, writtenOf, Checkable, Ended, Listable, checkedOf, listOf}
+use Rattle.runner.specs.Checks.{marked, Recorded, Extended, instructionPassed, writePassed, Wrote, Placed, Placeable, endedOf, writtenOf, Checkable, Ended}
 use Rattle.runner.proofs.Marks.{records-next, every-same}
-use Rattle.runner.proofs.Reading.{below-reads, less-reads, Passes, passes, readsOf, instructionOf, none-illegal, none-unread, none-refused, is-read}
+use Rattle.runner.proofs.Reading.{below-reads, Passes, passes, readsOf, instructionOf, none-illegal, none-unread, none-refused, is-read}
 
 -- ---- the instructions that are left
 

@@ -2,11 +2,10 @@
 use borrow.Author.Needs.{needs}
 use Prim.Native.Nat.{ℕ, _+_, _≤_, _<_}
 use mathlib.Core.Path.{_≡_, refl, ap, _∙_}
-use mathlib.Core.Bool.{cond}
 use native.Mathlib.Omega.{arith}
 use denote.Ref.{now}
 use lib.ListN.{length}
-use Rattle.base.specs.Bytes.{byte, u16}
+use Rattle.base.specs.Bytes.{byte}
 use Rattle.bytecode.specs.Code.{resultBytes, argumentWords, readInstructions}
 use Rattle.executor.specs.Execution.{Executable}
 use Rattle.executor.specs.Instructions.{versionBy, afterAll}

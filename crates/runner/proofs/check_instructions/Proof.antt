@@ -1,6 +1,6 @@
 -- `runner::check_instructions`: what is left decides, and in version 2 the record says what was written.
 use borrow.Author.Needs.{needs}
-use Prim.Native.Nat.{ℕ, _+_, _*_, _≤_, _<_}
+use Prim.Native.Nat.{ℕ, _+_}
 use mathlib.Core.Path.{_≡_, refl, sym, ap, _∙_}
 use mathlib.Core.Bool.{Bool}
 use mathlib.Core.List.{List}
@@ -16,7 +16,7 @@ use Rattle.bytecode.specs.Code.{argumentWords, readInstruction, readInstruction
 use Rattle.executor.specs.Instructions.{versionBy}
 use Rattle.executor.proofs.Loop.{operandsAt}
 use Rattle.runner.specs.declared.Progress.the-variants.{Refused}
-use Rattle.runner.specs.Checks.{endedOf, Ended}
+use Rattle.runner.specs.Checks.{Ended}
 use Rattle.runner.proofs.Reading.{none-short, address-short}
 use Rattle.runner.proofs.Passing.{Going, Turned, none-high, start, stop, stopped, row-stops, turned, placeable, too-many, ended}
 use Rattle.runner.proofs.check_instructions.Statement.{statement}

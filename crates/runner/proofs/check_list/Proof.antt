@@ -1,9 +1,7 @@
 -- `runner::check_list`, test by test.
 use borrow.Author.Needs.{needs}
-use Prim.Native.Nat.{ℕ, _+_, _*_, _≤_}
+use Prim.Native.Nat.{_+_, _*_, _≤_}
 use mathlib.Core.Path.{_≡_, sym, subst, _∙_}
-use mathlib.Core.List.{List}
-use mathlib.Core.Bool.{Bool}
 use native.Mathlib.Omega.{arith}
 use denote.Ref.{now}
 use lib.ListN.{length}
@@ -11,7 +9,6 @@ use borrow.Author.Tests.{not-true, not-false}
 use Rattle.bytecode.specs.Code.{argumentWords, readInstructions}
 use Rattle.executor.specs.Instructions.{versionBy}
 use Rattle.runner.specs.declared.Progress.the-variants.{Passed}
-use Rattle.runner.specs.declared.Progress.{Progress}
 use Rattle.runner.specs.Checks.{Ended}
 use Rattle.runner.proofs.Whole.{no-list, end-within, other-words, other-length, bad-output, formed}
 use Rattle.runner.proofs.check_list.Statement.{statement}
@@ -22,8 +19,11 @@ use Rattle.runner.proofs.check_list.Tie as tie
 abbrev checked : tie.After-slice-known2 → tie.After-check-instructions
 checked p = p .before .before
 
+abbrev lent : tie.After-check-instructions → tie.After-check-instructions-arg
+lent p = p .before
+
 abbrev start : tie.After-check-instructions → tie.Start
-start p = p .before .before .before .before
+start p = lent p .before .before .before
 
 abbrev instructions : tie.After-next → tie.After-check-instructions
 instructions p = checked (p .before .before)

@@ -11,8 +11,11 @@ use Rattle.runner.proofs.run_checked.Tie as tie
 
 -- ---- places
 
+abbrev given : tie.After-slice-known2 → tie.After-shared-slice-known2
+given p = p .before .before
+
 abbrev start : tie.After-slice-known2 → tie.Start
-start p = p .before .before .before .before
+start p = given p .before .before
 
 abbrev known : tie.After-is-addressed → tie.After-slice-known2
 known p = p .before
@@ -46,7 +49,7 @@ execute-all-requires c κs =
     let l = length-copy (now (a .work)) (now (a .arguments)) (p .copy .ensures) in
     instructions-ready _ _ _ (list b) (omega (arith, h .work-room, l)) (version-is v)
     (copied (versionBy (v .is-addressed .result)) (now (a .work)) (now (a .arguments)) (p .copy .ensures) (h .arguments-all) (omega (arith, list b .first, h .work-room)) (h .allowed)
-    (λ i. omega (arith, known v .before .before .shared-slice-known2 .given i)))
+    (λ i. omega (arith, given (known v) .shared-slice-known2 .given i)))
 
 copy-outputs-requires : tie.Need-copy-outputs-requires
 copy-outputs-requires c κs =

@@ -1,5 +1,5 @@
 -- `runner::written::mark_words`, word by word.
-use Prim.Native.Nat.{ℕ, _+_, _-_, _≤_}
+use Prim.Native.Nat.{ℕ, _-_, _≤_}
 use native.Mathlib.Omega.{arith}
 use Rattle.runner.specs.Checks.{Extended}
 use Rattle.runner.proofs.Marks.{extended-none, extended-more}

@@ -1,15 +1,12 @@
 -- `runner::written::write_result`: what is read was written, and the result's words are within the record.
 use borrow.Author.Needs.{needs}
 use Prim.Native.Nat.{ℕ, _+_}
-use mathlib.Core.Path.{_≡_, refl, ap, ap₂, sym, _∙_}
-use mathlib.Core.Bool.{Bool}
+use mathlib.Core.Path.{_≡_, ap₂, sym, _∙_}
 use native.Mathlib.Omega.{arith}
 use denote.Ref.{now}
-use lib.ListN.{length}
-use lib.Dec.{leb}
-use borrow.Author.Tests.{not-true, not-false, le-leb, lt-leb}
+use borrow.Author.Tests.{not-true, not-false}
 use Rattle.ports.specs.Ports.{takesRow, types}
-use Rattle.base.specs.Bytes.{byte, u16}
+use Rattle.base.specs.Bytes.{byte}
 use Rattle.base.specs.Lists.{every}
 use Rattle.bytecode.specs.Run.{spans}
 use Rattle.bytecode.specs.Code.{addresses}
@@ -32,8 +29,11 @@ begun p = p .before .before
 abbrev read : tie.After-u16-at → tie.After-operands-written
 read p = p .before .before
 
-abbrev roomy : tie.After-higher → tie.Else2
-roomy p = p .before .before .before .before .before
+abbrev noted : tie.After-higher → tie.After-mark-words
+noted p = p .before .before .before
+
+abbrev roomy : tie.After-mark-words → tie.Else2
+roomy p = p .before .before
 
 -- ---- what is known at each
 
@@ -59,10 +59,11 @@ returns-2 c =
 
 returns-3 : tie.Need-returns-3
 returns-3 c =
-    let e = roomy c in
+    let m = noted c in
+    let e = roomy m in
     let u = e .before in
     write-whole _ _ _ _ _ _ _ _ (tested (read u) ∙ not-false _ (u .before .if1 .left)) (u .u16-at .ensures .0) (omega (arith, e .if2 .left, u .u16-at .ensures .0)) (c .higher .ensures)
-    (c .before .before .before .mark-words .ensures)
+    (m .mark-words .ensures)
 
 pub write-result-spec : {M : Type 1} → statement M
 write-result-spec =
