@@ -87,6 +87,14 @@ every-same f g h [] = refl
 every-same f g h (x ∷ xs) = ap₂ (λ (a b : Bool). a && b) (h x) (every-same f g h xs)
 
 module _ (test : ℕ → Bool) where
+  -- a scalar
+  pub one-word : (a t : ℕ) → t ≡ 1 → {r : Bool} → r ≡ test a → r ≡ every test (span a (width t))
+  one-word a t e q = rw e (q ∙ sym (and-true (test a)))
+    where
+      and-true : (b : Bool) → b && true ≡ b
+      and-true true = refl
+      and-true false = refl
+
   pub words-walk : Walk (λ n at. every test (span at n)) test 1
   words-walk = record { none = λ at. refl; more = λ n at. ap (λ (a : ℕ). test at && every test (span a n)) (sym (add-one at)) }
 

@@ -2,7 +2,7 @@
 ghost use mathlib.Core.Path.{_≡_};
 ghost use Prim.Native.Nat.{_+_, _*_, _≤_, max};
 ghost use lib.ListN.{length};
-ghost use Rattle.ports.specs.Ports.{types};
+ghost use Rattle.ports.specs.Ports.{width, types};
 ghost use Rattle.base.specs.Lists.{span, every};
 ghost use Rattle.bytecode.specs.Run.{spans};
 ghost use Rattle.bytecode.specs.Code.{addresses};
@@ -11,11 +11,16 @@ use super::Cursor;
 use super::Progress;
 use ports::Ports;
 
-// Marks `count` words more.
+// Marks `count` words more. One word apart from the loop: that becomes a call of memset, which costs more than the rest of the
+// check of a scalar.
 pub fn mark_words(marks: &mut [bool], from: usize, count: usize)
     requires { ⌜ from + count ≤ length (now marks) ⌝ }
     ensures { λ _. ⌜ Extended from count (now (marks .entry)) (now (marks .exit)) ⌝ }
 {
+    if count == 1 {
+        marks[from] = true;
+        return;
+    }
     let end = from + count;
     let mut i = from;
     while i < end {
@@ -46,6 +51,18 @@ fn words_written(marks: &[bool], from: usize, count: usize) -> bool
     true
 }
 
+// A value of the type t, a scalar without a loop.
+fn value_written(marks: &[bool], a: usize, t: u8) -> bool
+    requires { ⌜ a ≤ 65535 ⌝ }
+    ensures { λ r. ⌜ r ≡ every (marked (now (marks .entry))) (span a (width t)) ⌝ }
+{
+    if t == 1 {
+        is_written(marks, a)
+    } else {
+        words_written(marks, a, ports::width(t))
+    }
+}
+
 // Every word of the operands, the first of the type `first` and the others of the type `rest`.
 fn operands_written(
     s: &[u8],
@@ -62,7 +79,7 @@ fn operands_written(
     let mut left = count;
     let mut t = first;
     while 0 < left {
-        if !words_written(marks, base::u16_at(s, at), ports::width(t)) {
+        if !value_written(marks, base::u16_at(s, at), t) {
             return false;
         }
         at += 2;

@@ -1,9 +1,11 @@
--- `runner::written::mark_words`, word by word.
+-- `runner::written::mark_words`: one word, or word by word.
 use Prim.Native.Nat.{ℕ, _-_, _≤_}
 use native.Mathlib.Omega.{arith}
 use Rattle.runner.specs.Checks.{Extended}
 use Rattle.runner.proofs.Marks.{extended-none, extended-more}
-use mathlib.Core.Path.{subst}
+use mathlib.Core.Path.{refl, subst}
+use mathlib.Core.Bool.{true}
+use lib.ListN.{length-set}
 use denote.Ref.{now}
 use Rattle.runner.proofs.written.mark_words.Statement.{statement}
 use Rattle.runner.proofs.written.mark_words.Tie as tie
@@ -14,14 +16,20 @@ Inv-loop marks₀ from count end i₀ marks i = Extended from (i - from) marks�
 abbrev μ-loop : tie.MeasureT-loop
 μ-loop marks₀ from count end i₀ marks i = end - i
 
--- the word is in the record
-there : tie.Need-slice-write-marks Inv-loop μ-loop
-there c = let l = c .before .loop in omega (arith, l .inv .0 .size, c .loop-test .taken, c .before .before .pre)
+abbrev start : tie.At-loop Inv-loop μ-loop → tie.Start Inv-loop μ-loop
+start p = p .before .before
 
-returns : tie.Need-returns Inv-loop μ-loop
+-- the word is in the record
+first : tie.Need-slice-write-marks Inv-loop μ-loop
+first c = omega (arith, c .before .pre, c .if1 .taken)
+
+there : tie.Need-slice-write-marks-2 Inv-loop μ-loop
+there c = let l = c .before .loop in omega (arith, l .inv .0 .size, c .loop-test .taken, start (c .before) .pre)
+
+returns : tie.Need-returns-2 Inv-loop μ-loop
 returns c =
     let l = c .before .loop in
-    let a = c .before .before .args in
+    let a = start (c .before) .args in
     subst (λ (n : ℕ). Extended (a .from) n (now (a .marks)) (l .marks)) (omega (arith, l .inv .1, l .inv .2)) (l .inv .0)
 
 pub mark-words-spec : {M : Type 1} → statement M
@@ -30,7 +38,10 @@ mark-words-spec =
     (tie.spec
     Inv-loop
     μ-loop
-    (λ c. omega (arith, c .pre, c .good))
+    first
+    (λ c. length-set (now (c .before .args .marks)) (c .before .args .from) true)
+    (λ c. let a = c .before .args in extended-more (a .from) (extended-none (a .from) (now (a .marks)) refl) (omega arith) (first c) (c .if1 .taken))
+    (λ c. omega (arith, c .before .pre, c .before .good))
     (λ c. (extended-none _ _ (omega arith), omega arith, omega arith))
     there
     (λ c. omega (arith, c .loop-test .taken))

@@ -1,7 +1,7 @@
 -- `runner::written::operands_written`: what is left decides.
 use borrow.Author.Needs.{needs}
 use Prim.Native.Nat.{ℕ, _+_, _*_, _≤_}
-use mathlib.Core.Path.{_≡_, refl, ap₂, sym, _∙_}
+use mathlib.Core.Path.{_≡_, refl, ap, sym, _∙_}
 use native.Mathlib.Omega.{arith}
 use denote.Ref.{now}
 use lib.ListN.{length}
@@ -29,16 +29,17 @@ abbrev μ-loop : tie.MeasureT-loop
 abbrev start : tie.At-loop Inv-loop μ-loop → tie.Start Inv-loop μ-loop
 start p = p .before .before .before
 
-abbrev turn : tie.After-width Inv-loop μ-loop → tie.In-loop Inv-loop μ-loop
-turn p = p .before .before
+abbrev turn : tie.After-u16-at Inv-loop μ-loop → tie.In-loop Inv-loop μ-loop
+turn p = p .before
 
 -- the test of this turn's operand
-tested : (p : tie.After-words-written Inv-loop μ-loop) → let i = turn (p .before) in let a = start (i .before) .args in let l = i .before .loop in
-    every (marked (now (a .marks))) (span (u16 (now (a .s)) (l .at)) (width (l .t))) ≡ p .words-written .result
+tested : (p : tie.After-value-written Inv-loop μ-loop) → let i = turn (p .before) in let a = start (i .before) .args in let l = i .before .loop in
+    every (marked (now (a .marks))) (span (u16 (now (a .s)) (l .at)) (width (l .t))) ≡ p .value-written .result
 tested p =
-    let w = p .before in
-    let a = start (turn w .before) .args in
-    ap₂ (λ (x n : ℕ). every (marked (now (a .marks))) (span x n)) (sym (w .before .u16-at .ensures .0)) (sym (w .width .ensures .0)) ∙ sym (p .words-written .ensures)
+    let u = p .before in
+    let i = turn u in
+    let a = start (i .before) .args in
+    ap (λ (x : ℕ). every (marked (now (a .marks))) (span x (width (i .before .loop .t)))) (sym (u .u16-at .ensures .0)) ∙ sym (p .value-written .ensures)
 
 -- ---- needs
 
@@ -74,8 +75,7 @@ operands-written-spec =
     μ-loop
     (λ c. (refl, search needs))
     (λ c κs. omega (arith, c .before .loop .inv .1, c .loop-test .taken))
-    (λ c κs. search needs)
-    (λ c κs. omega (arith, c .before .u16-at .ensures .1, c .width .ensures))
+    (λ c κs. omega (arith, c .u16-at .ensures .1))
     returns
     (λ c. omega (arith, turn (c .before .before) .before .loop .inv .1, turn (c .before .before) .loop-test .taken))
     (λ c. omega (arith, turn (c .before .before) .loop-test .taken))
