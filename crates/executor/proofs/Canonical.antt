@@ -1,8 +1,9 @@
--- Words that instructions give are canonical, and so is every word before the next result.
-use Prim.Native.Nat.{ℕ, suc, _+_, _*_, _≤_, _<_}
+-- Words that instructions give are canonical, and so is every word that an instruction may read.
+use Prim.Native.Nat.{ℕ, suc, _+_, _-_, _*_, _≤_, _<_}
 use mathlib.Core.Path.{_≡_, refl, ap, sym, _∙_, subst}
 use mathlib.Core.Bool.{Bool, true, false}
 use mathlib.Core.List.{List, [], _∷_, _++_}
+use mathlib.Core.Logic.{⊎-elim}
 use native.Mathlib.Omega.{arith}
 use borrow.Author.Tests.{ltb-true, ltb-false}
 use lib.Dec.{ltb}
@@ -17,21 +18,23 @@ use Rattle.value.specs.declared.Row.{Row}
 use Rattle.value.specs.declared.Value.{Value}
 use Rattle.value.specs.declared.Value.the-variants.{Scalar, Vector, Matrix}
 use Rattle.value.specs.Values.{word, rowWords, wordsOf, allWords}
-use Rattle.base.specs.Lists.{wordAt, wordsAt, Each}
+use Rattle.base.specs.Lists.{wordAt, wordsAt, span, every, Each}
 use Rattle.value.specs.Typed.{TypeCode, Canonical, Held, RowHeld, ValueHeld, Of, Typed}
 use Rattle.value.specs.Results.{results}
 use Rattle.value.proofs.Laws.{there, typed-widths, results-typed, value-of, value-at}
 use Rattle.base.specs.Bytes.{constants}
 use Rattle.base.proofs.Bools.{and-inv}
-use Rattle.bytecode.specs.Run.{valuesAt, execute}
-use Rattle.bytecode.specs.Code.{addresses}
+use Rattle.bytecode.specs.Run.{valuesAt, execute, spans}
+use Rattle.bytecode.specs.Ranges.{Range, behind, resultValue}
+use Rattle.bytecode.specs.Version.{Version}
+use Rattle.bytecode.specs.Code.{addresses, readable, resultAt, argumentWords}
 use Rattle.bytecode.proofs.Decoded.{addresses-length}
-use Rattle.base.proofs.Stores.{sets-below}
+use Rattle.bytecode.proofs.Readable.{readable-behind, readable-first, readable-next, width-some, every-append, every-span}
+use Rattle.base.proofs.Stores.{sets-below, sets-above}
 use Rattle.base.proofs.Lists.{each-append}
 use Rattle.bytecode.proofs.Origins.{takes-codes}
-use Rattle.bytecode.specs.WellFormed.{Below}
 use Rattle.executor.specs.Execution.{Loadable, AllLoadable, instructionAt, wordsGiven, Executable}
-use Rattle.executor.specs.Instructions.{CanonicalBefore}
+use Rattle.executor.specs.Instructions.{CanonicalReads}
 
 -- ---- one word
 
@@ -82,12 +85,29 @@ sets-each P (w ∷ ws) m at (p, e) r i a b =
         subst (λ (j : ℕ). P (wordAt (sets m at (w ∷ ws)) j)) z
         (subst P (sym (sets-below ws (set m at w) (suc at) at (omega arith) ∙ getD-set-same m at w 0 (omega arith))) p)
 
-pub after-sets : (ws m : List ℕ) (at : ℕ) → Each Canonical ws → at + length ws ≤ length m → CanonicalBefore at m → CanonicalBefore (at + length ws) (sets m at ws)
-after-sets ws m at e r c i h = pick (ltb i at) refl
+-- words that are stored at a result's place
+pub after-sets : (v : Version) (s : List ℕ) (from : ℕ) (written : List Range) (ws m : List ℕ) → let at = resultAt v s from written in
+    Each Canonical ws → at + length ws ≤ length m → CanonicalReads v written m
+    → CanonicalReads v (record { first = at; width = length ws } ∷ written) (sets m at ws)
+after-sets v s from written ws m e r c a h = ⊎-elim (λ (l, u). sets-each Canonical ws m at e r a l u) other (readable-next v s from written (length ws) a h)
   where
-    pick : (b : Bool) → ltb i at ≡ b → Canonical (wordAt (sets m at ws) i)
-    pick true q = let l : i < at = ltb-true i at q in subst Canonical (sym (sets-below ws m at i l)) (c i l)
-    pick false q = let l : at ≤ i = ltb-false i at q in sets-each Canonical ws m at e r i l h
+    at : ℕ
+    at = resultAt v s from written
+
+    -- also where the word is stored anew
+    other : readable v written a ≡ true → Canonical (wordAt (sets m at ws) a)
+    other q = pick (ltb a at) (ltb a (at + length ws)) refl refl
+      where
+        pick : (x y : Bool) → ltb a at ≡ x → ltb a (at + length ws) ≡ y → Canonical (wordAt (sets m at ws) a)
+        pick true y p u = subst Canonical (sym (sets-below ws m at a (ltb-true a at p))) (c a q)
+        pick false true p u = sets-each Canonical ws m at e r a (ltb-false a at p) (ltb-true a (at + length ws) u)
+        pick false false p u = subst Canonical (sym (sets-above ws m at a (ltb-false a (at + length ws) u))) (c a q)
+
+-- words that are stored at the front
+pub front-sets : (v : Version) (ws m : List ℕ) → Each Canonical ws → length ws ≤ length m → CanonicalReads v (argumentWords (length ws)) (sets m 0 ws)
+front-sets v ws m e r a h =
+    let l : a < length ws = readable-first v (length ws) a h in
+    sets-each Canonical ws m 0 e (omega arith) a (omega arith) (omega arith)
 
 -- ---- an instruction
 
@@ -97,10 +117,12 @@ values-typed m (t ∷ ts) [] c l = absurd (omega arith)
 values-typed m (t ∷ ts) (a ∷ xs) (p, c) l =
     (subst (Of t) (sym (value-at m t a)) (value-of t (wordsAt m a (width t)) p), values-typed m ts xs c (omega arith))
 
-pub after-execute : (k t : ℕ) (s : List ℕ) (at result : ℕ) (m : List ℕ) → Executable k t s at result m → CanonicalBefore result m
-    → CanonicalBefore (result + wordsGiven k t) (execute (instructionAt k t s at result) m)
+pub after-execute : (v : Version) (k t : ℕ) (s : List ℕ) (at from : ℕ) (written : List Range) (m : List ℕ) → let result = resultAt v s from written in
+    Executable k t s at result m → CanonicalReads v written m
+    → CanonicalReads v (resultValue (instructionAt k t s at result) ∷ written) (execute (instructionAt k t s at result) m)
 unfolding execute
-after-execute k t s at result m h before =
+after-execute v k t s at from written m h before =
+    let result = resultAt v s from written in
     let ts = takes (kindOf k) t in
     let vs = valuesAt m ts (addresses (arity (kindOf k)) s at) in
     let rs = results (kindOf k) (constants (constantWords (kindOf k)) s (at + 2 * arity (kindOf k))) vs in
@@ -109,16 +131,22 @@ after-execute k t s at result m h before =
     results-typed (kindOf k) t _ vs (values-typed m ts _ (takes-codes (kindOf k) t b) (addresses-length (arity (kindOf k)) s at ∙ sym (length-takes (kindOf k) t))) in
     let l : length (allWords rs) ≡ wordsGiven k t = typed-widths (gives (kindOf k) t) rs g in
     let r : result + wordsGiven k t ≤ length m = h .ready .room in
-    subst (λ (n : ℕ). CanonicalBefore (result + n) (sets m result (allWords rs))) l
-    (after-sets (allWords rs) m result (values-words (gives (kindOf k) t) rs g) (omega arith) before)
+    subst (λ (n : ℕ). CanonicalReads v (record { first = result; width = n } ∷ written) (sets m result (allWords rs))) l
+    (after-sets v s from written (allWords rs) m (values-words (gives (kindOf k) t) rs g) (omega arith) before)
 
--- ---- operands stand before the result, where all words are canonical
+-- ---- operands are read where all words are canonical
 
-pub all-loadable : (m : List ℕ) (next : ℕ) → next ≤ length m → CanonicalBefore next m → (ts xs : List ℕ) → Below next ts xs → AllLoadable m ts xs
-all-loadable m next r c [] xs h = tt
-all-loadable m next r c (t ∷ ts) [] h = h
-all-loadable m next r c (t ∷ ts) (a ∷ xs) (p, h) =
-    (record { room = omega arith; canonical = λ i l u. c i (omega arith) }, all-loadable m next r c ts xs h)
+pub all-loadable : (v : Version) (written : List Range) (m : List ℕ) → behind written ≤ length m → CanonicalReads v written m → (ts xs : List ℕ)
+    → length xs ≡ length ts → every (readable v written) (spans ts xs) ≡ true → AllLoadable m ts xs
+all-loadable v written m r c [] xs l h = tt
+all-loadable v written m r c (t ∷ ts) [] l h = absurd (omega arith)
+all-loadable v written m r c (t ∷ ts) (a ∷ xs) l h =
+    let ok = readable v written in
+    let (x, y) = and-inv (every ok (span a (width t))) (every ok (spans ts xs)) (sym (every-append ok (span a (width t)) (spans ts xs)) ∙ h) in
+    let each : (i : ℕ) → a ≤ i → i < a + width t → ok i ≡ true = every-span ok (width t) a x in
+    let w : 1 ≤ width t = width-some t in
+    let last : a + (width t - 1) < behind written = readable-behind v written (a + (width t - 1)) (each (a + (width t - 1)) (omega arith) (omega arith)) in
+    (record { room = omega arith; canonical = λ i p q. c i (each i p q) }, all-loadable v written m r c ts xs (omega arith) y)
 
 -- some of the words
 pub part : {m : List ℕ} {at n a w : ℕ} → Loadable m at n → at ≤ a → a + w ≤ at + n → Loadable m a w

@@ -1,12 +1,14 @@
 // The instructions of a board list, carried out on a memory of words. What carries one out takes the address of its result:
-// only the loop knows that the results of a list follow one another.
+// only the loop knows the list's version, by which results follow one another or stand where the code says.
 ghost use mathlib.Core.Path.{_≡_};
-ghost use Prim.Native.Nat.{_+_};
-ghost use Rattle.base.specs.Bytes.{byte};
+ghost use mathlib.Core.Bool.{true, cond};
+ghost use Prim.Native.Nat.{_+_, _≤_};
+ghost use lib.ListN.{length};
+ghost use Rattle.base.specs.Bytes.{byte, u16};
 ghost use Rattle.base.specs.Limits.{headerLength};
-ghost use Rattle.bytecode.specs.Code.{readInstructions};
+ghost use Rattle.bytecode.specs.Code.{resultBytes, argumentWords, readInstructions};
 ghost use Rattle.executor.specs.Execution.{Executable, Executed};
-ghost use Rattle.executor.specs.Instructions.{Instructions, afterAll};
+ghost use Rattle.executor.specs.Instructions.{versionBy, Instructions, afterAll};
 use base::HEADER_LENGTH;
 
 mod dispatch;
@@ -20,34 +22,57 @@ pub struct Extent {
     pub words: usize,
 }
 
-// The instruction whose kind byte stands at `at`.
-pub fn execute(code: &[u8], at: usize, result: usize, work: &mut [u64]) -> Extent
-    requires { ⌜ Executable (byte (now code) at) (byte (now code) (at + 1)) (now code) (at + 2) result (now work) ⌝ }
-    ensures { λ x. ⌜ Executed (byte (now (code .entry)) at) (byte (now (code .entry)) (at + 1)) (now (code .entry)) (at + 2) result (now (work .entry)) (now (work .exit)) x ⌝ }
+// The instruction whose kind byte stands at `at`, and its operands at `from`.
+pub fn execute(code: &[u8], at: usize, from: usize, result: usize, work: &mut [u64]) -> Extent
+    requires { ⌜ (at + 2 ≤ from) × Executable (byte (now code) at) (byte (now code) (at + 1)) (now code) from result (now work) ⌝ }
+    ensures { λ x. ⌜ Executed (byte (now (code .entry)) at) (byte (now (code .entry)) (at + 1)) (now (code .entry)) from result (now (work .entry)) (now (work .exit)) x ⌝ }
 {
     let k = code[at];
     let t = code[at + 1];
-    let p = at + 2;
     match t {
-        0 => dispatch::execute_plain(k, code, p, result, work),
-        1 => dispatch::execute_scalars(k, code, p, result, work),
-        2 => dispatch::execute_vectors(k, code, p, result, work),
-        _ => dispatch::execute_matrices(k, code, p, result, work),
+        0 => dispatch::execute_plain(k, code, from, result, work),
+        1 => dispatch::execute_scalars(k, code, from, result, work),
+        2 => dispatch::execute_vectors(k, code, from, result, work),
+        _ => dispatch::execute_matrices(k, code, from, result, work),
     }
 }
 
-// All instructions, from behind the header and the word `first` on.
-pub fn execute_all(code: &[u8], count: usize, first: usize, work: &mut [u64])
-    requires { ⌜ Instructions (now code) count first (now work) ⌝ }
-    ensures { λ _. ⌜ now (work .exit) ≡ afterAll (readInstructions count (now (code .entry)) headerLength first) (now (work .entry)) ⌝ }
+// The bytes of a result's address, in the version where an instruction carries it or in the other.
+pub fn result_bytes(addressed: bool) -> usize
+    ensures { λ r. ⌜ r ≡ resultBytes (versionBy addressed) ⌝ }
 {
+    if addressed { 2 } else { 0 }
+}
+
+// The address of a result: it stands at `at`, or is the next word.
+fn result_at(code: &[u8], at: usize, addressed: bool, next: usize) -> usize
+    requires { ⌜ (addressed ≡ true → at + 2 ≤ length (now code)) ⌝ }
+    ensures { λ r. ⌜ r ≡ cond addressed (u16 (now (code .entry)) at) next ⌝ }
+{
+    if addressed {
+        base::u16_at(code, at)
+    } else {
+        next
+    }
+}
+
+// All instructions, from behind the header on, where the arguments take the first `first` words. One loop for both versions:
+// with a loop for each, `execute` would have two callers and be inlined into neither.
+pub fn execute_all(code: &[u8], addressed: bool, count: usize, first: usize, work: &mut [u64])
+    requires { ⌜ Instructions (versionBy addressed) (now code) count first (now work) ⌝ }
+    ensures { λ _. ⌜ now (work .exit) ≡ afterAll (readInstructions (versionBy addressed) count (now (code .entry)) headerLength (argumentWords first)) (now (work .entry)) ⌝ }
+{
+    let skipped = result_bytes(addressed);
     let mut at = HEADER_LENGTH;
-    let mut result = first;
+    let mut next = first;
     let mut left = count;
     while 0 < left {
-        let extent = execute(code, at, result, work);
-        at += extent.bytes;
-        result += extent.words;
+        let head = at + 2;
+        let result = result_at(code, head, addressed, next);
+        let from = head + skipped;
+        let extent = execute(code, at, from, result, work);
+        at += skipped + extent.bytes;
+        next = result + extent.words;
         left -= 1;
     }
 }

@@ -1,9 +1,8 @@
 -- One instruction of a code, checked by its kind's row of the port list.
 use Prim.Native.Nat.{ℕ, zero, suc, _+_, _-_, _*_, _≤_, _<_}
-use mathlib.Core.Path.{_≡_, refl, ap, sym, _∙_}
+use mathlib.Core.Path.{_≡_, refl, ap, ap₂, sym, _∙_}
 use mathlib.Core.Bool.{Bool, true, false, _&&_, cond}
 use mathlib.Core.List.{List}
-use mathlib.Core.Option.{Option, none}
 use native.Mathlib.Omega.{arith}
 use native.Mathlib.Numerals.{sub-one}
 use borrow.Author.Tests.{le-leb, lt-leb, leb-true, leb-false, eq-eqb, ne-eqb, eqb-true}
@@ -18,13 +17,11 @@ use Rattle.value.specs.Values.{constantWord}
 use Rattle.base.specs.Lists.{every}
 use Rattle.base.proofs.Bools.{and-inv, and-false}
 use Rattle.base.specs.Bytes.{byte, u16, constants}
-use Rattle.base.specs.Outcome.{Part}
-use Rattle.bytecode.specs.Run.{Instruction}
-use Rattle.bytecode.specs.Code.{guard, addresses, allBelow, allLess, readOperands, readKind, readInstruction}
+use Rattle.bytecode.specs.Code.{addresses}
 use Rattle.executor.specs.Execution.{endOf, wordsGiven}
 use Rattle.runner.specs.declared.Progress.{Progress}
 use Rattle.runner.specs.declared.Progress.the-variants.{Passed, Refused}
-use Rattle.runner.specs.Checks.{followed, operandsPassed, constantPassed, passedOf, Begun}
+use Rattle.runner.specs.Checks.{allBelow, allLess, followed, operandsPassed, constantPassed, instructionPassed, Begun}
 use Rattle.runner.proofs.Walks.{Walk}
 
 -- ---- loops
@@ -117,16 +114,8 @@ of-constant r e n can =
 
 -- ---- tests passed and failed
 
-pub pass : (result : ℕ) {b : Bool} (o : Option (Part Instruction)) → b ≡ true → passedOf result (guard b o) ≡ passedOf result o
-unfolding guard
-pass result o e = rw e
-
-pub fail : (result : ℕ) {b : Bool} (o : Option (Part Instruction)) → b ≡ false → passedOf result (guard b o) ≡ Refused
-unfolding guard passedOf
-fail result o e = rw e
-
 -- n operands and c words of a constant, by the row
-module _ (s : List ℕ) (at result : ℕ) (row : Ports) (h : Begun s at result row) {c : ℕ} (ec : c ≡ constantIn (row .form) (row .words)) where
+module _ (s : List ℕ) (at from result : ℕ) (row : Ports) (h : Begun s at from result row) {c : ℕ} (ec : c ≡ constantIn (row .form) (row .words)) where
   abbrev k : ℕ
   k = byte s at
 
@@ -148,67 +137,66 @@ module _ (s : List ℕ) (at result : ℕ) (row : Ports) (h : Begun s at result r
   constants-is : constantWords (kindOf k) ≡ c
   constants-is = ap (λ (r : Ports). constantIn (r .form) (r .words)) row-back ∙ sym ec
 
-  end-is : endOf k (at + 2) ≡ at + 2 + (2 * n + 8 * c)
+  end-is : endOf k from ≡ from + (2 * n + 8 * c)
   end-is = let a : arity (kindOf k) ≡ n = operands-is in let b : constantWords (kindOf k) ≡ c = constants-is in omega arith
 
   below-is :
-      allBelow result (takes (kindOf k) t) (addresses (arity (kindOf k)) s (at + 2))
-      ≡ allBelow result (types n (own t (row .first)) (own t (row .rest))) (addresses n s (at + 2))
-  below-is = ap (λ (r : Ports). allBelow result (types (r .operands) (own t (r .first)) (own t (r .rest))) (addresses (r .operands) s (at + 2))) row-back
+      allBelow result (takes (kindOf k) t) (addresses (arity (kindOf k)) s from)
+      ≡ allBelow result (types n (own t (row .first)) (own t (row .rest))) (addresses n s from)
+  below-is = ap (λ (r : Ports). allBelow result (types (r .operands) (own t (r .first)) (own t (r .rest))) (addresses (r .operands) s from)) row-back
 
   allowed-is :
-      every constantWord (constants (constantWords (kindOf k)) s (at + 2 + 2 * arity (kindOf k))) ≡ every constantWord (constants c s (at + 2 + 2 * n))
+      every constantWord (constants (constantWords (kindOf k)) s (from + 2 * arity (kindOf k))) ≡ every constantWord (constants c s (from + 2 * n))
   allowed-is =
-      ap (λ (i : ℕ). every constantWord (constants (constantWords (kindOf k)) s (at + 2 + 2 * i))) operands-is
-      ∙ ap (λ (i : ℕ). every constantWord (constants i s (at + 2 + 2 * n))) constants-is
+      ap (λ (i : ℕ). every constantWord (constants (constantWords (kindOf k)) s (from + 2 * i))) operands-is
+      ∙ ap (λ (i : ℕ). every constantWord (constants i s (from + 2 * n))) constants-is
 
   words-is : wordsGiven k t ≡ resultWords row t
   words-is = sym (words-given (kindOf k) t) ∙ ap (λ (r : Ports). resultWords r t) row-back
 
-  begun : passedOf result (readInstruction s at result) ≡ passedOf result (readKind k t s (at + 2) result)
-  begun = pass result _ (le-leb (at + 2) (length s) (h .bytes))
+  abbrev below : Bool
+  below = allBelow result (types n (own t (row .first)) (own t (row .rest))) (addresses n s from)
 
-  not-executable : executable (row .form) ≡ false → Refused ≡ passedOf result (readInstruction s at result)
-  not-executable e = sym (begun ∙ fail result _ (legal-is ∙ ap (λ (b : Bool). b && typeFits row t) e))
+  abbrev allowed : Bool
+  allowed = every constantWord (constants c s (from + 2 * n))
 
-  wrong-type : typeFits row t ≡ false → Refused ≡ passedOf result (readInstruction s at result)
-  wrong-type e = sym (begun ∙ fail result _ (legal-is ∙ ap (λ (b : Bool). executable (row .form) && b) e ∙ and-false (executable (row .form))))
+  illegal : legalInstruction (kindOf k) t ≡ false → Refused ≡ instructionPassed s at from result
+  unfolding instructionPassed
+  illegal e = rw e
 
-  module _ (can : executable (row .form) ≡ true) where
-    legal-by : legalInstruction (kindOf k) t ≡ typeFits row t
-    legal-by = legal-is ∙ ap (λ (b : Bool). b && typeFits row t) can
+  not-executable : executable (row .form) ≡ false → Refused ≡ instructionPassed s at from result
+  not-executable e = illegal (legal-is ∙ ap (λ (b : Bool). b && typeFits row t) e)
 
-    module _ (right : typeFits row t ≡ true) where
-      too-short : length s < at + 2 + (2 * n + 8 * c) → Refused ≡ passedOf result (readInstruction s at result)
-      too-short l =
-          let e : endOf k (at + 2) ≡ at + 2 + (2 * n + 8 * c) = end-is in
-          sym (begun ∙ pass result _ (legal-by ∙ right) ∙ fail result _ (lt-leb (endOf k (at + 2)) (length s) (omega arith)))
+  wrong-type : typeFits row t ≡ false → Refused ≡ instructionPassed s at from result
+  wrong-type e = illegal (legal-is ∙ ap (λ (b : Bool). executable (row .form) && b) e ∙ and-false (executable (row .form)))
 
-      module _ (fits : at + 2 + (2 * n + 8 * c) ≤ length s) where
-        fitted : passedOf result (readInstruction s at result)
-            ≡ passedOf result (readOperands k t (addresses (arity (kindOf k)) s (at + 2)) (constants (constantWords (kindOf k)) s (at + 2 + 2 * arity (kindOf k))) result (endOf k (at + 2)))
-        fitted =
-            let e : endOf k (at + 2) ≡ at + 2 + (2 * n + 8 * c) = end-is in
-            begun ∙ pass result _ (legal-by ∙ right) ∙ pass result _ (le-leb (endOf k (at + 2)) (length s) (omega arith))
+  module _ (can : executable (row .form) ≡ true) (right : typeFits row t ≡ true) where
+    is-followed : followed s (from + (2 * n + 8 * c)) (below && allowed) (result + resultWords row t) ≡ instructionPassed s at from result
+    unfolding instructionPassed
+    is-followed =
+        let words = result + resultWords row t in
+        let xs = addresses (arity (kindOf k)) s from in
+        let cs = constants (constantWords (kindOf k)) s (from + 2 * arity (kindOf k)) in
+        let good = allBelow result (takes (kindOf k) t) xs && every constantWord cs in
+        ap (λ (e : ℕ). followed s e (below && allowed) words) (sym end-is)
+        ∙ ap₂ (λ (x y : Bool). followed s (endOf k from) (x && y) words) (sym below-is) (sym allowed-is)
+        ∙ ap (λ (w : ℕ). followed s (endOf k from) good (result + w)) (sym words-is)
+        ∙ ap (λ (b : Bool). cond b (followed s (endOf k from) good (result + wordsGiven k t)) Refused) (sym (legal-is ∙ ap₂ (λ (x y : Bool). x && y) can right))
 
-        too-high : allBelow result (types n (own t (row .first)) (own t (row .rest))) (addresses n s (at + 2)) ≡ false
-            → Refused ≡ passedOf result (readInstruction s at result)
-        too-high e = sym (fitted ∙ fail result _ (below-is ∙ e))
+    too-short : length s < from + (2 * n + 8 * c) → Refused ≡ instructionPassed s at from result
+    too-short l = short s (from + (2 * n + 8 * c)) (below && allowed) (result + resultWords row t) l ∙ is-followed
 
-        module _ (below : allBelow result (types n (own t (row .first)) (own t (row .rest))) (addresses n s (at + 2)) ≡ true) where
-          not-allowed : every constantWord (constants c s (at + 2 + 2 * n)) ≡ false → Refused ≡ passedOf result (readInstruction s at result)
-          not-allowed e = sym (fitted ∙ pass result _ (below-is ∙ below) ∙ fail result _ (allowed-is ∙ e))
+    too-high : below ≡ false → Refused ≡ instructionPassed s at from result
+    too-high e = wrong s (from + (2 * n + 8 * c)) (below && allowed) (result + resultWords row t) (ap (λ (b : Bool). b && allowed) e) ∙ is-followed
 
-          right-here : every constantWord (constants c s (at + 2 + 2 * n)) ≡ true → {a b : ℕ}
-              → a ≡ at + 2 + (2 * n + 8 * c) → b ≡ result + resultWords row t
-              → Passed (record { at = a; result = b }) ≡ passedOf result (readInstruction s at result)
-          unfolding passedOf
-          right-here e {a} {b} ea eb =
-              let p : a ≡ endOf k (at + 2) = ea ∙ sym end-is in
-              let q : b ≡ result + wordsGiven k t = eb ∙ ap (λ (w : ℕ). result + w) (sym words-is) in
-              ap (λ (x : ℕ). Passed (record { at = x; result = b })) p
-              ∙ ap (λ (y : ℕ). Passed (record { at = endOf k (at + 2); result = y })) q
-              ∙ sym (fitted ∙ pass result _ (below-is ∙ below) ∙ pass result _ (allowed-is ∙ e))
+    not-allowed : allowed ≡ false → Refused ≡ instructionPassed s at from result
+    not-allowed e =
+        wrong s (from + (2 * n + 8 * c)) (below && allowed) (result + resultWords row t) (ap (λ (b : Bool). below && b) e ∙ and-false below) ∙ is-followed
+
+    right-here : from + (2 * n + 8 * c) ≤ length s → below ≡ true → allowed ≡ true → {a b : ℕ} → a ≡ from + (2 * n + 8 * c) → b ≡ result + resultWords row t
+        → Passed (record { at = a; result = b }) ≡ instructionPassed s at from result
+    right-here l x y ea eb =
+        whole s (from + (2 * n + 8 * c)) (below && allowed) (result + resultWords row t) l (ap₂ (λ (x y : Bool). x && y) x y) ea eb ∙ is-followed
 
 -- ---- an instruction, by what its row says
 
@@ -216,7 +204,7 @@ own-none : (p : ℕ) → own 0 p ≡ p
 own-none zero = refl
 own-none (suc p) = ap (λ (b : Bool). cond b 0 (suc p)) (ne-eqb (suc p) 0 (λ e. absurd (omega arith)))
 
-module _ (s : List ℕ) (at result : ℕ) (row : Ports) (h : Begun s at result row) where
+module _ (s : List ℕ) (at from result : ℕ) (row : Ports) (h : Begun s at from result row) where
   abbrev type : ℕ
   type = byte s (at + 1)
 
@@ -232,19 +220,19 @@ module _ (s : List ℕ) (at result : ℕ) (row : Ports) (h : Begun s at result r
   -- operands, and no constant
   operands-here : (row .operands ≡ 0 → ⊥) → typeFits row type ≡ true → (u v next : ℕ) → own type (row .first) ≡ u → own type (row .rest) ≡ v
       → next ≡ result + resultWords row type
-      → operandsPassed s (at + 2) (row .operands) u v result next ≡ passedOf result (readInstruction s at result)
+      → operandsPassed s from (row .operands) u v result next ≡ instructionPassed s at from result
   operands-here n right u v next eu ev en =
       let (can, z, w) = of-operands row shape n in
-      let below : allBelow result (types (row .operands) (own type (row .first)) (own type (row .rest))) (addresses (row .operands) s (at + 2))
-      ≡ allBelow result (types (row .operands) u v) (addresses (row .operands) s (at + 2)) =
+      let below : allBelow result (types (row .operands) (own type (row .first)) (own type (row .rest))) (addresses (row .operands) s from)
+      ≡ allBelow result (types (row .operands) u v) (addresses (row .operands) s from) =
       rw (eu, ev) refl in
-      followed-is s (at + 2 + 2 * row .operands) (allBelow result (types (row .operands) u v) (addresses (row .operands) s (at + 2))) next
-      (λ l. too-short s at result row h (sym z) can right (omega arith))
-      (λ l e. too-high s at result row h (sym z) can right (omega arith) (below ∙ e))
-      (λ l e. right-here s at result row h (sym z) can right (omega arith) (below ∙ e) refl (omega arith) en)
+      followed-is s (from + 2 * row .operands) (allBelow result (types (row .operands) u v) (addresses (row .operands) s from)) next
+      (λ l. too-short s at from result row h (sym z) can right (omega arith))
+      (λ l e. too-high s at from result row h (sym z) can right (below ∙ e))
+      (λ l e. right-here s at from result row h (sym z) can right (omega arith) (below ∙ e) refl (omega arith) en)
 
   pub typed-here : hasType row ≡ true → isType type ≡ true → (next : ℕ) → next ≡ result + width type
-      → operandsPassed s (at + 2) (row .operands) type type result next ≡ passedOf result (readInstruction s at result)
+      → operandsPassed s from (row .operands) type type result next ≡ instructionPassed s at from result
   typed-here e f next q =
       let (x, y) = and-inv (eqb (row .words) 0) (leb 1 (row .operands)) e in
       let some : 1 ≤ row .operands = leb-true 1 (row .operands) y in
@@ -255,15 +243,15 @@ module _ (s : List ℕ) (at result : ℕ) (row : Ports) (h : Begun s at result r
       (ap (own type) (eqb-true (row .first) 0 a)) (ap (own type) (eqb-true (row .rest) 0 b))
       (q ∙ ap (λ (b : Bool). result + cond b (width type) (row .words)) (sym e))
 
-  pub typed-wrong : hasType row ≡ true → isType type ≡ false → Refused ≡ passedOf result (readInstruction s at result)
-  typed-wrong e f = wrong-type s at result row h refl (fits-typed e ∙ f)
+  pub typed-wrong : hasType row ≡ true → isType type ≡ false → Refused ≡ instructionPassed s at from result
+  typed-wrong e f = wrong-type s at from result row h refl (fits-typed e ∙ f)
 
   module _ (e : hasType row ≡ false) where
-    pub plain-wrong : (type ≡ 0 → ⊥) → Refused ≡ passedOf result (readInstruction s at result)
-    plain-wrong n = wrong-type s at result row h refl (fits-plain e ∙ ne-eqb type 0 n)
+    pub plain-wrong : (type ≡ 0 → ⊥) → Refused ≡ instructionPassed s at from result
+    plain-wrong n = wrong-type s at from result row h refl (fits-plain e ∙ ne-eqb type 0 n)
 
-    pub plain-none : executable (row .form) ≡ false → Refused ≡ passedOf result (readInstruction s at result)
-    plain-none f = not-executable s at result row h refl f
+    pub plain-none : executable (row .form) ≡ false → Refused ≡ instructionPassed s at from result
+    plain-none f = not-executable s at from result row h refl f
 
     module _ (z : type ≡ 0) (next : ℕ) (q : next ≡ result + row .words) where
       right : typeFits row type ≡ true
@@ -272,19 +260,19 @@ module _ (s : List ℕ) (at result : ℕ) (row : Ports) (h : Begun s at result r
       words : next ≡ result + resultWords row type
       words = q ∙ ap (λ (b : Bool). result + cond b (width type) (row .words)) (sym e)
 
-      pub plain-here : (row .operands ≡ 0 → ⊥) → operandsPassed s (at + 2) (row .operands) (row .first) (row .rest) result next ≡ passedOf result (readInstruction s at result)
+      pub plain-here : (row .operands ≡ 0 → ⊥) → operandsPassed s from (row .operands) (row .first) (row .rest) result next ≡ instructionPassed s at from result
       plain-here n =
           operands-here n right (row .first) (row .rest) next
           (ap (λ (x : ℕ). own x (row .first)) z ∙ own-none (row .first)) (ap (λ (x : ℕ). own x (row .rest)) z ∙ own-none (row .rest)) words
 
-      pub constant-here : executable (row .form) ≡ true → row .operands ≡ 0 → constantPassed s (at + 2) (row .words) next ≡ passedOf result (readInstruction s at result)
+      pub constant-here : executable (row .form) ≡ true → row .operands ≡ 0 → constantPassed s from (row .words) next ≡ instructionPassed s at from result
       constant-here can n =
           let ec = sym (of-constant row shape n can) in
-          let from : at + 2 ≡ at + 2 + 2 * row .operands = omega arith in
-          let moved : every constantWord (constants (row .words) s (at + 2 + 2 * row .operands)) ≡ every constantWord (constants (row .words) s (at + 2)) =
-          ap (λ (a : ℕ). every constantWord (constants (row .words) s a)) (sym from) in
-          let below = no-operand s (at + 2) (row .operands) (own type (row .first)) (own type (row .rest)) result n in
-          followed-is s (at + 2 + 8 * row .words) (every constantWord (constants (row .words) s (at + 2))) next
-          (λ l. too-short s at result row h ec can right (omega arith))
-          (λ l f. not-allowed s at result row h ec can right (omega arith) below (moved ∙ f))
-          (λ l f. right-here s at result row h ec can right (omega arith) below (moved ∙ f) (omega arith) words)
+          let same : from ≡ from + 2 * row .operands = omega arith in
+          let moved : every constantWord (constants (row .words) s (from + 2 * row .operands)) ≡ every constantWord (constants (row .words) s from) =
+          ap (λ (a : ℕ). every constantWord (constants (row .words) s a)) (sym same) in
+          let below = no-operand s from (row .operands) (own type (row .first)) (own type (row .rest)) result n in
+          followed-is s (from + 8 * row .words) (every constantWord (constants (row .words) s from)) next
+          (λ l. too-short s at from result row h ec can right (omega arith))
+          (λ l f. not-allowed s at from result row h ec can right (moved ∙ f))
+          (λ l f. right-here s at from result row h ec can right (omega arith) below (moved ∙ f) (omega arith) words)

@@ -1,7 +1,7 @@
 -- What a well formed code tells the run, and what the definition then answers.
 use Prim.Native.Nat.{ℕ, suc, _+_, _-_, _*_, _≤_, _<_}
 use mathlib.Core.Path.{_≡_, refl, ap, sym, _∙_, subst}
-use mathlib.Core.Bool.{Bool, true, false, _&&_}
+use mathlib.Core.Bool.{Bool, true, false, _&&_, cond}
 use mathlib.Core.List.{List, [], _∷_, map}
 use mathlib.Core.Option.{Option, none, some}
 use native.Mathlib.Omega.{arith}
@@ -15,23 +15,25 @@ use Rattle.value.specs.Typed.{Canonical}
 use Rattle.value.proofs.Laws.{same-word}
 use Rattle.base.specs.Outcome.{Outcome, ok, fault, _>>=_, _>>_, need}
 use Rattle.base.specs.Bytes.{byte, u16}
-use Rattle.base.specs.Limits.{portWordLimit, withinLimits}
+use Rattle.base.specs.Limits.{portWordLimit, withinLimits, headerLength}
 use Rattle.base.proofs.Bools.{and-inv, and-false}
 use Rattle.bytecode.specs.Run.{Instruction, BoardList, execute, executeAll, run}
-use Rattle.bytecode.specs.Code.{addresses, allLess, Listed, readInstructions, countsFit, readCounts, codeMarked, decode}
+use Rattle.bytecode.specs.Ranges.{Range, behind}
+use Rattle.bytecode.specs.Version.{Version, version1, version2, versionOf}
+use Rattle.bytecode.specs.Code.{addresses, readable, argumentWords, Listed, readInstructions, countsFit, readCounts, codeMarked, decode}
 use Rattle.bytecode.specs.Answers.{Buffers, ran}
-use Rattle.bytecode.proofs.Decoded.{guard-inv, then-inv, addresses-length, all-less}
+use Rattle.bytecode.proofs.Decoded.{guard-inv, then-inv, addresses-length}
+use Rattle.bytecode.proofs.Readable.{readable-behind, behind-grows}
 use Rattle.base.proofs.Lists.{some-is, each-less}
 use Rattle.bytecode.proofs.Origins.{execute-length}
 use Rattle.runner.specs.declared.Counts.{Counts}
 use Rattle.runner.specs.declared.Checked.the-variants.{Formed, Malformed}
 use Rattle.runner.specs.declared.Ran.the-variants.{Done, Refused}
-use Rattle.executor.specs.Instructions.{CanonicalBefore, afterAll, Instructions}
-use Rattle.executor.proofs.Canonical.{after-sets}
-use Rattle.executor.proofs.Loop.{words-grow}
+use Rattle.executor.specs.Instructions.{versionBy, CanonicalReads, afterAll, Instructions}
+use Rattle.executor.proofs.Canonical.{front-sets}
 use Rattle.runner.specs.Checks.{countsOf, checkedOf}
 use Rattle.runner.specs.Runs.{answerOf, workAfter, outAfter, Answered, memoryOf, outputsOf, OutputsReady}
-use Rattle.runner.proofs.Passing.{count-is}
+use Rattle.runner.proofs.Whole.{count-is}
 
 pub record Decoded (s : List ℕ) (c : Counts) : Type 0 where
   pub list : BoardList
@@ -39,9 +41,12 @@ pub record Decoded (s : List ℕ) (c : Counts) : Type 0 where
   pub arguments : c .arguments ≡ list .arguments
   pub outputs : c .outputs ≡ length (list .outputs)
   pub words : c .words ≡ list .words
+  pub long : headerLength ≤ length s
+  pub version : Version
+  pub version-is : versionOf (u16 s 3) ≡ some version
   pub listed : Listed
-  pub reads : readInstructions (c .instructions) s 12 (c .arguments) ≡ some listed
-  pub same-words : listed .words ≡ c .words
+  pub reads : readInstructions version (c .instructions) s headerLength (argumentWords (c .arguments)) ≡ some listed
+  pub same-words : behind (listed .written) ≡ c .words
   pub instructions : listed .instructions ≡ list .instructions
   pub places : list .outputs ≡ addresses (c .outputs) s (length s - 2 * c .outputs)
   pub fits : 2 * c .outputs ≤ length s
@@ -49,17 +54,24 @@ pub record Decoded (s : List ℕ) (c : Counts) : Type 0 where
   pub first : c .arguments ≤ c .words
   pub small : c .outputs ≤ portWordLimit
 
-of-counts : (s : List ℕ) (a o n w : ℕ) (b : BoardList) (c : Counts) → readCounts s a o n w ≡ some b → decode s ≡ some b
-    → countsOf b ≡ c → Decoded s c
-of-counts s a o n w b c e d q =
+-- words that may be read stand before the word count
+each-below : (v : Version) (written : List Range) (xs : List ℕ) → every (readable v written) xs ≡ true → Each (λ a. a < behind written) xs
+each-below v written [] e = tt
+each-below v written (x ∷ xs) e =
+    let (p, q) = and-inv (readable v written x) (every (readable v written) xs) e in
+    (readable-behind v written x p, each-below v written xs q)
+
+of-counts : (s : List ℕ) (v : Version) (a o n w : ℕ) (b : BoardList) (c : Counts) → headerLength ≤ length s → versionOf (u16 s 3) ≡ some v → readCounts v s a o n w ≡ some b
+    → decode s ≡ some b → countsOf b ≡ c → Decoded s c
+of-counts s v a o n w b c long ev e d q =
     let (t, e1) = guard-inv (countsFit a o n w) _ b e in
     let (t2, l4) = and-inv (leb a portWordLimit && leb 1 o && leb o portWordLimit) (withinLimits n w) t in
     let (t3, l3) = and-inv (leb a portWordLimit && leb 1 o) (leb o portWordLimit) t2 in
     let few : o ≤ portWordLimit = leb-true o portWordLimit l3 in
-    let (l, el, e2) = then-inv (readInstructions n s 12 a) _ b e1 in
-    let (u1, e3) = guard-inv (eqb (l .words) w) _ b e2 in
+    let (l, el, e2) = then-inv (readInstructions v n s 12 (argumentWords a)) _ b e1 in
+    let (u1, e3) = guard-inv (eqb (behind (l .written)) w) _ b e2 in
     let (u2, e4) = guard-inv (eqb (l .at + 2 * o) (length s)) _ b e3 in
-    let (u3, e5) = guard-inv (allLess w (addresses o s (l .at))) _ b e4 in
+    let (u3, e5) = guard-inv (every (readable v (l .written)) (addresses o s (l .at))) _ b e4 in
     let r : record { arguments = a; instructions = l .instructions; words = w; outputs = addresses o s (l .at) } ≡ b = some-is e5 in
     let ra : a ≡ b .arguments = ap (λ (x : BoardList). x .arguments) r in
     let ri : l .instructions ≡ b .instructions = ap (λ (x : BoardList). x .instructions) r in
@@ -69,14 +81,14 @@ of-counts s a o n w b c e d q =
     let co : length (b .outputs) ≡ c .outputs = ap (λ (x : Counts). x .outputs) q in
     let ci : length (b .instructions) ≡ c .instructions = ap (λ (x : Counts). x .instructions) q in
     let cw : b .words ≡ c .words = ap (λ (x : Counts). x .words) q in
-    let n-is : n ≡ c .instructions = sym (count-is n s 12 a l el) ∙ ap length ri ∙ ci in
+    let n-is : n ≡ c .instructions = sym (count-is v n s 12 (argumentWords a) l el) ∙ ap length ri ∙ ci in
     let o-is : o ≡ c .outputs = sym (addresses-length o s (l .at)) ∙ ap length ro ∙ co in
     let a-is : a ≡ c .arguments = ra ∙ ca in
     let w-is : w ≡ c .words = rw′ ∙ cw in
-    let lw : l .words ≡ w = eqb-true (l .words) w u1 in
+    let lw : behind (l .written) ≡ w = eqb-true (behind (l .written)) w u1 in
     let full : l .at + 2 * o ≡ length s = eqb-true (l .at + 2 * o) (length s) u2 in
     let at-is : l .at ≡ length s - 2 * c .outputs = omega arith in
-    let grow : a ≤ l .words = words-grow n s 12 a l el in
+    let grow : behind (argumentWords a) ≤ behind (l .written) = behind-grows v n s 12 (argumentWords a) l el in
     let moved : addresses o s (l .at) ≡ addresses (c .outputs) s (length s - 2 * c .outputs) =
     ap (λ (k : ℕ). addresses k s (l .at)) o-is ∙ ap (addresses (c .outputs) s) at-is in
     record {
@@ -85,13 +97,16 @@ of-counts s a o n w b c e d q =
       arguments = sym ca;
       outputs = sym co;
       words = sym cw;
+      long = long;
+      version = v;
+      version-is = ev;
       listed = l;
-      reads = ap (λ (k : ℕ). readInstructions k s 12 (c .arguments)) (sym n-is) ∙ ap (readInstructions n s 12) (sym a-is) ∙ el;
+      reads = ap (λ (k : ℕ). readInstructions v k s 12 (argumentWords (c .arguments))) (sym n-is) ∙ ap (λ (k : ℕ). readInstructions v n s 12 (argumentWords k)) (sym a-is) ∙ el;
       same-words = lw ∙ w-is;
       instructions = ri;
       places = sym ro ∙ moved;
       fits = omega arith;
-      below = subst (λ (xs : List ℕ). Each (λ x. x < c .words) xs) moved (subst (λ (k : ℕ). Each (λ x. x < k) (addresses o s (l .at))) w-is (all-less w (addresses o s (l .at)) u3));
+      below = subst (λ (xs : List ℕ). Each (λ x. x < c .words) xs) moved (subst (λ (k : ℕ). Each (λ x. x < k) (addresses o s (l .at))) (lw ∙ w-is) (each-below v (l .written) (addresses o s (l .at)) u3));
       first = omega arith;
       small = omega arith;
     }
@@ -113,7 +128,8 @@ decoded s c e =
     let (b, d, q) = is-formed (decode s) c e in
     let (t, e1) = guard-inv (leb 12 (length s)) _ b d in
     let (u, e2) = guard-inv (codeMarked s) _ b e1 in
-    of-counts s (byte s 5) (byte s 6) (u16 s 8) (u16 s 10) b c e2 d q
+    let (v, ev, e3) = then-inv (versionOf (u16 s 3)) _ b e2 in
+    of-counts s v (byte s 5) (byte s 6) (u16 s 8) (u16 s 10) b c (leb-true _ _ t) ev e3 d q
 
 -- ---- refusals
 
@@ -176,12 +192,25 @@ module _ (s arguments work out : List ℕ) where
 
 -- ---- the run of a code that was checked
 
-module _ (s arguments work out : List ℕ) {c : Counts} (d : Decoded s c) {first all : List ℕ} (e1 : first ≡ sets work 0 arguments)
-    (e2 : all ≡ afterAll (readInstructions (c .instructions) s 12 (c .arguments)) first) where
+-- the version by whether the header says 2
+pub version-by : (s : List ℕ) (v : Version) → versionOf (u16 s 3) ≡ some v → {b : Bool} → b ≡ eqb (u16 s 3) 2 → versionBy b ≡ v
+version-by s v e {b} q = ap versionBy q ∙ go (eqb (u16 s 3) 1) refl (eqb (u16 s 3) 2) refl e
+  where
+    go : (x : Bool) → eqb (u16 s 3) 1 ≡ x → (y : Bool) → eqb (u16 s 3) 2 ≡ y → cond x (some version1) (cond y (some version2) none) ≡ some v → versionBy y ≡ v
+    go true p true r e = let a : u16 s 3 ≡ 1 = eqb-true _ _ p in let b : u16 s 3 ≡ 2 = eqb-true _ _ r in absurd (omega arith)
+    go true p false r e = some-is e
+    go false p true r e = some-is e
+    go false p false r e = let z : _≡_ {A = ℕ} 0 1 = cc in absurd (omega arith)
+
+module _ (s arguments work out : List ℕ) {c : Counts} (d : Decoded s c) {v : Version} (ev : v ≡ d .version) {first all : List ℕ} (e1 : first ≡ sets work 0 arguments)
+    (e2 : all ≡ afterAll (readInstructions v (c .instructions) s headerLength (argumentWords (c .arguments))) first) where
   memory-is : all ≡ run (d .list) arguments work .memory
   unfolding afterAll
   memory-is =
-      e2 ∙ ap (λ (x : Option Listed). afterAll x first) (d .reads) ∙ ap (executeAll (d .listed .instructions)) e1
+      e2
+      ∙ ap (λ (u : Version). afterAll (readInstructions u (c .instructions) s headerLength (argumentWords (c .arguments))) first) ev
+      ∙ ap (λ (x : Option Listed). afterAll x first) (d .reads)
+      ∙ ap (executeAll (d .listed .instructions)) e1
       ∙ ap (λ (is : List Instruction). executeAll is (sets work 0 arguments)) (d .instructions)
 
   pub ran-memory : all ≡ memoryOf (decode s) arguments work
@@ -204,17 +233,23 @@ each-canonical (x ∷ xs) e f =
     let (a, b) = and-inv (argumentWord x) (every argumentWord xs) e in
     (same-word x (f 0, a), each-canonical xs b (λ i. f (suc i)))
 
-pub copied : {m : List ℕ} (work arguments : List ℕ) {n : ℕ} → m ≡ sets work 0 arguments → length arguments ≡ n → n ≤ length work
-    → every argumentWord arguments ≡ true → ((i : ℕ) → Word (wordAt arguments i)) → CanonicalBefore n m
-copied {m} work arguments {n} e l r a f =
-    let z : 0 + length arguments ≡ n = omega arith in
-    subst (λ (x : List ℕ). CanonicalBefore n x) (sym e)
-    (subst (λ (k : ℕ). CanonicalBefore k (sets work 0 arguments)) z
-    (after-sets arguments work 0 (each-canonical arguments a f) (omega arith) (λ i h. absurd (omega arith))))
+pub copied : (v : Version) {m : List ℕ} (work arguments : List ℕ) {n : ℕ} → m ≡ sets work 0 arguments → length arguments ≡ n → n ≤ length work
+    → every argumentWord arguments ≡ true → ((i : ℕ) → Word (wordAt arguments i)) → CanonicalReads v (argumentWords n) m
+copied v {m} work arguments {n} e l r a f =
+    subst (CanonicalReads v (argumentWords n)) (sym e)
+    (subst (λ (k : ℕ). CanonicalReads v (argumentWords k) (sets work 0 arguments)) l
+    (front-sets v arguments work (each-canonical arguments a f) (omega arith)))
 
-pub instructions-ready : (s : List ℕ) (c : Counts) (m : List ℕ) → Decoded s c → c .words ≤ length m → CanonicalBefore (c .arguments) m
-    → Instructions s (c .instructions) (c .arguments) m
-instructions-ready s c m d h k = let w = d .same-words in record { listed = d .listed; reads = d .reads; room = omega arith; canonical = k }
+pub instructions-ready : (s : List ℕ) (c : Counts) (m : List ℕ) (d : Decoded s c) → c .words ≤ length m → {v : Version} → v ≡ d .version
+    → CanonicalReads v (argumentWords (c .arguments)) m → Instructions v s (c .instructions) (c .arguments) m
+instructions-ready s c m d h {v} ev k =
+    let w = d .same-words in
+    record {
+      listed = d .listed;
+      reads = ap (λ (u : Version). readInstructions u (c .instructions) s headerLength (argumentWords (c .arguments))) ev ∙ d .reads;
+      room = omega arith;
+      canonical = k;
+    }
 
 pub outputs-ready : (s : List ℕ) (c : Counts) (size room : ℕ) → Decoded s c → c .words ≤ size → c .outputs ≤ room
     → OutputsReady s (length s - 2 * c .outputs) (c .outputs) size room

@@ -22,10 +22,13 @@ unfolding checkedOf
 check-exact s small {r} q = (
   q,
   record {
-    malformed = (λ e. not-well-formed s small .0 (is-malformed (decode s) (sym q ∙ e)), λ h. q ∙ ap checkedOf (not-well-formed s small .1 h));
+    malformed = (
+      λ e v b d. not-well-formed s small .0 (is-malformed (decode s) (sym q ∙ e)) b (v, d),
+      λ h. q ∙ ap checkedOf (not-well-formed s small .1 (λ b (v, d). h v b d)),
+    );
     formed = λ c. (
-      λ e. let (b, d, k) = is-formed (decode s) c (sym q ∙ e) in (b, well-formed s small b .0 d, k),
-      λ (b, d, k). q ∙ ap checkedOf (well-formed s small b .1 d) ∙ ap Formed k,
+      λ e. let (b, d, k) = is-formed (decode s) c (sym q ∙ e) in let (v, d) = well-formed s small b .0 d in (v, b, d, k),
+      λ (v, b, d, k). q ∙ ap checkedOf (well-formed s small b .1 (v, d)) ∙ ap Formed k,
     );
   },
 )
@@ -41,4 +44,4 @@ unfolding answerOf
 run-exact s arguments work out small a =
     let g = ran s arguments work out in
     let (there, back) = Decoded.refused-18 s small arguments work out in
-    (a, (λ e. there (is-fault g 18 0 (sym (a .answer) ∙ e)), λ h. a .answer ∙ ap answerOf (back h)))
+    (a, (λ e v b d. there (is-fault g 18 0 (sym (a .answer) ∙ e)) b (v, d), λ h. a .answer ∙ ap answerOf (back (λ b (v, d). h v b d))))

@@ -1,6 +1,9 @@
 pub mod Walks
+pub mod Marks
 pub mod Checking
+pub mod Reading
 pub mod Passing
+pub mod Whole
 pub mod Buffers
 pub mod Decoding
 pub mod Exact

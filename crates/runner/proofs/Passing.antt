@@ -1,224 +1,333 @@
--- The check of all instructions, and of the whole code.
-use Prim.Native.Nat.{ℕ, zero, suc, _+_, _-_, _*_, _≤_, _<_}
-use mathlib.Core.Path.{_≡_, refl, ap, sym, _∙_}
-use mathlib.Core.Bool.{Bool, true, false, _&&_}
+-- The check of all instructions of either version, and of the list behind the header. The loop's invariant knows the words that are written so far: the loop
+-- keeps the word behind them, and in version 2 a mark for each.
+use Prim.Native.Nat.{ℕ, zero, suc, _+_, _-_, _*_, _≤_, _<_, max}
+use mathlib.Core.Path.{_≡_, refl, ap, ap₂, sym, _∙_, subst}
+use mathlib.Core.Bool.{Bool, true, false, _&&_, cond}
 use mathlib.Core.List.{List, _∷_}
 use mathlib.Core.Option.{Option, none, some}
 use native.Mathlib.Omega.{arith}
 use native.Mathlib.Numerals.{sub-one}
-use borrow.Author.Tests.{le-leb, lt-leb, eq-eqb, ne-eqb}
-use lib.Dec.{leb, eqb}
+use borrow.Author.Tests.{le-leb, lt-leb, leb-true, leb-false}
+use lib.Dec.{leb}
 use lib.ListN.{length}
 use Rattle.ports.specs.declared.Ports.{Ports}
 use Rattle.ports.specs.Kinds.{kindOf}
-use Rattle.ports.specs.Ports.{rows, executable, typeFits, legalInstruction}
+use Rattle.ports.specs.Ports.{rows, portsOf, takesRow, arity, executable, typeFits}
 use Rattle.ports.proofs.Laws.{no-kind, words-few}
 use Rattle.base.specs.Bytes.{byte, u16}
+use Rattle.base.specs.Lists.{every}
+use Rattle.base.specs.Limits.{wordLimit}
 use Rattle.base.specs.Outcome.{Part}
-use Rattle.bytecode.specs.Run.{Instruction, BoardList}
-use Rattle.bytecode.specs.Code.{guard, then, addresses, allLess, readInstruction, nextWord, Listed, readInstructions, readOutputs, countsFit, readCounts, codeMarked, decode}
+use Rattle.base.proofs.Bools.{and-false}
 use Rattle.base.proofs.Lists.{some-is}
-use Rattle.bytecode.proofs.Decoded.{then-inv, addresses-length}
-use Rattle.runner.specs.declared.Cursor.{Cursor}
+use Rattle.bytecode.specs.Run.{Instruction, spans}
+use Rattle.bytecode.specs.Ranges.{Range, behind, resultValue}
+use Rattle.bytecode.specs.Version.{Version, version1, version2}
+use Rattle.bytecode.specs.Code.{then, addresses, readable, argumentWords, readInstruction, Listed, readInstructions}
+use Rattle.bytecode.proofs.Readable.{behind-grows}
 use Rattle.executor.specs.Execution.{endOf, wordsGiven}
-use Rattle.executor.proofs.Loop.{read-inv}
+use Rattle.executor.specs.Instructions.{versionBy}
+use Rattle.executor.proofs.Loop.{operandsAt}
+use Rattle.runner.specs.declared.Cursor.{Cursor}
+use Rattle.runner.specs.declared.Progress.{Progress}
 use Rattle.runner.specs.declared.Progress.the-variants.{Passed, Refused}
-use Rattle.runner.specs.declared.Checked.the-variants.{Formed, Malformed}
-use Rattle.runner.specs.Checks.{passedOf, endedOf, checkedOf, headerCounts}
+use Rattle.runner.specs.Checks.{marked, Recorded, Extended, instructionPassed, writePassed, Wrote, Placed, Placeable, endedOf, writtenOf, Checkable, Ended}
+use Rattle.runner.proofs.Marks.{records-next, every-same}
+use Rattle.runner.proofs.Reading.{below-reads, Passes, passes, readsOf, instructionOf, none-illegal, none-unread, none-refused, is-read}
 
--- ---- an instruction that is not read
+-- ---- the instructions that are left
 
-pub none-short : (s : List ℕ) (at result : ℕ) → length s < at + 2 → readInstruction s at result ≡ none
-unfolding guard
-none-short s at result h = rw (lt-leb (at + 2) (length s) h)
+refused-apart : {x : Cursor} → Refused ≡ Passed x → ⊥
+refused-apart e = let z : _≡_ {A = ℕ} 0 1 = cc in omega arith
 
-guard-none : {A : Type 0} (b : Bool) → guard {A = A} b none ≡ none
-unfolding guard
-guard-none true = refl
-guard-none false = refl
+passed-is : {x y : Cursor} → Passed x ≡ Passed y → x ≡ y
+passed-is e = cc
 
-pub none-high : (s : List ℕ) (at result : ℕ) → length rows ≤ byte s at → readInstruction s at result ≡ none
-unfolding guard
-none-high s at result h =
-    let e : legalInstruction (kindOf (byte s at)) (byte s (at + 1)) ≡ false =
-    ap (λ (r : Ports). executable (r .form) && typeFits r (byte s (at + 1))) (no-kind (byte s at) h) in
-    rw e (guard-none (leb (at + 2) (length s)))
+pub none-high : (v : Version) (written : List Range) (s : List ℕ) (at : ℕ) → length rows ≤ byte s at → readInstruction v written s at ≡ none
+none-high v written s at h =
+    none-illegal v written s at (ap (λ (r : Ports). executable (r .form) && typeFits r (byte s (at + 1))) (no-kind (byte s at) h))
 
--- ---- the loop
+-- what is read behind the first is what is read behind all
+record Behind (x o : Option Listed) : Type 0 where
+  ends : endedOf x ≡ endedOf o
+  writes : writtenOf x ≡ writtenOf o
 
-after-none : (n : ℕ) (s : List ℕ) (at result : ℕ) → readInstruction s at result ≡ none → endedOf (readInstructions (suc n) s at result) ≡ Refused
-unfolding endedOf then
-after-none n s at result e = rw e
+inner : (o : Option Listed) (i : Instruction) → Behind (then o (λ r. some (record { instructions = i ∷ r .instructions; at = r .at; written = r .written }))) o
+unfolding endedOf writtenOf then
+inner none i = record { ends = refl; writes = refl }
+inner (some l) i = record { ends = refl; writes = refl }
 
-inner : (o : Option Listed) (i : Instruction)
-    → endedOf (then o (λ r. some (record { instructions = i ∷ r .instructions; at = r .at; words = r .words }))) ≡ endedOf o
-unfolding endedOf then
-inner none i = refl
-inner (some l) i = refl
+module _ (v : Version) (s : List ℕ) where
+  after-none : (n at : ℕ) (written : List Range) → readInstruction v written s at ≡ none → endedOf (readInstructions v (suc n) s at written) ≡ Refused
+  unfolding endedOf then
+  after-none n at written e = rw e
 
-after-some : (n : ℕ) (s : List ℕ) (at result : ℕ) (i : Part Instruction) → readInstruction s at result ≡ some i
-    → endedOf (readInstructions (suc n) s at result) ≡ endedOf (readInstructions n s (i .next) (nextWord result (i .it)))
-unfolding then
-after-some n s at result i e = rw e (inner (readInstructions n s (i .next) (nextWord result (i .it))) (i .it))
+  after-some : (n at : ℕ) (written : List Range) (i : Part Instruction) → readInstruction v written s at ≡ some i
+      → Behind (readInstructions v (suc n) s at written) (readInstructions v n s (i .next) (resultValue (i .it) ∷ written))
+  unfolding then
+  after-some n at written i e = rw e (inner (readInstructions v n s (i .next) (resultValue (i .it) ∷ written)) (i .it))
 
--- what the check of one instruction tells
-pub wrong-is : (result : ℕ) (o : Option (Part Instruction)) → passedOf result o ≡ Refused → o ≡ none
-unfolding passedOf
-wrong-is result none e = refl
-wrong-is result (some i) e = let z : _≡_ {A = ℕ} 0 1 = cc in absurd (omega arith)
+  -- words past the limit are not taken back
+  over : (n at : ℕ) (written : List Range) → wordLimit < behind written → endedOf (readInstructions v n s at written) ≡ Refused
+  unfolding endedOf
+  over n at written h = go (readInstructions v n s at written) refl
+    where
+      go : (o : Option Listed) → readInstructions v n s at written ≡ o → endedOf o ≡ Refused
+      go none e = refl
+      go (some l) e =
+          let g : behind written ≤ behind (l .written) = behind-grows v n s at written l e in
+          rw (lt-leb (behind (l .written)) wordLimit (omega arith)) refl
 
-here-is : (result : ℕ) (o : Option (Part Instruction)) (x : Cursor) → passedOf result o ≡ Passed x
-    → (i : Part Instruction) × (o ≡ some i) × (x .at ≡ i .next) × (x .result ≡ nextWord result (i .it))
-unfolding passedOf
-here-is result none x e = let z : _≡_ {A = ℕ} 0 1 = cc in absurd (omega arith)
-here-is result (some i) x e =
-    let q : record { at = i .next; result = nextWord result (i .it) } ≡ x = cc in
-    (i, refl, sym (ap (λ (y : Cursor). y .at) q), sym (ap (λ (y : Cursor). y .result) q))
+-- ---- the invariant
 
-pub stop : (left : ℕ) (s : List ℕ) (at result : ℕ) → 0 < left → readInstruction s at result ≡ none → Refused ≡ endedOf (readInstructions left s at result)
-stop zero s at result h e = absurd (omega arith)
-stop (suc n) s at result h e = sym (after-none n s at result e)
+pub record Going (b : Bool) (s : List ℕ) (o : Option Listed) (left at high : ℕ) (marks : List Bool) : Type 0 where
+  pub written : List Range
+  pub ends : endedOf (readInstructions (versionBy b) left s at written) ≡ endedOf o
+  pub writes : writtenOf (readInstructions (versionBy b) left s at written) ≡ writtenOf o
+  pub high-is : behind written ≡ high
+  pub recorded : Recorded b written marks
+  pub within : at ≤ length s
+  pub small : high + 16 * left ≤ wordLimit + 16 * 65535
+  pub few : left ≤ 65535
 
-pub record Stepped (left : ℕ) (s : List ℕ) (at result : ℕ) (x : Cursor) : Type 0 where
-  pub same : endedOf (readInstructions left s at result) ≡ endedOf (readInstructions (left - 1) s (x .at) (x .result))
-  pub next-at : x .at ≤ length s
-  pub next-result : x .result ≤ result + 16
-
-pub go-on : (left : ℕ) (s : List ℕ) (at result : ℕ) (x : Cursor) → 0 < left → passedOf result (readInstruction s at result) ≡ Passed x → Stepped left s at result x
-go-on zero s at result x h e = absurd (omega arith)
-go-on (suc n) s at result x h e =
-    let (i, ei, ea, er) = here-is result (readInstruction s at result) x e in
-    let r = read-inv s at result i ei in
-    let f : endOf (byte s at) (at + 2) ≤ length s = r .fits in
-    let p : endOf (byte s at) (at + 2) ≡ i .next = ap (λ (y : Part Instruction). y .next) (r .is) in
-    let q : result + wordsGiven (byte s at) (byte s (at + 1)) ≡ nextWord result (i .it) = ap (λ (y : Part Instruction). nextWord result (y .it)) (r .is) in
-    let w : wordsGiven (byte s at) (byte s (at + 1)) ≤ 16 = words-few (kindOf (byte s at)) (byte s (at + 1)) in
+pub start : (b : Bool) (s : List ℕ) (count first : ℕ) (marks : List Bool) → Checkable b s count first marks
+    → Going b s (readInstructions (versionBy b) count s 12 (argumentWords first)) count 12 first marks
+start b s count first marks h =
+    let f : first ≤ 255 = h .first-small in
+    let c : count ≤ 65535 = h .few in
     record {
-      same = after-some n s at result i ei ∙ ap (λ (y : ℕ). endedOf (readInstructions n s y (nextWord result (i .it)))) (sym ea) ∙ ap (λ (y : ℕ). endedOf (readInstructions n s (x .at) y)) (sym er) ∙ rw sub-one;
-      next-at = omega arith;
-      next-result = omega arith;
+      written = argumentWords first;
+      ends = refl;
+      writes = refl;
+      high-is = omega arith;
+      recorded = h .recorded;
+      within = h .long;
+      small = omega arith;
+      few = c;
     }
 
-pub ended : (left : ℕ) (s : List ℕ) (at result : ℕ) → left ≡ 0 → Passed (record { at = at; result = result }) ≡ endedOf (readInstructions left s at result)
-unfolding endedOf
-ended zero s at result z = refl
-ended (suc n) s at result z = absurd (omega arith)
+pub stopped : {b : Bool} {o : Option Listed} {marks : List Bool} → Refused ≡ endedOf o → Ended b o marks Refused
+stopped e = record { answer = e; recorded = λ x q. absurd (refused-apart q) }
 
--- ---- the whole code
+module _ (b : Bool) {s : List ℕ} {o : Option Listed} where
+  pub stop : {left at high : ℕ} {marks : List Bool} (g : Going b s o left at high marks) → 0 < left → readInstruction (versionBy b) (g .written) s at ≡ none
+      → Refused ≡ endedOf o
+  stop {left} {at} g h e = go left h (g .ends)
+    where
+      go : (n : ℕ) → 0 < n → endedOf (readInstructions (versionBy b) n s at (g .written)) ≡ endedOf o → Refused ≡ endedOf o
+      go zero h q = absurd (omega arith)
+      go (suc n) h q = sym (after-none (versionBy b) s n at (g .written) e) ∙ q
 
-at-within : (n : ℕ) (s : List ℕ) (at next : ℕ) (l : Listed) → at ≤ length s → readInstructions n s at next ≡ some l → l .at ≤ length s
-at-within zero s at next l h e = let q : at ≡ l .at = ap (λ (x : Listed). x .at) (some-is e) in omega arith
-at-within (suc n) s at next l h e =
-    let (i, ei, e1) = then-inv (readInstruction s at next) _ l e in
-    let (r, er, e2) = then-inv (readInstructions n s (i .next) (nextWord next (i .it))) _ l e1 in
-    let d = read-inv s at next i ei in
-    let f : endOf (byte s at) (at + 2) ≤ length s = d .fits in
-    let p : endOf (byte s at) (at + 2) ≡ i .next = ap (λ (y : Part Instruction). y .next) (d .is) in
-    let w : r .at ≤ length s = at-within n s (i .next) (nextWord next (i .it)) r (omega arith) er in
-    let q : r .at ≡ l .at = ap (λ (x : Listed). x .at) (some-is e2) in
-    omega arith
+  -- past the first instruction
+  module _ {left at high : ℕ} {marks : List Bool} (g : Going b s o left at high marks) (h : 0 < left) where
+    abbrev v : Version
+    v = versionBy b
 
-pub count-is : (n : ℕ) (s : List ℕ) (at next : ℕ) (l : Listed) → readInstructions n s at next ≡ some l → length (l .instructions) ≡ n
-count-is zero s at next l e = sym (ap (λ (x : Listed). length (x .instructions)) (some-is e))
-count-is (suc n) s at next l e =
-    let (i, ei, e1) = then-inv (readInstruction s at next) _ l e in
-    let (r, er, e2) = then-inv (readInstructions n s (i .next) (nextWord next (i .it))) _ l e1 in
-    sym (ap (λ (x : Listed). length (x .instructions)) (some-is e2)) ∙ ap suc (count-is n s (i .next) (nextWord next (i .it)) r er)
+    abbrev value : Range
+    value = resultValue (instructionOf v (g .written) s at .it)
 
-wrong-end : (o : Option Listed) → endedOf o ≡ Refused → o ≡ none
-unfolding endedOf
-wrong-end none e = refl
-wrong-end (some l) e = let z : _≡_ {A = ℕ} 0 1 = cc in absurd (omega arith)
+    behind-first : (n : ℕ) → 0 < n → readInstruction v (g .written) s at ≡ some (instructionOf v (g .written) s at)
+        → Behind (readInstructions v n s at (g .written)) (readInstructions v (n - 1) s (endOf (byte s at) (operandsAt v at)) (value ∷ g .written))
+    behind-first zero h e = absurd (omega arith)
+    behind-first (suc n) h e = rw sub-one (after-some v s n at (g .written) (instructionOf v (g .written) s at) e)
 
-pub here-end : (o : Option Listed) (x : Cursor) → endedOf o ≡ Passed x → (l : Listed) × (o ≡ some l) × (x .at ≡ l .at) × (x .result ≡ l .words)
-unfolding endedOf
-here-end none x e = let z : _≡_ {A = ℕ} 0 1 = cc in absurd (omega arith)
-here-end (some l) x e =
-    let q : record { at = l .at; result = l .words } ≡ x = cc in
-    (l, refl, sym (ap (λ (y : Cursor). y .at) q), sym (ap (λ (y : Cursor). y .result) q))
+    module _ (e : readInstruction v (g .written) s at ≡ some (instructionOf v (g .written) s at)) where
+      beyond : wordLimit < behind (value ∷ g .written) → Refused ≡ endedOf o
+      beyond l = sym (over v s (left - 1) (endOf (byte s at) (operandsAt v at)) (value ∷ g .written) l) ∙ sym (behind-first left h e .ends) ∙ g .ends
 
-pub end-within : (n : ℕ) (s : List ℕ) (first : ℕ) (x : Cursor) → 12 ≤ length s → endedOf (readInstructions n s 12 first) ≡ Passed x → x .at ≤ length s
-end-within n s first x h e =
-    let (l, el, ea, er) = here-end (readInstructions n s 12 first) x e in
-    let w : l .at ≤ length s = at-within n s 12 first l h el in
-    omega arith
+      on : {after : List Bool} (y : Cursor) → y .at ≡ endOf (byte s at) (operandsAt v at) → y .at ≤ length s → y .result ≡ behind (value ∷ g .written)
+          → y .result + 16 * (left - 1) ≤ wordLimit + 16 * 65535 → Recorded b (value ∷ g .written) after
+          → Going b s o (left - 1) (y .at) (y .result) after
+      on y ea w eh l r =
+          let q = behind-first left h e in
+          let f : left ≤ 65535 = g .few in
+          record {
+            written = value ∷ g .written;
+            ends = ap (λ (a : ℕ). endedOf (readInstructions v (left - 1) s a (value ∷ g .written))) ea ∙ sym (q .ends) ∙ g .ends;
+            writes = ap (λ (a : ℕ). writtenOf (readInstructions v (left - 1) s a (value ∷ g .written))) ea ∙ sym (q .writes) ∙ g .writes;
+            high-is = sym eh;
+            recorded = r;
+            within = w;
+            small = l;
+            few = omega arith;
+          }
 
-pub on-check : {b : Bool} (o : Option BoardList) → b ≡ true → checkedOf (guard b o) ≡ checkedOf o
-unfolding guard
-on-check o e = rw e
+-- ---- a turn of the loop: the row passed, and the result has its place
 
-pub off-check : {b : Bool} (o : Option BoardList) → b ≡ false → checkedOf (guard b o) ≡ Malformed
-unfolding guard checkedOf
-off-check o e = rw e
+pub record Turned (b : Bool) (s : List ℕ) (o : Option Listed) (left : ℕ) (after : List Bool) (r : Progress) : Type 0 where
+  pub refused : r ≡ Refused → Refused ≡ endedOf o
+  pub passed : (y : Cursor) → r ≡ Passed y → Going b s o (left - 1) (y .at) (y .result) after
 
-module _ (s : List ℕ) where
-  pub no-header : length s < 12 → Malformed ≡ checkedOf (decode s)
-  unfolding decode
-  no-header h = sym (off-check _ (lt-leb 12 (length s) h))
+module _ (b : Bool) {s : List ℕ} {o : Option Listed} {left at from high : ℕ} {marks : List Bool} (g : Going b s o left at high marks)
+    (ef : from ≡ operandsAt (versionBy b) at) where
+  row-refused : instructionPassed s at from high ≡ Refused → instructionPassed s at (operandsAt (versionBy b) at) (behind (g .written)) ≡ Refused
+  row-refused e = ap₂ (instructionPassed s at) (sym ef) (g .high-is) ∙ e
 
-  module _ (long : 12 ≤ length s) where
-    pub no-mark : codeMarked s ≡ false → Malformed ≡ checkedOf (decode s)
-    unfolding decode
-    no-mark e = sym (on-check _ (le-leb 12 (length s) long) ∙ off-check _ e)
+  -- the row does not fit
+  pub row-stops : instructionPassed s at from high ≡ Refused → readInstruction (versionBy b) (g .written) s at ≡ none
+  row-stops e = none-refused (versionBy b) (g .written) s at (row-refused e)
 
-    module _ (mark : codeMarked s ≡ true) where
-      read : checkedOf (decode s) ≡ checkedOf (readCounts s (byte s 5) (byte s 6) (u16 s 8) (u16 s 10))
-      unfolding decode
-      read = on-check _ (le-leb 12 (length s) long) ∙ on-check _ mark
+  pub row-passes : {x : Cursor} → instructionPassed s at from high ≡ Passed x → Passes s at (operandsAt (versionBy b) at) (behind (g .written)) x
+  row-passes {x} e = passes s at (operandsAt (versionBy b) at) (behind (g .written)) x (ap₂ (instructionPassed s at) (sym ef) (g .high-is) ∙ e)
 
-      pub over-limits : countsFit (byte s 5) (byte s 6) (u16 s 8) (u16 s 10) ≡ false → Malformed ≡ checkedOf (decode s)
-      over-limits e = sym (read ∙ off-check _ e)
+-- version 1
+turned-next : {s : List ℕ} {o : Option Listed} {left at high : ℕ} {marks after : List Bool} {r : Progress} (g : Going false s o left at high marks) → 0 < left
+    → {x : Cursor} → Passes s at (operandsAt version1 at) (behind (g .written)) x → r ≡ Passed x → Turned false s o left after r
+turned-next {s} {o} {left} {at} {high} {marks} {after} {r} g h {x} p e =
+    let k = byte s at in
+    let t = byte s (at + 1) in
+    let f : endOf k (operandsAt version1 at) ≤ length s = leb-true _ _ (p .fits) in
+    let i = is-read version1 (g .written) s at (omega arith) p
+    (below-reads (g .written) (takesRow (portsOf (kindOf k)) t) (addresses (arity (kindOf k)) s (operandsAt version1 at)) (p .stands)) in
+    let ea : x .at ≡ endOf k (operandsAt version1 at) = p .at-is in
+    let eh : x .result ≡ behind (g .written) + wordsGiven k t = p .result-is in
+    let w : wordsGiven k t ≤ 16 = words-few (kindOf k) t in
+    let q : behind (g .written) ≡ high = g .high-is in
+    let z : high + 16 * left ≤ wordLimit + 16 * 65535 = g .small in
+    let go : Going false s o (left - 1) (x .at) (x .result) after = on false g h i x ea (omega arith) (omega arith) (omega arith) tt in
+    record {
+      refused = λ u. absurd (refused-apart (sym u ∙ e));
+      passed = λ y u. subst (λ (c : Cursor). Going false s o (left - 1) (c .at) (c .result) after) (passed-is (sym e ∙ u)) go;
+    }
 
-      module _ (limits : countsFit (byte s 5) (byte s 6) (u16 s 8) (u16 s 10) ≡ true) where
-        opened : checkedOf (decode s) ≡ checkedOf (then (readInstructions (u16 s 8) s 12 (byte s 5)) (readOutputs s (byte s 5) (byte s 6) (u16 s 10)))
-        opened = read ∙ on-check _ limits
+-- version 2
+turned-at : {s : List ℕ} {o : Option Listed} {left at high : ℕ} {marks after : List Bool} {row : Ports} {r : Progress} (g : Going true s o left at high marks)
+    → 0 < left → {x : Cursor} → Passes s at (operandsAt version2 at) (behind (g .written)) x → row ≡ portsOf (kindOf (byte s at))
+    → Wrote s at row (x .result - high) high (x .at) marks after r → Turned true s o left after r
+unfolding writePassed
+turned-at {s} {o} {left} {at} {high} {marks} {after} {row} {r} g h {x} p er w =
+    go (every (marked marks) (spans (takesRow row t) (addresses (row .operands) s (at + 2 + 2)))) refl (leb last (length marks)) refl
+  where
+    k : ℕ
+    k = byte s at
 
-        pub no-instructions : endedOf (readInstructions (u16 s 8) s 12 (byte s 5)) ≡ Refused → Malformed ≡ checkedOf (decode s)
-        unfolding then checkedOf
-        no-instructions e = sym (opened ∙ rw (wrong-end (readInstructions (u16 s 8) s 12 (byte s 5)) e))
+    t : ℕ
+    t = byte s (at + 1)
 
-        module _ (x : Cursor) (e : endedOf (readInstructions (u16 s 8) s 12 (byte s 5)) ≡ Passed x) where
-          abbrev the-list : Listed
-          the-list = here-end (readInstructions (u16 s 8) s 12 (byte s 5)) x e .0
+    last : ℕ
+    last = u16 s (at + 2) + (x .result - high)
 
-          is-list : readInstructions (u16 s 8) s 12 (byte s 5) ≡ some the-list
-          is-list = here-end (readInstructions (u16 s 8) s 12 (byte s 5)) x e .1
+    same : every (marked marks) (spans (takesRow row t) (addresses (row .operands) s (at + 2 + 2))) ≡ every (readable version2 (g .written)) (readsOf version2 (g .written) s at)
+    same =
+        every-same (marked marks) (readable version2 (g .written)) (g .recorded .is) (spans (takesRow row t) (addresses (row .operands) s (at + 2 + 2)))
+        ∙ ap (λ (y : Ports). every (readable version2 (g .written)) (spans (takesRow y t) (addresses (y .operands) s (at + 2 + 2)))) er
 
-          at-is : x .at ≡ the-list .at
-          at-is = here-end (readInstructions (u16 s 8) s 12 (byte s 5)) x e .2
+    fits : endOf k (at + 2 + 2) ≤ length s
+    fits = leb-true _ _ (p .fits)
 
-          words-is : x .result ≡ the-list .words
-          words-is = here-end (readInstructions (u16 s 8) s 12 (byte s 5)) x e .3
+    words : x .result - high ≡ wordsGiven k t
+    words = let a : x .result ≡ behind (g .written) + wordsGiven k t = p .result-is in let q : behind (g .written) ≡ high = g .high-is in omega arith
 
-          listed : checkedOf (decode s) ≡ checkedOf (readOutputs s (byte s 5) (byte s 6) (u16 s 10) the-list)
-          unfolding then
-          listed = opened ∙ rw is-list
+    highest : max high last ≡ behind (resultValue (instructionOf version2 (g .written) s at .it) ∷ g .written)
+    highest =
+        let q : behind (g .written) ≡ high = g .high-is in
+        let e = words in
+        omega arith
 
-          pub other-words : (x .result ≡ u16 s 10 → ⊥) → Malformed ≡ checkedOf (decode s)
-          other-words d = sym (listed ∙ off-check _ (ne-eqb (the-list .words) (u16 s 10) (λ q. d (words-is ∙ q))))
+    answer : (c d : Bool) → every (marked marks) (spans (takesRow row t) (addresses (row .operands) s (at + 2 + 2))) ≡ c → leb last (length marks) ≡ d
+        → r ≡ cond (c && d) (Passed (record { at = x .at; result = max high last })) Refused
+    answer c d ec ed = w .answer ∙ ap₂ (λ (c d : Bool). cond (c && d) (Passed (record { at = x .at; result = max high last })) Refused) ec ed
 
-          module _ (same : x .result ≡ u16 s 10) where
-            counted : eqb (the-list .words) (u16 s 10) ≡ true
-            counted = eq-eqb (the-list .words) (u16 s 10) (sym words-is ∙ same)
+    go : (c : Bool) → every (marked marks) (spans (takesRow row t) (addresses (row .operands) s (at + 2 + 2))) ≡ c → (d : Bool) → leb last (length marks) ≡ d
+        → Turned true s o left after r
+    go false ec d ed =
+        record {
+          refused = λ u. stop true g h (none-unread version2 (g .written) s at (sym same ∙ ec));
+          passed = λ y u. absurd (refused-apart (sym (answer false d ec ed) ∙ u));
+        }
+    go true ec false ed =
+        let f : endOf k (at + 2 + 2) ≤ length s = fits in
+        let i = is-read version2 (g .written) s at (omega arith) p (sym same ∙ ec) in
+        let l : length marks < last = leb-false _ _ ed in
+        let n : length marks ≡ wordLimit = g .recorded .size in
+        let q = highest in
+        record {
+          refused = λ u. beyond true g h i (omega arith);
+          passed = λ y u. absurd (refused-apart (sym (answer true false ec ed) ∙ u));
+        }
+    go true ec true ed =
+        let f : endOf k (at + 2 + 2) ≤ length s = fits in
+        let i = is-read version2 (g .written) s at (omega arith) p (sym same ∙ ec) in
+        let l : last ≤ length marks = leb-true _ _ ed in
+        let n : length marks ≡ wordLimit = g .recorded .size in
+        let a : r ≡ Passed (record { at = x .at; result = max high last }) = answer true true ec ed in
+        let ext : Extended (u16 s (at + 2)) (wordsGiven k t) marks after =
+        subst (λ (m : ℕ). Extended (u16 s (at + 2)) m marks after) words (w .extended _ a) in
+        let ea : x .at ≡ endOf k (at + 2 + 2) = p .at-is in
+        let z : high + 16 * left ≤ wordLimit + 16 * 65535 = g .small in
+        let c : left ≤ 65535 = g .few in
+        let next : Going true s o (left - 1) (x .at) (max high last) after =
+        on true g h i (record { at = x .at; result = max high last }) ea (omega arith) highest (omega arith) (records-next (g .recorded) ext) in
+        record {
+          refused = λ u. absurd (refused-apart (sym u ∙ a));
+          passed = λ y u. subst (λ (c : Cursor). Going true s o (left - 1) (c .at) (c .result) after) (passed-is (sym a ∙ u)) next;
+        }
 
-            pub other-length : (x .at + 2 * byte s 6 ≡ length s → ⊥) → Malformed ≡ checkedOf (decode s)
-            other-length d = sym (listed ∙ on-check _ counted ∙ off-check _ (ne-eqb (the-list .at + 2 * byte s 6) (length s) (λ q. d (ap (λ (a : ℕ). a + 2 * byte s 6) at-is ∙ q))))
+pub turned : (b : Bool) {s : List ℕ} {o : Option Listed} {left at from high : ℕ} {marks after : List Bool} {row : Ports} {r : Progress}
+    (g : Going b s o left at high marks) → 0 < left → from ≡ operandsAt (versionBy b) at → {x : Cursor} → instructionPassed s at from high ≡ Passed x
+    → row ≡ portsOf (kindOf (byte s at)) → Placed b s at row high x marks after r → Turned b s o left after r
+turned false g h ef e er p = turned-next g h (row-passes false g ef e) p
+turned true g h ef e er p = turned-at g h (row-passes true g ef e) er p
 
-            module _ (full : x .at + 2 * byte s 6 ≡ length s) where
-              ended-there : eqb (the-list .at + 2 * byte s 6) (length s) ≡ true
-              ended-there = eq-eqb (the-list .at + 2 * byte s 6) (length s) (ap (λ (a : ℕ). a + 2 * byte s 6) (sym at-is) ∙ full)
+pub placeable : (b : Bool) {s : List ℕ} {o : Option Listed} {left at from high : ℕ} {marks : List Bool} {row : Ports}
+    (g : Going b s o left at high marks) → from ≡ operandsAt (versionBy b) at → {x : Cursor} → instructionPassed s at from high ≡ Passed x
+    → row ≡ portsOf (kindOf (byte s at)) → Placeable b s at row high x
+placeable false g ef e er = tt
+placeable true {s} {o} {left} {at} {from} {high} {marks} {row} g ef {x} e er =
+    let p = row-passes true g ef e in
+    let k = byte s at in
+    let f : endOf k (at + 2 + 2) ≤ length s = leb-true _ _ (p .fits) in
+    let n : row .operands ≡ arity (kindOf k) = ap (λ (y : Ports). y .operands) er in
+    let w : wordsGiven k (byte s (at + 1)) ≤ 16 = words-few (kindOf k) (byte s (at + 1)) in
+    let a : x .result ≡ behind (g .written) + wordsGiven k (byte s (at + 1)) = p .result-is in
+    let q : behind (g .written) ≡ high = g .high-is in
+    let z : high + 16 * left ≤ wordLimit + 16 * 65535 = g .small in
+    (record { bytes = omega arith; few = omega arith; high-small = omega arith }, omega arith)
 
-              less-is : allLess (u16 s 10) (addresses (byte s 6) s (the-list .at)) ≡ allLess (u16 s 10) (addresses (byte s 6) s (x .at))
-              less-is = ap (λ (a : ℕ). allLess (u16 s 10) (addresses (byte s 6) s a)) (sym at-is)
+-- none is left
+module _ (b : Bool) {s : List ℕ} {o : Option Listed} {left at high : ℕ} {marks : List Bool} (g : Going b s o left at high marks) (z : left ≡ 0) where
+  all-read : readInstructions (versionBy b) left s at (g .written) ≡ readInstructions (versionBy b) 0 s at (g .written)
+  all-read = ap (λ (n : ℕ). readInstructions (versionBy b) n s at (g .written)) z
 
-              pub bad-output : allLess (u16 s 10) (addresses (byte s 6) s (x .at)) ≡ false → Malformed ≡ checkedOf (decode s)
-              bad-output d = sym (listed ∙ on-check _ counted ∙ on-check _ ended-there ∙ off-check _ (less-is ∙ d))
+  pub too-many : wordLimit < high → Refused ≡ endedOf o
+  too-many l = let q : behind (g .written) ≡ high = g .high-is in sym (over (versionBy b) s left at (g .written) (omega arith)) ∙ g .ends
 
-              pub formed : allLess (u16 s 10) (addresses (byte s 6) s (x .at)) ≡ true → Formed (headerCounts s) ≡ checkedOf (decode s)
-              unfolding checkedOf
-              formed d =
-                  let n : length (addresses (byte s 6) s (the-list .at)) ≡ byte s 6 = addresses-length (byte s 6) s (the-list .at) in
-                  let c : length (the-list .instructions) ≡ u16 s 8 = count-is (u16 s 8) s 12 (byte s 5) the-list is-list in
-                  ap (λ (o : ℕ). Formed (record { arguments = byte s 5; outputs = o; instructions = u16 s 8; words = u16 s 10 })) (sym n)
-                  ∙ ap (λ (i : ℕ). Formed (record { arguments = byte s 5; outputs = length (addresses (byte s 6) s (the-list .at)); instructions = i; words = u16 s 10 })) (sym c)
-                  ∙ sym (listed ∙ on-check _ counted ∙ on-check _ ended-there ∙ on-check _ (less-is ∙ d))
+  pub ended : high ≤ wordLimit → Ended b o marks (Passed (record { at = at; result = high }))
+  unfolding endedOf writtenOf
+  ended l =
+      let q : behind (g .written) ≡ high = g .high-is in
+      let w : writtenOf o ≡ some (g .written) = sym (g .writes) ∙ ap writtenOf all-read in
+      record {
+        answer = ap (λ (n : ℕ). Passed (record { at = at; result = n })) (sym q)
+            ∙ ap (λ (c : Bool). cond c (Passed (record { at = at; result = behind (g .written) })) Refused) (sym (le-leb (behind (g .written)) wordLimit (omega arith)))
+            ∙ ap endedOf (sym all-read)
+            ∙ g .ends;
+        recorded = λ x e written f. subst (λ (rs : List Range). Recorded b rs marks) (some-is (sym w ∙ f)) (g .recorded);
+      }
+
+-- ---- a result that is written
+
+module _ (s : List ℕ) (at : ℕ) (row : Ports) (words high next : ℕ) (marks after : List Bool) where
+  abbrev wasWritten : Bool
+  wasWritten = every (marked marks) (spans (takesRow row (byte s (at + 1))) (addresses (row .operands) s (at + 2 + 2)))
+
+  abbrev endsAt : ℕ
+  endsAt = u16 s (at + 2) + words
+
+  wrote-refused : Refused ≡ writePassed s at row words high next marks → Wrote s at row words high next marks after Refused
+  wrote-refused e = record { answer = e; extended = λ x q. absurd (refused-apart q) }
+
+  pub write-unread : wasWritten ≡ false → Wrote s at row words high next marks after Refused
+  unfolding writePassed
+  write-unread e = wrote-refused (rw e)
+
+  pub write-over : length marks < endsAt → Wrote s at row words high next marks after Refused
+  unfolding writePassed
+  write-over l = wrote-refused (rw (lt-leb endsAt (length marks) l, and-false wasWritten))
+
+  pub write-whole : wasWritten ≡ true → {a : ℕ} → a ≡ u16 s (at + 2) → endsAt ≤ length marks → {n : ℕ} → n ≡ max high (a + words) → Extended a words marks after
+      → Wrote s at row words high next marks after (Passed (record { at = next; result = n }))
+  unfolding writePassed
+  write-whole e {a} ea l {n} en h =
+      let q : n ≡ max high endsAt = en ∙ ap (λ (x : ℕ). max high (x + words)) ea in
+      record { answer = rw (e, le-leb endsAt (length marks) l, q) refl; extended = λ x u. subst (λ (x : ℕ). Extended x words marks after) ea h }

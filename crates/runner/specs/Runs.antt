@@ -11,6 +11,7 @@ use Rattle.value.specs.Values.{argumentWord}
 use Rattle.base.specs.Lists.{every, Each}
 use Rattle.base.specs.Outcome.{Outcome, ok, fault}
 use Rattle.bytecode.specs.Run.{BoardList, run}
+use Rattle.bytecode.specs.Version.{Version}
 use Rattle.bytecode.specs.Code.{addresses, decode}
 use Rattle.bytecode.specs.WellFormed.{Codes}
 use Rattle.bytecode.specs.Answers.{Buffers}
@@ -41,9 +42,9 @@ pub record Answered (g : Outcome Buffers) (work out work′ out′ : List ℕ) (
   pub work-after : work′ ≡ workAfter g work
   pub out-after : out′ ≡ outAfter g out
 
--- 18 exactly when the bytes are the code of no list
+-- 18 exactly when the bytes are in no version the code of a list
 abbrev pub Refused18 : List ℕ → Ran → Type 0
-Refused18 s r = (r ≡ Refused 18 0) ↔ ((b : BoardList) → Codes s b → ⊥)
+Refused18 s r = (r ≡ Refused 18 0) ↔ ((v : Version) (b : BoardList) → Codes v s b → ⊥)
 
 -- ---- a run of a code that was checked
 

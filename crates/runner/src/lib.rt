@@ -1,20 +1,28 @@
 // The runner of board lists: the check of a code, and the run of a code that was checked.
 ghost use mathlib.Core.Path.{_≡_};
-ghost use mathlib.Core.List.{map};
-ghost use Prim.Native.Nat.{_+_, _*_, _≤_, _<_};
-ghost use lib.ListN.{length, replicate};
+ghost use mathlib.Core.Bool.{false, cond};
+ghost use mathlib.Core.List.{[], map};
+ghost use Prim.Native.Nat.{_+_, _*_, _≤_};
+ghost use lib.Dec.{eqb};
+ghost use lib.ListN.{length};
 ghost use lib.Seq.{sets};
-ghost use Rattle.ports.specs.Ports.{types};
 ghost use Rattle.base.specs.Limits.{headerLength};
+ghost use Rattle.base.specs.Bytes.{u16};
 ghost use Rattle.base.specs.Lists.{wordAt, every};
 ghost use Rattle.value.specs.Values.{argumentWord};
 ghost use Rattle.bytecode.specs.Code as Code;
-ghost use Rattle.bytecode.specs.Code.{addresses, allBelow, allLess, readInstruction, readInstructions, countsFit, decode};
+ghost use Rattle.bytecode.specs.Version.{version1, version2};
+ghost use Rattle.bytecode.specs.Code.{addresses, argumentWords, readInstructions, countsFit, decode};
 ghost use Rattle.bytecode.specs.Answers.{ran};
-ghost use Rattle.runner.specs.Checks.{operandsPassed, constantPassed, passedOf, endedOf, checkedOf, Exactly, Begun, headerCounts};
+ghost use Rattle.executor.specs.Instructions.{versionBy};
+ghost use Rattle.runner.specs.Checks.{allLess, marked, Placed, Placeable, Checkable, Ended, Listable, listOf, checkedOf, Exactly, headerCounts};
 ghost use Rattle.runner.specs.Runs.{Answered, Refused18, Runnable, OutputsReady, memoryOf, outputsOf};
 use base::HEADER_LENGTH;
+use base::WORD_LIMIT;
 use ports::Ports;
+
+mod row;
+mod written;
 
 // The counts that a code says.
 pub struct Counts {
@@ -36,7 +44,7 @@ pub enum Ran {
     Refused(u8, usize),
 }
 
-// Where the next instruction stands, and where its result goes.
+// Where the next instruction stands, and the word behind all results so far: in version 1 its result goes there.
 pub struct Cursor {
     pub at: usize,
     pub result: usize,
@@ -49,38 +57,6 @@ pub enum Progress {
 }
 
 // ---- the check of a code
-
-// Operands of the type t, their words all before `result`.
-fn operands_below(s: &[u8], from: usize, count: usize, t: u8, result: usize) -> bool
-    requires { ⌜ from + 2 * count ≤ length (now s) ⌝ }
-    ensures { λ r. ⌜ r ≡ allBelow result (replicate count t) (addresses count (now (s .entry)) from) ⌝ }
-{
-    let width = ports::width(t);
-    let mut at = from;
-    let mut left = count;
-    while 0 < left {
-        if result < base::u16_at(s, at) + width {
-            return false;
-        }
-        at += 2;
-        left -= 1;
-    }
-    true
-}
-
-// The same, where the first operand may be of another type.
-fn all_below(s: &[u8], at: usize, count: usize, first: u8, rest: u8, result: usize) -> bool
-    requires { ⌜ at + 2 * count ≤ length (now s) ⌝ }
-    ensures { λ r. ⌜ r ≡ allBelow result (types count first rest) (addresses count (now (s .entry)) at) ⌝ }
-{
-    if count == 0 {
-        return true;
-    }
-    if result < base::u16_at(s, at) + ports::width(first) {
-        return false;
-    }
-    operands_below(s, at + 2, count - 1, rest, result)
-}
 
 fn outputs_less(s: &[u8], from: usize, count: usize, words: usize) -> bool
     requires { ⌜ from + 2 * count ≤ length (now s) ⌝ }
@@ -98,119 +74,45 @@ fn outputs_less(s: &[u8], from: usize, count: usize, words: usize) -> bool
     true
 }
 
-// Operands at `at`, and what follows them.
-fn check_operands(
+// What follows an instruction whose operands stand before `high`; `next` is so where its result takes the next words.
+fn place_result(
     s: &[u8],
+    addressed: bool,
     at: usize,
-    count: usize,
-    first: u8,
-    rest: u8,
-    result: usize,
-    next: usize,
+    row: Ports,
+    high: usize,
+    next: Cursor,
+    marks: &mut [bool],
 ) -> Progress
-    requires { ⌜ (at ≤ length (now s)) × (count < 256) ⌝ }
-    ensures { λ r. ⌜ r ≡ operandsPassed (now (s .entry)) at count first rest result next ⌝ }
+    requires { ⌜ Placeable addressed (now s) at row high next ⌝ }
+    ensures { λ r. ⌜ Placed addressed (now (s .entry)) at row high next (now (marks .entry)) (now (marks .exit)) r ⌝ }
 {
-    let size = 2 * count;
-    if s.len() - at < size {
-        return Progress::Refused;
+    if addressed {
+        written::write_result(s, at, row, next.result - high, high, next.at, marks)
+    } else {
+        Progress::Passed(next)
     }
-    if !all_below(s, at, count, first, rest, result) {
-        return Progress::Refused;
-    }
-    Progress::Passed(Cursor {
-        at: at + size,
-        result: next,
-    })
 }
 
-// Two operands, as most kinds have: the place behind them does not wait for the row, and the check takes half the time.
-fn check_two(s: &[u8], at: usize, first: u8, second: u8, result: usize, next: usize) -> Progress
-    requires { ⌜ at ≤ length (now s) ⌝ }
-    ensures { λ r. ⌜ r ≡ operandsPassed (now (s .entry)) at 2 first second result next ⌝ }
-{
-    if s.len() - at < 4 {
-        return Progress::Refused;
-    }
-    if result < base::u16_at(s, at) + ports::width(first) {
-        return Progress::Refused;
-    }
-    if result < base::u16_at(s, at + 2) + ports::width(second) {
-        return Progress::Refused;
-    }
-    Progress::Passed(Cursor {
-        at: at + 4,
-        result: next,
-    })
-}
-
-// The words of a constant at `at`, and what follows them.
-fn check_constant(s: &[u8], at: usize, count: usize, next: usize) -> Progress
-    requires { ⌜ (at ≤ length (now s)) × (count < 256) ⌝ }
-    ensures { λ r. ⌜ r ≡ constantPassed (now (s .entry)) at count next ⌝ }
-{
-    let size = 8 * count;
-    if s.len() - at < size {
-        return Progress::Refused;
-    }
-    if !value::constants_allowed(s, at, count) {
-        return Progress::Refused;
-    }
-    Progress::Passed(Cursor {
-        at: at + size,
-        result: next,
-    })
-}
-
-// One instruction, its kind byte at `at`, by its kind's row.
-fn check_instruction(s: &[u8], at: usize, result: usize, row: Ports) -> Progress
-    requires { ⌜ Begun (now s) at result row ⌝ }
-    ensures { λ r. ⌜ r ≡ passedOf result (readInstruction (now (s .entry)) at result) ⌝ }
-{
-    let t = s[at + 1];
-    let p = at + 2;
-    let n = row.operands as usize;
-    if ports::has_type(row) {
-        if !ports::is_type(t) {
-            return Progress::Refused;
-        }
-        let next = result + ports::width(t);
-        if n == 2 {
-            return check_two(s, p, t, t, result, next);
-        }
-        return check_operands(s, p, n, t, t, result, next);
-    }
-    if t != 0 {
-        return Progress::Refused;
-    }
-    let words = row.words as usize;
-    let next = result + words;
-    let form = row.form;
-    if !ports::executable(form) {
-        return Progress::Refused;
-    }
-    if n == 0 {
-        return check_constant(s, p, words, next);
-    }
-    let first = row.first;
-    let rest = row.rest;
-    if n == 2 {
-        return check_two(s, p, first, rest, result, next);
-    }
-    check_operands(s, p, n, first, rest, result, next)
-}
-
-// All instructions, from behind the header and the word `first` on: what stands behind them.
-fn check_instructions(s: &[u8], count: usize, first: usize) -> Progress
-    requires { ⌜ (headerLength ≤ length (now s)) × (count ≤ 65535) × (first ≤ 255) ⌝ }
-    ensures { λ r. ⌜ r ≡ endedOf (readInstructions count (now (s .entry)) headerLength first) ⌝ }
+// All instructions, from behind the header on, where the arguments take the first `first` words: what stands behind them.
+// One loop for both versions, so that `check_instruction` has one caller and is inlined into it.
+fn check_instructions(
+    s: &[u8],
+    addressed: bool,
+    count: usize,
+    first: usize,
+    marks: &mut [bool],
+) -> Progress
+    requires { ⌜ Checkable addressed (now s) count first (now marks) ⌝ }
+    ensures { λ r. ⌜ Ended addressed (readInstructions (versionBy addressed) count (now (s .entry)) headerLength (argumentWords first)) (now (marks .exit)) r ⌝ }
 {
     let rows = ports::PORTS;
+    let head = 2 + executor::result_bytes(addressed);
     let mut at = HEADER_LENGTH;
-    let mut result = first;
+    let mut high = first;
     let mut left = count;
     while 0 < left {
-        if s.len() - at < 2 {
+        if s.len() - at < head {
             return Progress::Refused;
         }
         let k = base::byte_at(s, at);
@@ -218,17 +120,88 @@ fn check_instructions(s: &[u8], count: usize, first: usize) -> Progress
             return Progress::Refused;
         }
         let row = rows[k];
-        let Progress::Passed(next) = check_instruction(s, at, result, row) else {
+        let Progress::Passed(below) = row::check_instruction(s, at, at + head, high, row) else {
+            return Progress::Refused;
+        };
+        let Progress::Passed(next) = place_result(s, addressed, at, row, high, below, marks) else {
             return Progress::Refused;
         };
         at = next.at;
-        result = next.result;
+        high = next.result;
         left -= 1;
     }
-    Progress::Passed(Cursor { at, result })
+    if WORD_LIMIT < high {
+        return Progress::Refused;
+    }
+    Progress::Passed(Cursor { at, result: high })
 }
 
-// Mark, version and zero byte.
+// Outputs of words that are written.
+fn outputs_readable(
+    s: &[u8],
+    addressed: bool,
+    from: usize,
+    count: usize,
+    words: usize,
+    marks: &[bool],
+) -> bool
+    requires { ⌜ from + 2 * count ≤ length (now s) ⌝ }
+    ensures { λ r. ⌜ r ≡ cond addressed (every (marked (now (marks .entry))) (addresses count (now (s .entry)) from)) (allLess words (addresses count (now (s .entry)) from)) ⌝ }
+{
+    if addressed {
+        written::outputs_written(s, from, count, marks)
+    } else {
+        outputs_less(s, from, count, words)
+    }
+}
+
+// The list behind the header.
+fn check_list(s: &[u8], addressed: bool, counts: Counts, marks: &mut [bool]) -> Checked
+    requires { ⌜ Listable addressed (now s) counts (now marks) ⌝ }
+    ensures { λ r. ⌜ r ≡ checkedOf (listOf (versionBy addressed) (now (s .entry)) counts) ⌝ }
+{
+    let Progress::Passed(next) = check_instructions(
+        s,
+        addressed,
+        counts.instructions,
+        counts.arguments,
+        marks,
+    ) else {
+        return Checked::Malformed;
+    };
+    let at = next.at;
+    if next.result != counts.words {
+        return Checked::Malformed;
+    }
+    if s.len() - at != 2 * counts.outputs {
+        return Checked::Malformed;
+    }
+    if !outputs_readable(s, addressed, at, counts.outputs, counts.words, marks) {
+        return Checked::Malformed;
+    }
+    Checked::Formed(counts)
+}
+
+// Version 1 keeps no marks.
+fn check_sequential(s: &[u8], counts: Counts) -> Checked
+    requires { ⌜ Listable false (now s) counts [] ⌝ }
+    ensures { λ r. ⌜ r ≡ checkedOf (listOf version1 (now (s .entry)) counts) ⌝ }
+{
+    let mut marks = [false; 0];
+    check_list(s, false, counts, &mut marks)
+}
+
+// Version 2, with a mark for each word: the arguments are written first.
+fn check_addressed(s: &[u8], counts: Counts) -> Checked
+    requires { ⌜ Listable false (now s) counts [] ⌝ }
+    ensures { λ r. ⌜ r ≡ checkedOf (listOf version2 (now (s .entry)) counts) ⌝ }
+{
+    let mut marks = [false; WORD_LIMIT];
+    written::mark_words(&mut marks, 0, counts.arguments);
+    check_list(s, true, counts, &mut marks)
+}
+
+// Mark and zero byte.
 fn marked(s: &[u8]) -> bool
     requires { ⌜ headerLength ≤ length (now s) ⌝ }
     ensures { λ r. ⌜ r ≡ Code.codeMarked (now (s .entry)) ⌝ }
@@ -240,9 +213,6 @@ fn marked(s: &[u8]) -> bool
         return false;
     }
     if s[2] != 0x52 {
-        return false;
-    }
-    if base::u16_at(s, 3) != 1 {
         return false;
     }
     s[7] == 0
@@ -299,20 +269,14 @@ pub fn check_code(s: &[u8]) -> Checked
     if !counts_fit(counts) {
         return Checked::Malformed;
     }
-    let Progress::Passed(next) = check_instructions(s, counts.instructions, counts.arguments) else {
-        return Checked::Malformed;
-    };
-    let at = next.at;
-    if next.result != counts.words {
-        return Checked::Malformed;
+    let version = base::u16_at(s, 3);
+    if version == 1 {
+        return check_sequential(s, counts);
     }
-    if s.len() - at != 2 * counts.outputs {
-        return Checked::Malformed;
+    if version == 2 {
+        return check_addressed(s, counts);
     }
-    if !outputs_less(s, at, counts.outputs, counts.words) {
-        return Checked::Malformed;
-    }
-    Checked::Formed(counts)
+    Checked::Malformed
 }
 
 // Whether every argument is finite.
@@ -353,6 +317,14 @@ fn copy_outputs(s: &[u8], from: usize, count: usize, work: &[u64], out: &mut [u6
     }
 }
 
+// Whether its instructions carry their results' addresses: of the versions that pass the check, only version 2's do.
+fn is_addressed(code: &[u8]) -> bool
+    requires { ⌜ headerLength ≤ length (now code) ⌝ }
+    ensures { λ r. ⌜ r ≡ eqb (u16 (now (code .entry)) 3) 2 ⌝ }
+{
+    base::u16_at(code, 3) == 2
+}
+
 // Runs a code that was checked, with its counts, on as many finite arguments, where both buffers are long enough.
 pub fn run_checked(
     code: &[u8],
@@ -366,8 +338,9 @@ pub fn run_checked(
 {
     let outputs = counts.outputs;
     let at = code.len() - 2 * outputs;
+    let addressed = is_addressed(code);
     copy(arguments, work);
-    executor::execute_all(code, counts.instructions, counts.arguments, work);
+    executor::execute_all(code, addressed, counts.instructions, counts.arguments, work);
     copy_outputs(code, at, outputs, work, out);
 }
 

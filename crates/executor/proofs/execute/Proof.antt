@@ -15,7 +15,7 @@ start p = known p .before .before
 -- ---- needs
 
 execute-plain-requires : tie.Need-execute-plain-requires
-execute-plain-requires c κs = let k = c .before in with-type (k .match .keys1) (start (k .before) .pre)
+execute-plain-requires c κs = let k = c .before in with-type (k .match .keys1) (start (k .before) .pre .1)
 
 returns : tie.Need-returns
 returns c =
@@ -23,7 +23,7 @@ returns c =
     of-type (w .before .before .match .keys1) (w .execute-plain .ensures)
 
 execute-scalars-requires : tie.Need-execute-scalars-requires
-execute-scalars-requires c κs = let k = c .before in with-type (k .match .keys2) (start (k .before) .pre)
+execute-scalars-requires c κs = let k = c .before in with-type (k .match .keys2) (start (k .before) .pre .1)
 
 returns-2 : tie.Need-returns-2
 returns-2 c =
@@ -31,7 +31,7 @@ returns-2 c =
     of-type (w .before .before .match .keys2) (w .execute-scalars .ensures)
 
 execute-vectors-requires : tie.Need-execute-vectors-requires
-execute-vectors-requires c κs = let k = c .before in with-type (k .match .keys3) (start (k .before) .pre)
+execute-vectors-requires c κs = let k = c .before in with-type (k .match .keys3) (start (k .before) .pre .1)
 
 returns-3 : tie.Need-returns-3
 returns-3 c =
@@ -41,19 +41,19 @@ returns-3 c =
 execute-matrices-requires : tie.Need-execute-matrices-requires
 execute-matrices-requires c κs =
     let k = c .before in
-    let h = start (k .before) .pre in
+    let h = start (k .before) .pre .1 in
     with-type (last-type h (k .match .rest)) h
 
 returns-4 : tie.Need-returns-4
 returns-4 c =
     let w = c .before .before in
     let k = w .before .before in
-    of-type (last-type (start (k .before) .pre) (k .match .rest)) (w .execute-matrices .ensures)
+    of-type (last-type (start (k .before) .pre .1) (k .match .rest)) (w .execute-matrices .ensures)
 
 pub execute-spec : {M : Type 1} → statement M
 execute-spec =
     tie.close
     (tie.spec
-    (λ c. search needs) (λ c. search needs) (λ c. search needs) (λ c. search needs) execute-plain-requires execute-scalars-requires
+    (λ c. search needs) (λ c. search needs) (λ c. search needs) execute-plain-requires execute-scalars-requires
     execute-vectors-requires execute-matrices-requires (λ c. search needs) returns (λ c. search needs) returns-2 (λ c. search needs) returns-3
     (λ c. search needs) returns-4)

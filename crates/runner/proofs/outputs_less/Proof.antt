@@ -6,7 +6,8 @@ use native.Mathlib.Omega.{arith}
 use denote.Ref.{now}
 use Rattle.base.specs.Bytes.{u16}
 use borrow.Author.Tests.{lt-ltb, le-ltb}
-use Rattle.bytecode.specs.Code.{addresses, allLess}
+use Rattle.bytecode.specs.Code.{addresses}
+use Rattle.runner.specs.Checks.{allLess}
 use lib.ListN.{length}
 use Rattle.runner.proofs.Walks.{on, off, over}
 use Rattle.runner.proofs.Checking.{outputs-walk}

@@ -1,4 +1,4 @@
--- `runner::operands_below`: what is left decides.
+-- `runner::row::operands_below`: what is left decides.
 use borrow.Author.Needs.{needs}
 use Prim.Native.Nat.{_+_, _*_, _≤_}
 use mathlib.Core.Path.{_≡_, refl, sym, _∙_}
@@ -7,12 +7,13 @@ use denote.Ref.{now}
 use borrow.Author.Tests.{le-leb, lt-leb}
 use Rattle.base.specs.Bytes.{u16}
 use Rattle.ports.specs.Ports.{width}
-use Rattle.bytecode.specs.Code.{addresses, allBelow}
+use Rattle.bytecode.specs.Code.{addresses}
+use Rattle.runner.specs.Checks.{allBelow}
 use lib.ListN.{length, replicate}
 use Rattle.runner.proofs.Walks.{on, off, over}
 use Rattle.runner.proofs.Checking.{operands-walk}
-use Rattle.runner.proofs.operands_below.Statement.{statement}
-use Rattle.runner.proofs.operands_below.Tie as tie
+use Rattle.runner.proofs.row.operands_below.Statement.{statement}
+use Rattle.runner.proofs.row.operands_below.Tie as tie
 
 abbrev Inv-loop : tie.InvT-loop
 Inv-loop s from count t result w at₀ left₀ at left = (allBelow result (replicate left t) (addresses left s at) ≡ allBelow result (replicate count t) (addresses count s from)) × (at + 2 * left ≤ length s)

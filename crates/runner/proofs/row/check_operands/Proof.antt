@@ -1,11 +1,11 @@
--- `runner::check_operands`: the bytes are there, and every operand before the result.
+-- `runner::row::check_operands`: the bytes are there, and every operand before the result.
 use borrow.Author.Needs.{needs}
 use mathlib.Core.Path.{refl, sym, _∙_}
 use native.Mathlib.Omega.{arith}
 use borrow.Author.Tests.{not-true, not-false}
 use Rattle.runner.proofs.Checking.{short, wrong, whole}
-use Rattle.runner.proofs.check_operands.Statement.{statement}
-use Rattle.runner.proofs.check_operands.Tie as tie
+use Rattle.runner.proofs.row.check_operands.Statement.{statement}
+use Rattle.runner.proofs.row.check_operands.Tie as tie
 
 returns : tie.Need-returns
 returns c = short _ _ _ _ (omega (arith, c .before .before .pre .0, c .if1 .taken))

@@ -1,4 +1,4 @@
--- `runner::all_below`: the first operand, then the others.
+-- `runner::row::all_below`: the first operand, then the others.
 use borrow.Author.Needs.{needs}
 use Prim.Native.Nat.{_+_}
 use mathlib.Core.Path.{sym, _∙_}
@@ -8,8 +8,8 @@ use borrow.Author.Tests.{le-leb, lt-leb}
 use Rattle.ports.specs.Ports.{width}
 use Rattle.base.specs.Bytes.{u16}
 use Rattle.runner.proofs.Checking.{no-operand, first-on, first-off}
-use Rattle.runner.proofs.all_below.Statement.{statement}
-use Rattle.runner.proofs.all_below.Tie as tie
+use Rattle.runner.proofs.row.all_below.Statement.{statement}
+use Rattle.runner.proofs.row.all_below.Tie as tie
 
 abbrev start : tie.Else1 → tie.Start
 start p = p .before .before

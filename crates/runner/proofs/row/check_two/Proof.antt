@@ -1,4 +1,4 @@
--- `runner::check_two`: the bytes are there, and both operands before the result.
+-- `runner::row::check_two`: the bytes are there, and both operands before the result.
 use borrow.Author.Needs.{needs}
 use Prim.Native.Nat.{_+_}
 use mathlib.Core.Path.{_≡_, refl}
@@ -10,8 +10,8 @@ use borrow.Author.Tests.{le-leb, lt-leb}
 use Rattle.ports.specs.Ports.{width}
 use Rattle.base.specs.Bytes.{u16}
 use Rattle.runner.proofs.Checking.{short, wrong, whole, first-off, second-off, both-below}
-use Rattle.runner.proofs.check_two.Statement.{statement}
-use Rattle.runner.proofs.check_two.Tie as tie
+use Rattle.runner.proofs.row.check_two.Statement.{statement}
+use Rattle.runner.proofs.row.check_two.Tie as tie
 
 -- ---- places
 
