@@ -13,7 +13,8 @@ use Rattle.base.specs.Lists.{every, span}
 use Rattle.base.proofs.Bools.{and-inv, and-both, or-inv}
 use Rattle.base.proofs.Lists.{some-is}
 use Rattle.bytecode.specs.Ranges.{any, Range, end, inside, behind, resultValue}
-use Rattle.bytecode.specs.Version.{Version, version1, version2}
+use Rattle.bytecode.specs.declared.Version.{Version}
+use Rattle.bytecode.specs.declared.Version.the-variants.{V1, V2}
 use Rattle.bytecode.specs.Code.{readable, resultAt, readInstruction, Listed, readInstructions, argumentWords}
 use Rattle.bytecode.proofs.Decoded.{then-inv}
 
@@ -33,8 +34,8 @@ any-behind (r ∷ rs) a e = ⊎-elim
     (or-inv (inside r a) (any (λ r. inside r a) rs) e)
 
 pub readable-behind : (v : Version) (written : List Range) (a : ℕ) → readable v written a ≡ true → a < behind written
-readable-behind version1 written a e = ltb-true a (behind written) e
-readable-behind version2 written a e = any-behind written a e
+readable-behind V1 written a e = ltb-true a (behind written) e
+readable-behind V2 written a e = any-behind written a e
 
 -- before the first instruction
 pub readable-first : (v : Version) (n a : ℕ) → readable v (argumentWords n) a ≡ true → a < n
@@ -44,7 +45,7 @@ readable-first v n a e = let h : a < behind (argumentWords n) = readable-behind 
 pub readable-next : (v : Version) (s : List ℕ) (at : ℕ) (written : List Range) (w a : ℕ)
     → readable v (record { first = resultAt v s at written; width = w } ∷ written) a ≡ true
     → ((resultAt v s at written ≤ a) × (a < resultAt v s at written + w)) ⊎ (readable v written a ≡ true)
-readable-next version1 s at written w a e = pick (ltb a (behind written)) refl
+readable-next V1 s at written w a e = pick (ltb a (behind written)) refl
   where
     pick : (b : Bool) → ltb a (behind written) ≡ b → ((behind written ≤ a) × (a < behind written + w)) ⊎ (ltb a (behind written) ≡ true)
     pick true q = inr q
@@ -52,10 +53,10 @@ readable-next version1 s at written w a e = pick (ltb a (behind written)) refl
         let h : behind written ≤ a = ltb-false a (behind written) q in
         let l : a < behind (record { first = behind written; width = w } ∷ written) = ltb-true _ _ e in
         inl (omega arith, omega arith)
-readable-next version2 s at written w a e = ⊎-elim
-    (λ x. inl (inside-inv (record { first = resultAt version2 s at written; width = w }) a x))
+readable-next V2 s at written w a e = ⊎-elim
+    (λ x. inl (inside-inv (record { first = resultAt V2 s at written; width = w }) a x))
     inr
-    (or-inv (inside (record { first = resultAt version2 s at written; width = w }) a) (any (λ r. inside r a) written) e)
+    (or-inv (inside (record { first = resultAt V2 s at written; width = w }) a) (any (λ r. inside r a) written) e)
 
 -- ---- words of operands
 

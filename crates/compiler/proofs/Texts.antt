@@ -26,8 +26,9 @@ use Rattle.placement.specs.Record.{Placement}
 use Rattle.placement.proofs.Words.{all-wide, extent-is}
 use Rattle.lowering.specs.Compile.{Inlined, inlineFunction, inlined, boardListOf}
 use Rattle.lowering.specs.Naming.{nameStep, namedOf, AllRename}
-use Rattle.lowering.proofs.Limits.{laid, output-words}
-use Rattle.lowering.proofs.Naming.{naming, instructions-count, one-value, inputs-length}
+use Rattle.lowering.proofs.Limits.{output-words}
+use Rattle.lowering.proofs.Lawful.{placeable}
+use Rattle.lowering.proofs.Naming.{naming, instructions-count, inputs-length}
 use Rattle.sums.specs.Position.{placeOf, functionIn, before, Accepted}
 use Rattle.sums.proofs.Accepted.{sound-below}
 use Rattle.compiler.specs.declared.Pass.the-variants.{Survey, Sequential, Addressed}
@@ -69,10 +70,8 @@ module _ {s : List ℕ} {k : ℕ} (acc : Accepted s (suc k)) where
 
   -- ---- version 2
 
-  placeable : Placeable (f .inputs) b
-  placeable =
-      let l = laid (before s k) f sound in
-      record { arguments = refl; fit = l .0; below = l .1; whole = one-value (before s k) f sound }
+  own-placeable : Placeable (f .inputs) b
+  own-placeable = placeable (before s k) f sound
 
   named-is : inlinedAt V2 s k ≡ namedOf (before s k) f
   unfolding inlinedAt
@@ -116,16 +115,16 @@ module _ {s : List ℕ} {k : ℕ} (acc : Accepted s (suc k)) where
           ∙ sym (ap (λ (ws : List ℕ). getD ws v 0) ew ∙ ap (λ (q : ℕ). getD (sets zeros 0 (map width (f .inputs))) q 0) z ∙ sets-in (map width (f .inputs)) zeros 0 v (omega arith) (omega arith)) in
           let number : x ≡ length (b .instructions) + 1 = let q = count-is in omega arith in
           record {
-            widths = subst (λ (ws : List ℕ). Widths ws (length (f .inputs)) (f .inputs) b) (sym wide) (widths-surveyed (f .inputs) b placeable few-values code (h .code) wide₁ size wides);
+            widths = subst (λ (ws : List ℕ). Widths ws (length (f .inputs)) (f .inputs) b) (sym wide) (widths-surveyed (f .inputs) b own-placeable few-values code (h .code) wide₁ size wides);
             lasting =
                 subst (λ (ls : List ℕ). Lasting ls (length (f .inputs)) (f .inputs) b) (sym place)
-                (lasting-surveyed (f .inputs) b placeable few-values code (h .code) (outputTypes (f .outputs)) ports _ refl (h .ports) number);
+                (lasting-surveyed (f .inputs) b own-placeable few-values code (h .code) (outputTypes (f .outputs)) ports _ refl (h .ports) number);
             size = ap length place ∙ noted-length (notes (length (f .inputs)) zeros code) x ports ∙ notes-length (length (f .inputs)) zeros code ∙ zl;
           }
 
     pub wide-enough : {last wide : List ℕ} {m : ℕ} → Surveyed s k last wide → m ≡ length (f .inputs) → Wide wide (m + count)
     wide-enough {wide = wide} {m} su em =
-        subst (Wide wide) (ap₂ (λ (x y : ℕ). x + y) (sym em) (sym count-is)) (all-wide wide (length (f .inputs)) (f .inputs) b placeable (su .widths))
+        subst (Wide wide) (ap₂ (λ (x y : ℕ). x + y) (sym em) (sym count-is)) (all-wide wide (length (f .inputs)) (f .inputs) b own-placeable (su .widths))
 
     pub placed-texts :
         {last wide place until : List ℕ} {m : ℕ} {r : Extent} → Surveyed s k last wide → m ≡ length (f .inputs)
@@ -149,10 +148,10 @@ module _ {s : List ℕ} {k : ℕ} (acc : Accepted s (suc k)) where
             let ts = outputTypes (f .outputs) in
             let values = inputValues 0 (f .inputs) in
             let code : map (relocated place) (n .code) ≡ map (renamed ps) (b .instructions) =
-            all-relocated-code (f .inputs) b placeable few-values place until wide r (su .widths) p fits (n .code) (b .instructions) []
+            all-relocated-code (f .inputs) b own-placeable few-values place until wide r (su .widths) p fits (n .code) (b .instructions) []
             (subst (λ (vs : List Range). AllRename vs (n .code) (b .instructions)) (sym (append-nil values)) (h .code)) refl in
             let outs : spans ts (map (relocate place) (n .ports)) ≡ map (rename ps) (b .outputs) =
-            spans-relocated (f .inputs) b placeable few-values place until wide r (su .widths) p fits (valuesOf (f .inputs) b) [] (sym (append-nil (valuesOf (f .inputs) b))) ts (n .ports) _ (h .ports) in
+            spans-relocated (f .inputs) b own-placeable few-values place until wide r (su .widths) p fits (valuesOf (f .inputs) b) [] (sym (append-nil (valuesOf (f .inputs) b))) ts (n .ports) _ (h .ports) in
             let count-out : widths ts ≡ length (map (rename ps) (b .outputs)) = sym (length-map (b .outputs) (rename ps) ∙ output-words (before s k) f sound) in
             let count-code : length (n .code) ≡ length (map (renamed ps) (b .instructions)) = instructions-count (before s k) f ∙ sym (length-map (b .instructions) (renamed ps)) in
             let head : ℕ → ℕ → List ℕ = λ o c. headerCode 2 (widths (f .inputs)) o c (reusedAt s k .words) in

@@ -100,3 +100,8 @@ pub record Surveyed (s : List ℕ) (k : ℕ) (last wide : List ℕ) : Type 0 whe
 pub record Places (s : List ℕ) (k : ℕ) (place : List ℕ) (r : Extent) : Type 0 where
   pub extent : r ≡ extentOf (reusedAt s k .words)
   pub text : reusedAt s k .words ≤ wordLimit → textOf Addressed place s k (reusedAt s k .words) ≡ encode V2 (reusedAt s k)
+
+-- all that the writing of version 2 is lent
+pub record LaidOut (s : List ℕ) (k : ℕ) (outs order locations begins ins place : List ℕ) (r : Extent) : Type 0 where
+  pub prepared : Prepared V2 s k outs order locations begins ins
+  pub places : Places s k place r

@@ -26,7 +26,7 @@ use Rattle.base.specs.Bytes.{constants}
 use Rattle.base.proofs.Bools.{and-inv}
 use Rattle.bytecode.specs.Run.{valuesAt, execute, spans}
 use Rattle.bytecode.specs.Ranges.{Range, behind, resultValue}
-use Rattle.bytecode.specs.Version.{Version}
+use Rattle.bytecode.specs.declared.Version.{Version}
 use Rattle.bytecode.specs.Code.{addresses, readable, resultAt, argumentWords}
 use Rattle.bytecode.proofs.Decoded.{addresses-length}
 use Rattle.bytecode.proofs.Readable.{readable-behind, readable-first, readable-next, width-some, every-append, every-span}

@@ -19,7 +19,8 @@ use Rattle.base.specs.Bytes.{byte, u16, constants}
 use Rattle.base.specs.Outcome.{Part}
 use Rattle.bytecode.specs.Run.{Instruction, execute, executeAll, spans}
 use Rattle.bytecode.specs.Ranges.{Range, behind, resultValue}
-use Rattle.bytecode.specs.Version.{Version, version1, version2}
+use Rattle.bytecode.specs.declared.Version.{Version}
+use Rattle.bytecode.specs.declared.Version.the-variants.{V1, V2}
 use Rattle.bytecode.specs.Code.{addresses, readable, resultAt, resultBytes, argumentWords, readInstruction, Listed, readInstructions}
 use Rattle.bytecode.proofs.Decoded.{guard-inv, then-inv, addresses-length}
 use Rattle.bytecode.proofs.Readable.{behind-grows}
@@ -65,8 +66,8 @@ read-inv v written s at i e =
 
 -- the next word: of version 1 the word behind all results so far
 abbrev pub Next : Version → List Range → ℕ → Type 0
-Next version1 written n = n ≡ behind written
-Next version2 written n = Unit {0}
+Next V1 written n = n ≡ behind written
+Next V2 written n = Unit {0}
 
 pub result-is : (b : Bool) (written : List Range) (s : List ℕ) (at next : ℕ) → Next (versionBy b) written next
     → cond b (u16 s at) next ≡ resultAt (versionBy b) s at written
@@ -75,8 +76,8 @@ result-is true written s at next e = refl
 
 next-is : (v : Version) (written : List Range) (s : List ℕ) (at n w : ℕ) → n ≡ resultAt v s at written + w
     → Next v (record { first = resultAt v s at written; width = w } ∷ written) n
-next-is version1 written s at n w e = omega arith
-next-is version2 written s at n w e = tt
+next-is V1 written s at n w e = omega arith
+next-is V2 written s at n w e = tt
 
 -- ---- the invariant
 
@@ -90,8 +91,8 @@ pub record Running (v : Version) (s : List ℕ) (left at next : ℕ) (m end : Li
   pub same : executeAll (rest .instructions) m ≡ end
 
 first-next : (v : Version) (n : ℕ) → Next v (argumentWords n) n
-first-next version1 n = omega arith
-first-next version2 n = tt
+first-next V1 n = omega arith
+first-next V2 n = tt
 
 pub start : (v : Version) (s : List ℕ) (count first : ℕ) (m : List ℕ) → Instructions v s count first m
     → Running v s count 12 first m (afterAll (readInstructions v count s 12 (argumentWords first)) m)

@@ -8,15 +8,16 @@ use lib.ListN.{length}
 use Rattle.base.specs.Limits.{headerLength}
 use Rattle.bytecode.specs.Run.{executeAll}
 use Rattle.bytecode.specs.Ranges.{Range, behind}
-use Rattle.bytecode.specs.Version.{Version, version1, version2}
+use Rattle.bytecode.specs.declared.Version.{Version}
+use Rattle.bytecode.specs.declared.Version.the-variants.{V1, V2}
 use Rattle.bytecode.specs.Code.{Listed, readable, argumentWords, readInstructions}
 use Rattle.base.specs.Lists.{wordAt}
 use Rattle.value.specs.Typed.{Canonical}
 
 -- the version, by whether its instructions carry their result's address
 abbrev pub versionBy : Bool → Version
-versionBy false = version1
-versionBy true = version2
+versionBy false = V1
+versionBy true = V2
 
 -- every word that an instruction may read
 abbrev pub CanonicalReads : Version → List Range → List ℕ → Type 0

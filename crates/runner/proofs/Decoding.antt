@@ -19,7 +19,9 @@ use Rattle.base.specs.Limits.{portWordLimit, withinLimits, headerLength}
 use Rattle.base.proofs.Bools.{and-inv, and-false}
 use Rattle.bytecode.specs.Run.{Instruction, BoardList, execute, executeAll, run}
 use Rattle.bytecode.specs.Ranges.{Range, behind}
-use Rattle.bytecode.specs.Version.{Version, version1, version2, versionOf}
+use Rattle.bytecode.specs.declared.Version.{Version}
+use Rattle.bytecode.specs.declared.Version.the-variants.{V1, V2}
+use Rattle.bytecode.specs.Version.{versionOf}
 use Rattle.bytecode.specs.Code.{addresses, readable, argumentWords, Listed, readInstructions, countsFit, readCounts, codeMarked, decode}
 use Rattle.bytecode.specs.Answers.{Buffers, ran}
 use Rattle.bytecode.proofs.Decoded.{guard-inv, then-inv, addresses-length}
@@ -196,7 +198,7 @@ module _ (s arguments work out : List ℕ) where
 pub version-by : (s : List ℕ) (v : Version) → versionOf (u16 s 3) ≡ some v → {b : Bool} → b ≡ eqb (u16 s 3) 2 → versionBy b ≡ v
 version-by s v e {b} q = ap versionBy q ∙ go (eqb (u16 s 3) 1) refl (eqb (u16 s 3) 2) refl e
   where
-    go : (x : Bool) → eqb (u16 s 3) 1 ≡ x → (y : Bool) → eqb (u16 s 3) 2 ≡ y → cond x (some version1) (cond y (some version2) none) ≡ some v → versionBy y ≡ v
+    go : (x : Bool) → eqb (u16 s 3) 1 ≡ x → (y : Bool) → eqb (u16 s 3) 2 ≡ y → cond x (some V1) (cond y (some V2) none) ≡ some v → versionBy y ≡ v
     go true p true r e = let a : u16 s 3 ≡ 1 = eqb-true _ _ p in let b : u16 s 3 ≡ 2 = eqb-true _ _ r in absurd (omega arith)
     go true p false r e = some-is e
     go false p true r e = some-is e

@@ -22,7 +22,8 @@ use Rattle.base.proofs.Bools.{and-false}
 use Rattle.base.proofs.Lists.{some-is}
 use Rattle.bytecode.specs.Run.{Instruction, spans}
 use Rattle.bytecode.specs.Ranges.{Range, behind, resultValue}
-use Rattle.bytecode.specs.Version.{Version, version1, version2}
+use Rattle.bytecode.specs.declared.Version.{Version}
+use Rattle.bytecode.specs.declared.Version.the-variants.{V1, V2}
 use Rattle.bytecode.specs.Code.{then, addresses, readable, argumentWords, readInstruction, Listed, readInstructions}
 use Rattle.bytecode.proofs.Readable.{behind-grows}
 use Rattle.executor.specs.Execution.{endOf, wordsGiven}
@@ -172,14 +173,14 @@ module _ (b : Bool) {s : List ℕ} {o : Option Listed} {left at from high : ℕ}
 
 -- version 1
 turned-next : {s : List ℕ} {o : Option Listed} {left at high : ℕ} {marks after : List Bool} {r : Progress} (g : Going false s o left at high marks) → 0 < left
-    → {x : Cursor} → Passes s at (operandsAt version1 at) (behind (g .written)) x → r ≡ Passed x → Turned false s o left after r
+    → {x : Cursor} → Passes s at (operandsAt V1 at) (behind (g .written)) x → r ≡ Passed x → Turned false s o left after r
 turned-next {s} {o} {left} {at} {high} {marks} {after} {r} g h {x} p e =
     let k = byte s at in
     let t = byte s (at + 1) in
-    let f : endOf k (operandsAt version1 at) ≤ length s = leb-true _ _ (p .fits) in
-    let i = is-read version1 (g .written) s at (omega arith) p
-    (below-reads (g .written) (takesRow (portsOf (kindOf k)) t) (addresses (arity (kindOf k)) s (operandsAt version1 at)) (p .stands)) in
-    let ea : x .at ≡ endOf k (operandsAt version1 at) = p .at-is in
+    let f : endOf k (operandsAt V1 at) ≤ length s = leb-true _ _ (p .fits) in
+    let i = is-read V1 (g .written) s at (omega arith) p
+    (below-reads (g .written) (takesRow (portsOf (kindOf k)) t) (addresses (arity (kindOf k)) s (operandsAt V1 at)) (p .stands)) in
+    let ea : x .at ≡ endOf k (operandsAt V1 at) = p .at-is in
     let eh : x .result ≡ behind (g .written) + wordsGiven k t = p .result-is in
     let w : wordsGiven k t ≤ 16 = words-few (kindOf k) t in
     let q : behind (g .written) ≡ high = g .high-is in
@@ -192,7 +193,7 @@ turned-next {s} {o} {left} {at} {high} {marks} {after} {r} g h {x} p e =
 
 -- version 2
 turned-at : {s : List ℕ} {o : Option Listed} {left at high : ℕ} {marks after : List Bool} {row : Ports} {r : Progress} (g : Going true s o left at high marks)
-    → 0 < left → {x : Cursor} → Passes s at (operandsAt version2 at) (behind (g .written)) x → row ≡ portsOf (kindOf (byte s at))
+    → 0 < left → {x : Cursor} → Passes s at (operandsAt V2 at) (behind (g .written)) x → row ≡ portsOf (kindOf (byte s at))
     → Wrote s at row (x .result - high) high (x .at) marks after r → Turned true s o left after r
 unfolding writePassed
 turned-at {s} {o} {left} {at} {high} {marks} {after} {row} {r} g h {x} p er w =
@@ -207,10 +208,10 @@ turned-at {s} {o} {left} {at} {high} {marks} {after} {row} {r} g h {x} p er w =
     last : ℕ
     last = u16 s (at + 2) + (x .result - high)
 
-    same : every (marked marks) (spans (takesRow row t) (addresses (row .operands) s (at + 2 + 2))) ≡ every (readable version2 (g .written)) (readsOf version2 (g .written) s at)
+    same : every (marked marks) (spans (takesRow row t) (addresses (row .operands) s (at + 2 + 2))) ≡ every (readable V2 (g .written)) (readsOf V2 (g .written) s at)
     same =
-        every-same (marked marks) (readable version2 (g .written)) (g .recorded .is) (spans (takesRow row t) (addresses (row .operands) s (at + 2 + 2)))
-        ∙ ap (λ (y : Ports). every (readable version2 (g .written)) (spans (takesRow y t) (addresses (y .operands) s (at + 2 + 2)))) er
+        every-same (marked marks) (readable V2 (g .written)) (g .recorded .is) (spans (takesRow row t) (addresses (row .operands) s (at + 2 + 2)))
+        ∙ ap (λ (y : Ports). every (readable V2 (g .written)) (spans (takesRow y t) (addresses (y .operands) s (at + 2 + 2)))) er
 
     fits : endOf k (at + 2 + 2) ≤ length s
     fits = leb-true _ _ (p .fits)
@@ -218,7 +219,7 @@ turned-at {s} {o} {left} {at} {high} {marks} {after} {row} {r} g h {x} p er w =
     words : x .result - high ≡ wordsGiven k t
     words = let a : x .result ≡ behind (g .written) + wordsGiven k t = p .result-is in let q : behind (g .written) ≡ high = g .high-is in omega arith
 
-    highest : max high last ≡ behind (resultValue (instructionOf version2 (g .written) s at .it) ∷ g .written)
+    highest : max high last ≡ behind (resultValue (instructionOf V2 (g .written) s at .it) ∷ g .written)
     highest =
         let q : behind (g .written) ≡ high = g .high-is in
         let e = words in
@@ -232,12 +233,12 @@ turned-at {s} {o} {left} {at} {high} {marks} {after} {row} {r} g h {x} p er w =
         → Turned true s o left after r
     go false ec d ed =
         record {
-          refused = λ u. stop true g h (none-unread version2 (g .written) s at (sym same ∙ ec));
+          refused = λ u. stop true g h (none-unread V2 (g .written) s at (sym same ∙ ec));
           passed = λ y u. absurd (refused-apart (sym (answer false d ec ed) ∙ u));
         }
     go true ec false ed =
         let f : endOf k (at + 2 + 2) ≤ length s = fits in
-        let i = is-read version2 (g .written) s at (omega arith) p (sym same ∙ ec) in
+        let i = is-read V2 (g .written) s at (omega arith) p (sym same ∙ ec) in
         let l : length marks < last = leb-false _ _ ed in
         let n : length marks ≡ wordLimit = g .recorded .size in
         let q = highest in
@@ -247,7 +248,7 @@ turned-at {s} {o} {left} {at} {high} {marks} {after} {row} {r} g h {x} p er w =
         }
     go true ec true ed =
         let f : endOf k (at + 2 + 2) ≤ length s = fits in
-        let i = is-read version2 (g .written) s at (omega arith) p (sym same ∙ ec) in
+        let i = is-read V2 (g .written) s at (omega arith) p (sym same ∙ ec) in
         let l : last ≤ length marks = leb-true _ _ ed in
         let n : length marks ≡ wordLimit = g .recorded .size in
         let a : r ≡ Passed (record { at = x .at; result = max high last }) = answer true true ec ed in

@@ -17,7 +17,8 @@ use Rattle.base.specs.Outcome.{Part}
 use Rattle.base.proofs.Bools.{and-inv, and-both}
 use Rattle.bytecode.specs.Run.{Instruction, spans}
 use Rattle.bytecode.specs.Ranges.{Range, behind}
-use Rattle.bytecode.specs.Version.{Version, version1}
+use Rattle.bytecode.specs.declared.Version.{Version}
+use Rattle.bytecode.specs.declared.Version.the-variants.{V1}
 use Rattle.bytecode.specs.Code.{guard, addresses, readable, resultAt, resultBytes, readInstruction}
 use Rattle.bytecode.proofs.Readable.{readable-behind, width-some, every-append, every-span}
 use Rattle.executor.specs.Execution.{instructionAt, endOf, wordsGiven}
@@ -46,16 +47,16 @@ span-less zero a next h = refl
 span-less (suc n) a next h = and-both (ltb a next) (every (λ x. ltb x next) (span (suc a) n)) (lt-ltb a next (omega arith)) (span-less n (suc a) next (omega arith))
 
 -- and version 1 asks no more
-pub below-reads : (written : List Range) (ts xs : List ℕ) → allBelow (behind written) ts xs ≡ true → every (readable version1 written) (spans ts xs) ≡ true
+pub below-reads : (written : List Range) (ts xs : List ℕ) → allBelow (behind written) ts xs ≡ true → every (readable V1 written) (spans ts xs) ≡ true
 below-reads written [] xs e = refl
 below-reads written (t ∷ ts) [] e = refl
 below-reads written (t ∷ ts) (a ∷ xs) e =
-    let ok = readable version1 written in
+    let ok = readable V1 written in
     let (x, y) = and-inv (leb (a + width t) (behind written)) (allBelow (behind written) ts xs) e in
     every-append ok (span a (width t)) (spans ts xs)
     ∙ and-both (every ok (span a (width t))) (every ok (spans ts xs)) (span-less (width t) a (behind written) (leb-true _ _ x)) (below-reads written ts xs y)
 
-pub less-reads : (written : List Range) (xs : List ℕ) → every (readable version1 written) xs ≡ allLess (behind written) xs
+pub less-reads : (written : List Range) (xs : List ℕ) → every (readable V1 written) xs ≡ allLess (behind written) xs
 less-reads written [] = refl
 less-reads written (x ∷ xs) = ap (λ (b : Bool). ltb x (behind written) && b) (less-reads written xs)
 

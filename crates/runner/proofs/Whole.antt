@@ -17,7 +17,8 @@ use Rattle.base.proofs.Lists.{some-is}
 use Rattle.base.specs.Outcome.{Part}
 use Rattle.bytecode.specs.Run.{Instruction, BoardList}
 use Rattle.bytecode.specs.Ranges.{Range, behind, resultValue}
-use Rattle.bytecode.specs.Version.{Version, number, versionOf}
+use Rattle.bytecode.specs.declared.Version.{Version}
+use Rattle.bytecode.specs.Version.{number, versionOf}
 use Rattle.bytecode.specs.Code.{guard, then, addresses, readable, argumentWords, readInstruction, Listed, readInstructions, readOutputs, countsFit, readCounts, codeMarked, decode}
 use Rattle.bytecode.proofs.Back.{version-number}
 use Rattle.bytecode.proofs.Decoded.{then-inv, addresses-length}

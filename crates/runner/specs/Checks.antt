@@ -16,7 +16,8 @@ use Rattle.base.specs.Limits.{portWordLimit, wordLimit, valueLimit, headerLengt
 use Rattle.value.specs.Values.{constantWord}
 use Rattle.bytecode.specs.Run.{BoardList, spans}
 use Rattle.bytecode.specs.Ranges.{Range, inside, behind}
-use Rattle.bytecode.specs.Version.{Version, version2}
+use Rattle.bytecode.specs.declared.Version.{Version}
+use Rattle.bytecode.specs.declared.Version.the-variants.{V2}
 use Rattle.bytecode.specs.Code.{then, addresses, readable, argumentWords, Listed, readInstructions, readOutputs}
 use Rattle.bytecode.specs.WellFormed.{Codes}
 use Rattle.executor.specs.Execution.{endOf, wordsGiven}
@@ -100,7 +101,7 @@ marked marks a = getD marks a false
 
 pub record Records (written : List Range) (marks : List Bool) : Type 0 where
   pub size : length marks ≡ wordLimit
-  pub is : (a : ℕ) → marked marks a ≡ readable version2 written a
+  pub is : (a : ℕ) → marked marks a ≡ readable V2 written a
 
 -- only version 2 keeps it
 abbrev pub Recorded : Bool → List Range → List Bool → Type 0

@@ -11,7 +11,7 @@ use Rattle.value.specs.Values.{argumentWord}
 use Rattle.base.specs.Lists.{every, Each}
 use Rattle.base.specs.Outcome.{Outcome, ok, fault}
 use Rattle.bytecode.specs.Run.{BoardList, run}
-use Rattle.bytecode.specs.Version.{Version}
+use Rattle.bytecode.specs.declared.Version.{Version}
 use Rattle.bytecode.specs.Code.{addresses, decode}
 use Rattle.bytecode.specs.WellFormed.{Codes}
 use Rattle.bytecode.specs.Answers.{Buffers}

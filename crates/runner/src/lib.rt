@@ -11,7 +11,7 @@ ghost use Rattle.base.specs.Bytes.{u16};
 ghost use Rattle.base.specs.Lists.{wordAt, every};
 ghost use Rattle.value.specs.Values.{argumentWord};
 ghost use Rattle.bytecode.specs.Code as Code;
-ghost use Rattle.bytecode.specs.Version.{version1, version2};
+ghost use Rattle.bytecode.specs.declared.Version.the-variants.{V1, V2};
 ghost use Rattle.bytecode.specs.Code.{addresses, argumentWords, readInstructions, countsFit, decode};
 ghost use Rattle.bytecode.specs.Answers.{ran};
 ghost use Rattle.executor.specs.Instructions.{versionBy};
@@ -185,7 +185,7 @@ fn check_list(s: &[u8], addressed: bool, counts: Counts, marks: &mut [bool]) -> 
 // Version 1 keeps no marks.
 fn check_sequential(s: &[u8], counts: Counts) -> Checked
     requires { ⌜ Listable false (now s) counts [] ⌝ }
-    ensures { λ r. ⌜ r ≡ checkedOf (listOf version1 (now (s .entry)) counts) ⌝ }
+    ensures { λ r. ⌜ r ≡ checkedOf (listOf V1 (now (s .entry)) counts) ⌝ }
 {
     let mut marks = [false; 0];
     check_list(s, false, counts, &mut marks)
@@ -194,7 +194,7 @@ fn check_sequential(s: &[u8], counts: Counts) -> Checked
 // Version 2, with a mark for each word: the arguments are written first.
 fn check_addressed(s: &[u8], counts: Counts) -> Checked
     requires { ⌜ Listable false (now s) counts [] ⌝ }
-    ensures { λ r. ⌜ r ≡ checkedOf (listOf version2 (now (s .entry)) counts) ⌝ }
+    ensures { λ r. ⌜ r ≡ checkedOf (listOf V2 (now (s .entry)) counts) ⌝ }
 {
     let mut marks = [false; WORD_LIMIT];
     written::mark_words(&mut marks, 0, counts.arguments);

@@ -50,7 +50,7 @@ module _ (early : List Function) (f : Function) (sound : AllSound (f ∷ early))
   pub sizes-are : (p o r w m b c a u : ℕ) → p ≡ f .place → o ≡ min operationCap (functionOperations (operationsOf early) f)
       → r ≡ min wordCap (resultWords (resultWordsOf early) f) → m ≡ min operationCap (functionInstructions (instructionsOf early) f) → b ≡ min byteCap (functionBytes (bytesOfFunction early) f)
       → a ≡ widths (f .inputs) → u ≡ widths (outputTypes (f .outputs)) → w ≡ min wordCap (a + r) → c ≡ codeLength o w b u
-      → record { place = p; operations = o; words = w; instructions = m; code = c; arguments = a; outputs = u } ≡ cappedSizes early f
+      → record { place = p; operations = o; words = w; instructions = m; bytes = b; code = c; arguments = a; outputs = u } ≡ cappedSizes early f
   unfolding codeLength cappedSizes
   sizes-are p o r w m b c a u ep eo er em eb ea eu ew ec =
       let operations = functionOperations (operationsOf early) f in
@@ -59,7 +59,7 @@ module _ (early : List Function) (f : Function) (sound : AllSound (f ∷ early))
       let lw : leb w wordLimit ≡ leb (functionWords early f) wordLimit = ap (λ (n : ℕ). leb n wordLimit) fw ∙ leb-cap wordLimit (functionWords early f) in
       let fc : c ≡ cond (withinLimits operations (functionWords early f)) (length (encode V1 (boardListOf early f))) 0 =
       ec ∙ rw (lo, lw, eb) (code-is u eu (leb operations operationLimit) (leb (functionWords early f) wordLimit) refl) in
-      rw (ep, eo, fw, em, fc, ea, eu)
+      rw (ep, eo, fw, em, eb, fc, ea, eu)
 
 -- ---- of the function at position k
 
@@ -80,7 +80,7 @@ module _ (s : List ℕ) (k : ℕ) where
 
   pub measured-at : AllSound (functionIn s k ∷ before s k) → ReadsFunction s (placeOf s k) → (os ws cs bs : List ℕ) → Summed s os ws cs bs k → (p w c : ℕ) (x : Sums) (t : PortWords)
       → p ≡ placeOf s k → x ≡ sumsAt os ws cs bs k → PortWordsAt s p t → w ≡ min wordCap (t .inputs + x .words) → c ≡ codeLength (x .operations) w (x .bytes) (t .outputs)
-      → Measures s k (record { place = p; operations = x .operations; words = w; instructions = x .instructions; code = c; arguments = t .inputs; outputs = t .outputs })
+      → Measures s k (record { place = p; operations = x .operations; words = w; instructions = x .instructions; bytes = x .bytes; code = c; arguments = t .inputs; outputs = t .outputs })
   measured-at sound reads os ws cs bs h p w c x t ep ex pw ew ec =
       let e = ex ∙ h ∙ ap capSums own-are in
       record {

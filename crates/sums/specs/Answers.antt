@@ -15,9 +15,9 @@ use Rattle.bytecode.specs.declared.Version.the-variants.{V1}
 use Rattle.bytecode.specs.Code.{encode}
 use Rattle.reader.specs.Layout.{functionAt}
 use Rattle.reader.specs.Find.{ReadsFunction}
-use Rattle.sums.specs.CodeSums.{functionInstructions, instructionsOf}
+use Rattle.sums.specs.CodeSums.{functionInstructions, functionBytes, instructionsOf, bytesOfFunction}
 use Rattle.sums.specs.Position.{functionIn, before}
-use Rattle.sums.specs.Capped.{operationCap, wordCap}
+use Rattle.sums.specs.Capped.{operationCap, wordCap, byteCap}
 use Rattle.sums.specs.declared.PortWords.{PortWords}
 use Rattle.sums.specs.declared.Sizes.{Sizes}
 
@@ -48,6 +48,7 @@ cappedSizes early f =
       operations = min operationCap operations;
       words = min wordCap words;
       instructions = min operationCap (functionInstructions (instructionsOf early) f);
+      bytes = min byteCap (functionBytes (bytesOfFunction early) f);
       code = cond (withinLimits operations words) (length (encode V1 (boardListOf early f))) 0;
       arguments = widths (f .inputs);
       outputs = widths (outputTypes (f .outputs));

@@ -131,3 +131,7 @@ AllSummed s os ws cs bs k = (j : ℕ) → j < k → Summed s os ws cs bs j
 -- the words of the functions before k
 abbrev pub WordsHeld : List ℕ → List ℕ → ℕ → Type 0
 WordsHeld s words k = (g : ℕ) → g < k → getD words g 0 ≡ cappedWords s g
+
+-- and their instructions
+abbrev pub CountsHeld : List ℕ → List ℕ → ℕ → Type 0
+CountsHeld s counts k = (g : ℕ) → g < k → getD counts g 0 ≡ cappedInstructions s g

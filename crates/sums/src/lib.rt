@@ -8,7 +8,7 @@ ghost use Rattle.ports.specs.Ports.{widths};
 ghost use Rattle.reader.specs.Layout.{nodeAt, nodesAt};
 ghost use Rattle.reader.specs.Find.{ReadsNode, ReadsNodes, ReadsFunction};
 ghost use Rattle.sums.specs.Position.{tabulate, placeOf, positionOf, AllRead, Accepted, Started};
-ghost use Rattle.sums.specs.Capped.{Small, both, capSums, sumsAt, plainSums, nodesSums, Caps, Summed, AllSummed, WordsHeld, cappedOperations, cappedWords, cappedInstructions, cappedBytes};
+ghost use Rattle.sums.specs.Capped.{Small, both, capSums, sumsAt, plainSums, nodesSums, Caps, Summed, AllSummed, WordsHeld, CountsHeld, cappedOperations, cappedWords, cappedInstructions, cappedBytes};
 ghost use Rattle.sums.specs.Answers.{typesBy, codeLength, PortWordsAt, Measures};
 use base::CODE_LIMIT;
 use base::FUNCTION_LIMIT;
@@ -295,13 +295,14 @@ fn code_length(operations: usize, words: usize, bytes: usize, outputs: usize) ->
     }
 }
 
-// A function's place; its operations, words and instructions, saturated: exact up to the limits; the length of its code, 0 where
-// operations or words are above their limits; the words of its inputs and outputs.
+// A function's place; its operations, words and instructions and their bytes in version 1, saturated: exact up to the limits; the
+// length of its code, 0 where operations or words are above their limits; the words of its inputs and outputs.
 pub struct Sizes {
     pub place: usize,
     pub operations: usize,
     pub words: usize,
     pub instructions: usize,
+    pub bytes: usize,
     pub code: usize,
     pub arguments: usize,
     pub outputs: usize,
@@ -330,25 +331,26 @@ pub fn sizes_at(
         operations: own.operations,
         words: all,
         instructions: own.instructions,
+        bytes: own.bytes,
         code,
         arguments: ports.inputs,
         outputs: ports.outputs,
     }
 }
 
-// The sizes of the function at position k of an accepted table, and the words of the functions up to it.
+// The sizes of the function at position k of an accepted table, and the words and instructions of the functions up to it.
 pub fn measure(
     t: &[u8],
     starts: &[usize; FUNCTION_LIMIT],
     k: usize,
     words: &mut [u32; FUNCTION_LIMIT],
+    counts: &mut [u32; FUNCTION_LIMIT],
 ) -> Sizes
-    requires { ⌜ Accepted (now t) (suc k) × Started (now t) (now starts) (suc k) × (length (now words) ≡ functionLimit) ⌝ }
-    ensures { λ r. ⌜ Measures (now (t .entry)) k r × WordsHeld (now (t .entry)) (now (words .exit)) (suc k) ⌝ }
+    requires { ⌜ Accepted (now t) (suc k) × Started (now t) (now starts) (suc k) × (length (now words) ≡ functionLimit) × (length (now counts) ≡ functionLimit) ⌝ }
+    ensures { λ r. ⌜ Measures (now (t .entry)) k r × WordsHeld (now (t .entry)) (now (words .exit)) (suc k) × CountsHeld (now (t .entry)) (now (counts .exit)) (suc k) ⌝ }
 {
     let mut ops = [0u32; FUNCTION_LIMIT];
-    let mut counts = [0u32; FUNCTION_LIMIT];
     let mut sizes = [0u32; FUNCTION_LIMIT];
-    all_sums(t, starts, k + 1, &mut ops, words, &mut counts, &mut sizes);
-    sizes_at(t, starts, k, &ops, words, &counts, &sizes)
+    all_sums(t, starts, k + 1, &mut ops, words, counts, &mut sizes);
+    sizes_at(t, starts, k, &ops, words, counts, &sizes)
 }

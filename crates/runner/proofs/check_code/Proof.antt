@@ -9,7 +9,7 @@ use denote.Ref.{now}
 use lib.ListN.{length}
 use borrow.Author.Tests.{not-true, not-false}
 use Rattle.base.specs.Bytes.{byte, u16, Bytes}
-use Rattle.bytecode.specs.Version.{version1, version2}
+use Rattle.bytecode.specs.declared.Version.the-variants.{V1, V2}
 use Rattle.bytecode.specs.Code.{countsFit, codeMarked}
 use Rattle.runner.specs.declared.Counts.{Counts}
 use Rattle.runner.specs.Checks.{Listable, checkedOf, headerCounts, listOf}
@@ -95,16 +95,16 @@ returns-4 c =
     let p = c .before .before in
     check-exact (s3 p) (bytes-at p)
     (c .check-sequential .ensures
-    ∙ ap (λ (n : Counts). checkedOf (listOf version1 (s3 p) n)) (counts-are (counted p))
-    ∙ by-version (s3 p) (long-is p) (mark-is (mark (counted p))) (within-is p) version1 (sym (p .u16-at .ensures .0) ∙ c .before .if4 .taken))
+    ∙ ap (λ (n : Counts). checkedOf (listOf V1 (s3 p) n)) (counts-are (counted p))
+    ∙ by-version (s3 p) (long-is p) (mark-is (mark (counted p))) (within-is p) V1 (sym (p .u16-at .ensures .0) ∙ c .before .if4 .taken))
 
 returns-5 : tie.Need-returns-5
 returns-5 c =
     let p = c .before .before .before in
     check-exact (s3 p) (bytes-at p)
     (c .check-addressed .ensures
-    ∙ ap (λ (n : Counts). checkedOf (listOf version2 (s3 p) n)) (counts-are (counted p))
-    ∙ by-version (s3 p) (long-is p) (mark-is (mark (counted p))) (within-is p) version2 (sym (p .u16-at .ensures .0) ∙ c .before .if5 .taken))
+    ∙ ap (λ (n : Counts). checkedOf (listOf V2 (s3 p) n)) (counts-are (counted p))
+    ∙ by-version (s3 p) (long-is p) (mark-is (mark (counted p))) (within-is p) V2 (sym (p .u16-at .ensures .0) ∙ c .before .if5 .taken))
 
 returns-6 : tie.Need-returns-6
 returns-6 c =

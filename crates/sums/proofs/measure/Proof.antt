@@ -11,14 +11,11 @@ use Rattle.sums.proofs.measure.Tie as tie
 
 -- ---- places: the arrays are made, and then summed
 
-abbrev made : tie.After-sizes → tie.After-ops
-made c = c .before .before .before
-
 abbrev start : tie.After-sizes → tie.Start
-start c = made c .before .before
+start c = let o = c .before .before in o .before .before .before
 
 abbrev summed : tie.After-sizes2 → tie.After-all-sums
-summed c = let o = c .before .before .before in o .before
+summed c = let o = c .before .before in o .before .before
 
 below : (b : tie.Start) → b .args .k < functionLimit
 below b = let l = few (b .args .t .now) (suc (b .args .k)) (b .pre .0) in omega arith
@@ -32,7 +29,7 @@ all-sums-requires c κs =
     let a = b .args in
     let l = below b in (
       (omega arith, fewer-starts (a .t .now) (a .starts .now) (suc (a .k)) (a .k + 1) (b .pre .1) (omega arith)),
-      (length-replicate {A = ℕ} functionLimit 0, b .pre .2, length-replicate {A = ℕ} functionLimit 0, length-replicate {A = ℕ} functionLimit 0),
+      (length-replicate {A = ℕ} functionLimit 0, b .pre .2, b .pre .3, length-replicate {A = ℕ} functionLimit 0),
     )
 
 sizes-at-requires : tie.Need-sizes-at-requires
@@ -44,7 +41,7 @@ sizes-at-requires c κs =
 returns : tie.Need-returns
 returns c =
     let x = summed (c .before) in
-    (c .sizes-at .ensures, (λ g h. ap (λ (y : Sums). y .words) (x .all-sums .ensures .1 g (omega arith))))
+    (c .sizes-at .ensures, (λ g h. ap (λ (y : Sums). y .words) (x .all-sums .ensures .1 g (omega arith))), (λ g h. ap (λ (y : Sums). y .instructions) (x .all-sums .ensures .1 g (omega arith))))
 
 pub measure-spec : {M : Type 1} → statement M
 measure-spec = tie.close (tie.spec add-all-sums all-sums-requires sizes-at-requires returns)
