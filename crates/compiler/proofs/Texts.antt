@@ -1,10 +1,13 @@
 -- What is written is the code of the list: in version 1 the addresses are its words; in version 2 the names' places are its words.
 use Prim.Native.Nat.{ℕ, zero, suc, _+_, _*_, _≤_, _<_}
 use mathlib.Core.Path.{_≡_, refl, sym, ap, ap₂, _∙_, subst}
+use mathlib.Core.Bool.{Bool, true, false, cond}
 use mathlib.Core.List.{List, [], _∷_, _++_, map, append-nil}
 use native.Mathlib.Omega.{arith}
+use lib.Dec.{leb}
 use lib.ListN.{length, getD, replicate, length-map, length-replicate}
 use lib.Seq.{sets, length-sets}
+use borrow.Author.Tests.{leb-true}
 use Rattle.base.specs.Bytes.{allBytes}
 use Rattle.base.specs.Limits.{placedLimit, portLimit, operationLimit, wordLimit}
 use Rattle.base.proofs.Stores.{sets-in}
@@ -18,11 +21,12 @@ use Rattle.bytecode.specs.Run.{Instruction, BoardList, places, spans}
 use Rattle.bytecode.specs.Ranges.{Range, resultValue}
 use Rattle.bytecode.specs.Code.{headerCode, instructionsCode, encode}
 use Rattle.placement.specs.declared.Extent.{Extent}
+use Rattle.placement.specs.declared.Extent.the-variants.{Words, Over}
 use Rattle.placement.specs.Live.{inputValues}
 use Rattle.placement.specs.Place.{placesOf, rename, renamed, reusing}
 use Rattle.placement.specs.OneValue.{Placeable}
 use Rattle.placement.specs.Arrays.{nothing, valuesOf, Wide, Widths, Lasting}
-use Rattle.placement.specs.Record.{Placement}
+use Rattle.placement.specs.Record.{Placement, extentOf}
 use Rattle.placement.proofs.Words.{all-wide, extent-is}
 use Rattle.lowering.specs.Compile.{Inlined, inlineFunction, inlined, boardListOf}
 use Rattle.lowering.specs.Naming.{nameStep, namedOf, AllRename}
@@ -46,6 +50,22 @@ input-wides : (at : ℕ) (ts : List ℕ) (v : ℕ) → v < length ts → getD (i
 input-wides at [] v l = absurd (omega arith)
 input-wides at (t ∷ ts) zero l = refl
 input-wides at (t ∷ ts) (suc v) l = input-wides (at + width t) ts v (omega arith)
+
+-- an extent that is a number
+pub extent-words : (n w : ℕ) → Words n ≡ extentOf w → (n ≡ w) × (w ≤ wordLimit)
+extent-words n w e = pick (leb w wordLimit) refl e
+  where
+    number : Extent → ℕ
+    number (Words m) = m
+    number Over = 0
+
+    is-words : Extent → ℕ
+    is-words (Words m) = 0
+    is-words Over = 1
+
+    pick : (c : Bool) → leb w wordLimit ≡ c → Words n ≡ cond c (Words w) Over → (n ≡ w) × (w ≤ wordLimit)
+    pick true q e = (ap number e, leb-true w wordLimit q)
+    pick false q e = absurd (let z : _≡_ {A = ℕ} 0 1 = ap is-words e in omega arith)
 
 module _ {s : List ℕ} {k : ℕ} (acc : Accepted s (suc k)) where
   abbrev f : Function
@@ -157,3 +177,10 @@ module _ {s : List ℕ} {k : ℕ} (acc : Accepted s (suc k)) where
             let head : ℕ → ℕ → List ℕ = λ o c. headerCode 2 (widths (f .inputs)) o c (reusedAt s k .words) in
             ap₂ (λ (o c : ℕ). head o c ++ (instructionsCode V2 (map (relocated place) (n .code)) ++ allBytes 2 (spans ts (map (relocate place) (n .ports))))) count-out count-code
             ∙ ap₂ (λ (is : List Instruction) (xs : List ℕ). head (length (map (rename ps) (b .outputs))) (length (map (renamed ps) (b .instructions))) ++ (instructionsCode V2 is ++ allBytes 2 xs)) code outs
+
+-- with the word count as the placement answers it
+pub words-placed : {s : List ℕ} {k : ℕ} {place : List ℕ} {n : ℕ} → Places s k place (Words n) → n ≤ wordLimit → textOf Addressed place s k n ≡ encode V2 (reusedAt s k)
+words-placed {s} {k} {place} {n} p l = ap (textOf Addressed place s k) (words-are (p .extent) .0) ∙ p .text (words-are (p .extent) .1)
+  where
+    words-are : Words n ≡ extentOf (reusedAt s k .words) → (n ≡ reusedAt s k .words) × (reusedAt s k .words ≤ wordLimit)
+    words-are e = extent-words n (reusedAt s k .words) e
