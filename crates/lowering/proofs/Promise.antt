@@ -3,7 +3,6 @@ use Prim.Native.Nat.{ℕ, _≤_}
 use mathlib.Core.Path.{_≡_, refl, ap, sym, _∙_}
 use mathlib.Core.List.{List, [], _∷_, map, map-append}
 use mathlib.Core.Option.{some}
-use mathlib.Core.Logic.{inr}
 use native.Mathlib.Omega.{arith}
 use lib.ListN.{length}
 use lib.Seq.{sets, length-sets}
@@ -20,7 +19,7 @@ use Rattle.graph.specs.Meaning.{functionMeans, meaningOf}
 use Rattle.bytecode.specs.Run.{run, places, spans}
 use Rattle.graph.specs.Schedule.{schedule}
 use Rattle.lowering.specs.Compile.{inlineFunction, inlined, boardListOf}
-use Rattle.bytecode.proofs.Memory.{Keeps, Stand, keeps-sets, stand-placed}
+use Rattle.bytecode.proofs.Memory.{Stand, stand-placed}
 use Rattle.base.proofs.Stores.{sets-words}
 use Rattle.lowering.proofs.Simulate.{inlined-up, nodes-up, Served, serves, function-served}
 
@@ -40,8 +39,6 @@ pub record Runs (early : List Function) (f : Function) (args : List Value) (m : 
   pub meant : functionMeans (meaningOf early) f args ≡ some values
   pub typed : Typed (outputTypes (f .outputs)) values
   pub outputs : run (boardListOf early f) (allWords args) m .outputs ≡ allWords values
-  pub size : length (run (boardListOf early f) (allWords args) m .memory) ≡ length m
-  pub rest : (i : ℕ) → boardListOf early f .words ≤ i → wordAt (run (boardListOf early f) (allWords args) m .memory) i ≡ wordAt m i
 
 -- the run of the instructions, once the arguments stand
 pub whole-served : (early : List Function) (f : Function) → AllSound (f ∷ early) → (args : List Value) → Typed (f .inputs) args → (m : List ℕ)
@@ -62,20 +59,11 @@ whole-served early f (sound, sounds) args typed m l =
 pub runs : (early : List Function) (f : Function) → AllSound (f ∷ early) → (args : List Value) → Typed (f .inputs) args → (m : List ℕ)
     → boardListOf early f .words ≤ length m → Runs early f args m
 runs early f sound args typed m l =
-    let ins = places 0 (f .inputs) in
-    let start = widths (f .inputs) in
-    let o = inlineFunction widths (inlined widths early) f ins start in
-    let m′ = sets m 0 (allWords args) in
-    let count : length (allWords args) ≡ start = typed-widths (f .inputs) args typed in
-    let up : start ≤ o .next = nodes-up (inlined widths early) (inlined-up early) ins (schedule (f .nodes)) [] start in
-    let same : length m′ ≡ length m = length-sets m 0 (allWords args) in
-    let first : Keeps 0 start m m′ = keeps-sets m 0 start (allWords args) (omega arith) in
+    let o = inlineFunction widths (inlined widths early) f (places 0 (f .inputs)) (widths (f .inputs)) in
     let r = whole-served early f sound args typed m l in
     record {
       values = r .values;
       meant = r .meant;
       typed = r .typed;
       outputs = spans-words _ (o .next) (outputTypes (f .outputs)) (o .ports) (r .values) (r .typed) (r .stand);
-      size = r .kept .size ∙ same;
-      rest = λ i h. r .kept .same i (inr h) ∙ first .same i (inr (omega arith));
     }

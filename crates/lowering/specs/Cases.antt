@@ -274,7 +274,9 @@ versionCases =
     ∷ uncompiled tableWords 4 3 (replicate 22 7) 31 0
     ∷ uncompiled tableOperations 5 2 (replicate 22 7) 15 0
     ∷ uncompiled tableA 1 2 (replicate 21 7) 17 0
-    -- 18: no such version; a word count too high, and too low; an operand not yet written, and never; an output never written
+    -- 18 in version 1: an operand at its own result
+    ∷ unrun (set codeA 14 0x02) (three ∷ half ∷ []) (replicate 3 7) (replicate 1 7) 18 0
+    -- 18: no such version; in version 2 a word count too high, and too low; an operand not yet written, and never; an output never written
     ∷ unrun (set codeA2 3 0x03) (three ∷ half ∷ []) (replicate 3 7) (replicate 1 7) 18 0
     ∷ unrun (set codeCalls2 10 0x04) (three ∷ []) (replicate 4 7) (replicate 1 7) 18 0
     ∷ unrun (set codeCalls2 10 0x02) (three ∷ []) (replicate 4 7) (replicate 1 7) 18 0
@@ -285,4 +287,4 @@ versionCases =
 
 pub settled-versions : Each Holds versionCases
 unfolding verdict table formatOf need _>>=_ _>>_ via nodeMeans meaningOf results operationsOf resultWordsOf schedule inlined encode decode guard then execute compiled ran Ieee.add Ieee.mul Ieee.ofBits Ieee.toBits
-settled-versions = ((refl, refl), ((refl, refl), ((refl, refl), ((refl, refl), ((refl, refl), (refl, (refl, (refl, (refl, (refl, (refl, (refl, (refl, (refl, (refl, (refl, (refl, (refl, (refl, (refl, (refl, (refl, tt))))))))))))))))))))))
+settled-versions = ((refl, refl), ((refl, refl), ((refl, refl), ((refl, refl), ((refl, refl), (refl, (refl, (refl, (refl, (refl, (refl, (refl, (refl, (refl, (refl, (refl, (refl, (refl, (refl, (refl, (refl, (refl, (refl, tt)))))))))))))))))))))))
