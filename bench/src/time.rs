@@ -76,6 +76,17 @@ pub fn pair(
     [1e9 * median(times.0), 1e9 * median(times.1), ratio]
 }
 
+/// Nanoseconds of one call that has nothing to be held to; its instructions are not counted.
+#[cfg(feature = "evaluate_version")]
+pub fn alone(call: &mut dyn FnMut()) -> f64 {
+    if counting() {
+        return 0.0;
+    }
+    let size = batch_size(call);
+    let times = (0..ROUNDS).map(|_| batch(call, size) / size as f64);
+    1e9 * median(times.collect())
+}
+
 /// Takes an answer, so that the call that gave it is not left out.
 pub fn keep<T>(answer: T) {
     black_box(answer);

@@ -8,7 +8,7 @@ use generate::reuse;
 use crate::lists::{layer_lists, lists};
 use crate::stack::deepest;
 use crate::tables::{Case, calls, case, cases, duration, stack_cell};
-use crate::time::{keep, pair};
+use crate::time::{alone, keep, pair};
 
 const SIDES: [&str; 2] = ["version 2", "version 1"];
 
@@ -37,6 +37,18 @@ fn compiled() -> Vec<Case> {
     cases
 }
 
+/// Tables that have a list of version 2 alone: what version 1 sums up to passes its limit.
+fn only_version_2() -> [Case; 3] {
+    [
+        case(
+            "chain of 255 matrices called 3 times",
+            reuse::matrix_chains(255, 3),
+        ),
+        case("255 matrices called 16 times", reuse::matrices_called(16)),
+        case("512 matrices held at once", reuse::held(7, 0, 0)),
+    ]
+}
+
 fn code(case: &Case, version: u16) -> Result<Vec<u8>, independent::Refusal> {
     independent::compile_version(&case.table, case.id, version, usize::MAX)
 }
@@ -51,13 +63,7 @@ fn words() {
     println!("| table, its last function | instructions | version 1 | version 2 | share |");
     println!("|---|--:|--:|--:|--:|");
     let mut cases = compiled();
-    cases.extend([
-        case(
-            "chain of 255 matrices called 3 times",
-            reuse::matrix_chains(255, 3),
-        ),
-        case("512 matrices held at once", reuse::held(7, 0, 0)),
-    ]);
+    cases.extend(only_version_2());
     for case in cases {
         let own = code(&case, 2).expect("within the limits");
         let instructions = u16::from_le_bytes([own[8], own[9]]);
@@ -108,6 +114,22 @@ fn compile() {
             duration(times[0]),
             duration(times[1]),
             times[2],
+            stack_cell(deepest(&mut second)),
+        );
+    }
+    for case in only_version_2() {
+        let (table, id) = (&case.table[..], case.id);
+        let got = quetlapin::compile_version(table, id, 2, &mut buffer);
+        let wanted = code(&case, 2).expect("within the limits");
+        assert!(got.is_ok_and(|n| buffer[..n] == wanted), "{}", case.name);
+        let mut second = || {
+            let table = black_box(table);
+            keep(quetlapin::compile_version(table, id, 2, &mut buffer));
+        };
+        println!(
+            "| {} | {} | none | | | {} |",
+            case.name,
+            duration(alone(&mut second)),
             stack_cell(deepest(&mut second)),
         );
     }

@@ -239,7 +239,7 @@ fn word(value: f64) -> u64 {
 }
 
 /// One instruction, whose operands' addresses stand at `at`: where the next stands, and the end of the result.
-#[inline]
+#[inline(always)]
 fn step(kind: u8, ty: u8, code: &[u8], at: usize, work: &mut [u64], to: usize) -> (usize, usize) {
     let operand = |k: usize| u16_at(code, at + 2 * k);
     match kind {
