@@ -57,6 +57,11 @@ pub fn fixed(report: &mut Report, random: &mut Random) {
     for list in reuse::lists().iter().chain(&reuse::malformed_lists()) {
         around(report, random, list);
     }
+    for list in reuse::overlapping() {
+        let code = list.to_bytes();
+        let words = arguments(&code);
+        compare(report, &code, &words, exact_room(&code), None);
+    }
     for list in &reuse::lists()[..2] {
         every_address(report, list);
     }
@@ -68,7 +73,7 @@ pub fn fixed(report: &mut Report, random: &mut Random) {
     counts(report);
     let mut graphs = shapes::all_shapes();
     graphs.extend([shapes::case_k(), shapes::case_n(0), shapes::case_o(0)]);
-    graphs.extend(reuse::all());
+    graphs.extend(reuse::graphs());
     for graph in &graphs {
         shape(report, random, graph);
     }

@@ -203,6 +203,8 @@ pub fn every_kind(report: &mut Report, random: &mut Random) {
         let graph = shapes::kind_on_quotients(kind, ty);
         let table = graph.to_bytes();
         let code = independent::compile(&table, 1, usize::MAX).expect("within the limits");
+        let code_2 = independent::compile_version(&table, 1, 2, usize::MAX);
+        let code_2 = code_2.expect("within the limits");
         let meaning = Meaning::of(&table, 1);
         let inputs = &graph.functions[0].inputs;
         let most = Room {
@@ -237,6 +239,10 @@ pub fn every_kind(report: &mut Report, random: &mut Random) {
             }
             let room = if k < 3 { most } else { exact_room(&code) };
             compare(report, &code, &arguments, room, Some(&meaning));
+            // Version 2 on some of them.
+            if cfg!(feature = "evaluate_version") && k % 7 == 0 {
+                compare(report, &code_2, &arguments, room, Some(&meaning));
+            }
         }
     }
 }

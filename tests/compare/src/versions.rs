@@ -196,7 +196,7 @@ pub fn fixed(report: &mut Report, random: &mut Random) {
             compile(report, &table, id, other, need);
         }
     }
-    for graph in reuse::all() {
+    for graph in reuse::graphs() {
         around(report, &graph);
     }
     for graph in [
@@ -219,11 +219,16 @@ pub fn fixed(report: &mut Report, random: &mut Random) {
         heat_exchanger::graph(),
         reuse::gaps(),
         reuse::matrix_chains(255, 3),
+    ] {
+        evaluate_faults(report, &graph, &FAULTS);
+    }
+    // At the limit of words, over it, and over both limits: a fault more makes two.
+    for graph in [
         reuse::held(7, 0, 0),
         reuse::held(7, 1, 0),
         reuse::held(7, 1, 13),
     ] {
-        evaluate_faults(report, &graph);
+        evaluate_faults(report, &graph, &[|_| ()]);
     }
 }
 
@@ -253,11 +258,11 @@ fn settled(report: &mut Report) {
     }
 }
 
-/// Every function of a graph in both versions, with buffers from three bytes short to three too long, and one that
-/// is enough for all; then evaluated with every buffer exact, short and long.
+/// The last two functions of a graph in both versions, with buffers from three bytes short to three too long, and
+/// one that is enough for all; then evaluated with every buffer exact, short and long.
 fn around(report: &mut Report, graph: &Graph) {
     let table = graph.to_bytes();
-    for function in &graph.functions {
+    for function in graph.functions.iter().rev().take(2) {
         let id = function.id;
         for version in [1, 2] {
             let Some(code) = code(&table, id, version) else {
@@ -346,13 +351,13 @@ fn set(word: Option<&mut u64>, value: f64) {
     }
 }
 
-/// Every two faults at once, and each alone, in both versions.
-fn evaluate_faults(report: &mut Report, graph: &Graph) {
+/// Every fault beside each of these, and alone, in both versions.
+fn evaluate_faults(report: &mut Report, graph: &Graph, beside: &[fn(&mut Call)]) {
     let table = graph.to_bytes();
     let id = graph.functions.last().expect("a function").id;
     for version in [1, 2] {
         let good = Call::good(&table, id, version);
-        for first in FAULTS {
+        for first in beside {
             for second in FAULTS {
                 let mut call = good.clone();
                 first(&mut call);

@@ -1,7 +1,7 @@
 //! Graphs and lists for version 2, whose words are used again: values of every length of life, and counts
 //! around the limit of words.
 
-use crate::codes::Code;
+use crate::codes::{Code, result_words};
 use crate::graph::{Function, Graph, Reference, input};
 use crate::kinds::*;
 
@@ -248,7 +248,7 @@ pub fn near_limits() -> Vec<Graph> {
 }
 
 /// All graphs that are made for version 2.
-pub fn all() -> Vec<Graph> {
+pub fn graphs() -> Vec<Graph> {
     let mut graphs = small();
     graphs.extend([
         matrix_chains(255, 3),
@@ -328,6 +328,32 @@ pub fn lists() -> Vec<Code> {
     let mut none = Code::version_2(3);
     none.output(2);
     lists.push(none);
+    lists
+}
+
+/// One instruction of every kind at every type whose result lies on its operands, or by up to a matrix beside
+/// them; all words are outputs.
+pub fn overlapping() -> Vec<Code> {
+    let mut lists = vec![];
+    for (kind, ty) in all() {
+        let operands = independent::ports(kind, ty).expect("a legal pair").operands;
+        // Operands that lie across one another.
+        let operands: Vec<u16> = (0..operands.len() as u16)
+            .map(|k| 20 + 5 * k % 16)
+            .collect();
+        let constant = match kind {
+            CONSTANT..=CONSTMAT => vec![1.5f64.to_bits(); result_words(kind, ty)],
+            _ => vec![],
+        };
+        for result in 3..=37 {
+            let mut code = Code::version_2(64);
+            code.push_at(result, kind, ty, &operands, &constant);
+            for word in 0..64 {
+                code.output(word);
+            }
+            lists.push(code);
+        }
+    }
     lists
 }
 

@@ -278,7 +278,7 @@ fn limits() {
 
 #[test]
 fn lists() {
-    for list in reuse::lists() {
+    for list in reuse::lists().iter().chain(&reuse::overlapping()) {
         assert!(check_code(&list.to_bytes()).is_ok(), "{list:?}");
     }
     for list in reuse::malformed_lists() {
