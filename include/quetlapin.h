@@ -13,8 +13,9 @@
  * Two things no proof can see are the caller's. The thread's floating-point state must be
  * the default one: rounding to nearest, subnormals not flushed to zero, no traps. A
  * program linked with -ffast-math changes it at its start: 1e-310 times 1 was then 0. And
- * the stack must have room: ifg_compile and ifg_evaluate need a thread of 68 KB, ifg_check
- * 16 KB, ifr_run and ifr_run_points 4 KB, beside what the caller uses.
+ * the stack must have room: ifg_compile_version and ifg_evaluate_version need a thread of
+ * 256 KB, ifg_compile and ifg_evaluate 68 KB, ifg_check 16 KB, ifr_run and ifr_run_points
+ * 4 KB, beside what the caller uses.
  *
  * Words are the bits of IEEE 754 binary64 values. A scalar is 1 word, a vector 3
  * (x, y, z), a matrix 16 (row by row). A NaN that a step gives is always
@@ -42,8 +43,9 @@
  *
  *  The compiler
  *  14  no function of the id asked for
+ *  31  the list version asked for is neither 1 nor 2; judged after 14
  *  15  more than 4,096 operations
- *  16  more than 8,192 words
+ *  16  more than 8,192 words, by the word count of the version asked for
  *  17  the code buffer is shorter than the code
  *
  *  The runner
@@ -70,26 +72,43 @@ extern "C" {
 /* The place of a refusal; for a success the count or length answered. */
 #define IFG_PLACE(answer) ((uint32_t)((uint64_t)(answer) & 0xFFFFFFFFu))
 
+/* Bytes that are enough for every code that the compiler writes: in version 1, and in
+ * version 2 (4,096 constant matrices, 12 + 4,096 * 132 + 256). */
+#define IFR_LONGEST_CODE_1 73996
+#define IFR_LONGEST_CODE_2 540940
+
 /* Checks a table. Success: its function count. Refusals 1 to 13. */
 uint64_t ifg_check(const uint8_t *table, size_t table_length);
 
-/* Compiles the function with this id. Success: the code's length; the code
- * stands at the front of the buffer, the bytes behind it are unchanged.
- * 73,996 bytes are enough for every code. Refusals 1 to 17. */
+/* Compiles the function with this id to a list of version 1. Success: the code's
+ * length; the code stands at the front of the buffer, the bytes behind it are
+ * unchanged. 73,996 bytes are enough for every code. Refusals 1 to 17. */
 uint64_t ifg_compile(const uint8_t *table, size_t table_length,
                      uint16_t id,
                      uint8_t *code, size_t code_length);
 
-/* Runs a code, given its bytes alone. Success: the count of output words, which
- * stand at the front of the output buffer; the front of the work buffer holds all
- * words of the list. The rest of both is unchanged. 8,192 work words and 128
- * output words are enough for every code. Refusals 18 to 21. */
+/* Compiles the function with this id to a list of this version, 1 or 2. Version 1
+ * is what ifg_compile writes. In version 2 each instruction has its result's
+ * address, and the words of a value are used again once nothing reads them.
+ * Success: the code's length; the code stands at the front of the buffer, the
+ * bytes behind it are unchanged. 540,940 bytes are enough for every code of version
+ * 2. Refusals, in this order: 1 to 14; 31; 15; 16, which in version 2 goes by
+ * version 2's word count alone; 17. */
+uint64_t ifg_compile_version(const uint8_t *table, size_t table_length,
+                             uint16_t id, uint16_t version,
+                             uint8_t *code, size_t code_length);
+
+/* Runs a code of either version, given its bytes alone. Success: the count of
+ * output words, which stand at the front of the output buffer; the front of the work
+ * buffer holds all words of the list. The rest of both is unchanged, and so is a
+ * word that a version 2 list never writes. 8,192 work words and 128 output words
+ * are enough for every code. Refusals 18 to 21. */
 uint64_t ifr_run(const uint8_t *code, size_t code_length,
                  const uint64_t *arguments, size_t arguments_length,
                  uint64_t *work, size_t work_length,
                  uint64_t *out, size_t out_length);
 
-/* Runs a code at 0 to 1,024 points. Their arguments stand end to end, and so do
+/* Runs a code of either version at 0 to 1,024 points. Their arguments stand end to end, and so do
  * their output words at the front of the output buffer. Success: the count of all
  * output words; all is as after a call of ifr_run for each point in turn, the work
  * buffer too, but the code is checked once. For no points nothing is written.
@@ -102,8 +121,8 @@ uint64_t ifr_run_points(const uint8_t *code, size_t code_length,
                         uint64_t *work, size_t work_length,
                         uint64_t *out, size_t out_length);
 
-/* Compiles the function with this id into the code buffer and runs the code's
- * bytes on the arguments. Success: the count of output words, which stand at the
+/* Compiles the function with this id to version 1 in the code buffer and runs the
+ * code's bytes on the arguments. Success: the count of output words, which stand at the
  * front of the output buffer and are what the graph means; the front of the work
  * buffer holds all words of the list. The rest of all three buffers is unchanged.
  * The argument words are those of the function's inputs. Refusals 1 to 17 and 19
@@ -114,6 +133,17 @@ uint64_t ifg_evaluate(const uint8_t *table, size_t table_length,
                       uint8_t *code, size_t code_length,
                       uint64_t *work, size_t work_length,
                       uint64_t *out, size_t out_length);
+
+/* The same with a list of this version, 1 or 2. The output words are the same in both;
+ * the work buffer holds that version's words. Refusals, in this order: 1 to 14; 31; 15
+ * to 17 and 19 to 21, by that version's word count and code; each is judged before
+ * anything is written. */
+uint64_t ifg_evaluate_version(const uint8_t *table, size_t table_length,
+                              uint16_t id, uint16_t version,
+                              const uint64_t *arguments, size_t arguments_length,
+                              uint8_t *code, size_t code_length,
+                              uint64_t *work, size_t work_length,
+                              uint64_t *out, size_t out_length);
 
 #ifdef __cplusplus
 }

@@ -11,6 +11,8 @@ mod runs;
 mod stack;
 mod tables;
 mod time;
+#[cfg(feature = "evaluate_version")]
+mod versions;
 #[cfg(feature = "run")]
 mod write;
 
@@ -34,11 +36,14 @@ fn main() {
     points::points();
     #[cfg(feature = "evaluate")]
     runs::evaluate();
+    #[cfg(feature = "evaluate_version")]
+    versions::all();
     for (name, there) in [
         ("compile", cfg!(feature = "compile")),
         ("run", cfg!(feature = "run")),
         ("points", cfg!(feature = "points")),
         ("evaluate", cfg!(feature = "evaluate")),
+        ("evaluate_version", cfg!(feature = "evaluate_version")),
     ] {
         if !there {
             println!("\nNot measured: {name} (the feature is off).");

@@ -15,10 +15,10 @@ pub struct Case {
     #[cfg_attr(not(feature = "compile"), allow(dead_code))]
     pub id: u16,
     /// Whether the stricter target for typical tables holds.
-    typical: bool,
+    pub typical: bool,
 }
 
-fn case(name: &'static str, graph: Graph) -> Case {
+pub fn case(name: &'static str, graph: Graph) -> Case {
     Case {
         name,
         table: graph.to_bytes(),

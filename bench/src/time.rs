@@ -45,23 +45,46 @@ fn median(mut times: Vec<f64>) -> f64 {
 
 /// The medians over batches that alternate.
 pub fn medians(row: &str, library: &mut dyn FnMut(), independent: &mut dyn FnMut()) -> Times {
-    if counting() {
-        count(row, "library", library);
-        count(row, "independent", independent);
-        return Times::default();
+    let [library, independent, ratio] = pair(row, ["library", "independent"], library, independent);
+    Times {
+        library,
+        independent,
+        ratio,
     }
-    let sizes = (batch_size(library), batch_size(independent));
+}
+
+/// Nanoseconds of two calls, named by their sides, and the median of the first's over the second's.
+pub fn pair(
+    row: &str,
+    sides: [&str; 2],
+    first: &mut dyn FnMut(),
+    second: &mut dyn FnMut(),
+) -> [f64; 3] {
+    if counting() {
+        count(row, sides[0], first);
+        count(row, sides[1], second);
+        return [0.0; 3];
+    }
+    let sizes = (batch_size(first), batch_size(second));
     let mut times = (vec![], vec![]);
     for _ in 0..ROUNDS {
-        times.0.push(batch(library, sizes.0) / sizes.0 as f64);
-        times.1.push(batch(independent, sizes.1) / sizes.1 as f64);
+        times.0.push(batch(first, sizes.0) / sizes.0 as f64);
+        times.1.push(batch(second, sizes.1) / sizes.1 as f64);
     }
     let ratios = times.0.iter().zip(&times.1).map(|(a, b)| a / b).collect();
-    Times {
-        ratio: median(ratios),
-        library: 1e9 * median(times.0),
-        independent: 1e9 * median(times.1),
+    let ratio = median(ratios);
+    [1e9 * median(times.0), 1e9 * median(times.1), ratio]
+}
+
+/// Nanoseconds of one call that has nothing to be held to; its instructions are not counted.
+#[cfg(feature = "evaluate_version")]
+pub fn alone(call: &mut dyn FnMut()) -> f64 {
+    if counting() {
+        return 0.0;
     }
+    let size = batch_size(call);
+    let times = (0..ROUNDS).map(|_| batch(call, size) / size as f64);
+    1e9 * median(times.collect())
 }
 
 /// Takes an answer, so that the call that gave it is not left out.

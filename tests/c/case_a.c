@@ -1,4 +1,5 @@
-/* Case A of document 01 through the C header: checked, compiled, run, run at two points, evaluated and refused. */
+/* Case A of document 01 through the C header: checked, compiled, run, run at two points, evaluated and refused, and in
+   version 2 as document 02 has it. */
 #include <stdio.h>
 #include <string.h>
 
@@ -11,6 +12,10 @@ static const uint8_t table[30] = {
 static const uint8_t expected_code[20] = {0x49, 0x46, 0x52, 0x01, 0x00, 0x02, 0x01,
                                           0x00, 0x01, 0x00, 0x03, 0x00, 0x03, 0x01,
                                           0x00, 0x00, 0x01, 0x00, 0x02, 0x00};
+
+static const uint8_t expected_code_2[22] = {0x49, 0x46, 0x52, 0x02, 0x00, 0x02, 0x01, 0x00,
+                                            0x01, 0x00, 0x03, 0x00, 0x03, 0x01, 0x02, 0x00,
+                                            0x00, 0x00, 0x01, 0x00, 0x02, 0x00};
 
 static int failures = 0;
 
@@ -82,7 +87,30 @@ int main(void)
     expect("evaluate answers 1",
            ifg_evaluate(table, sizeof table, 1, arguments, 2, code, sizeof code, work, 4, out, 2) == 1);
     expect("evaluate gives 1.5", out[0] == word(1.5));
+
+    memset(code, 0xA5, sizeof code);
+    answer = ifg_compile_version(table, sizeof table, 1, 3, code, sizeof code);
+    expect("version 3 is refused with 31", IFG_NUMBER(answer) == 31 && IFG_PLACE(answer) == 0);
+    answer = ifg_compile_version(table, sizeof table, 2, 3, code, sizeof code);
+    expect("14 comes before 31", IFG_NUMBER(answer) == 14);
+    answer = ifg_compile_version(table, sizeof table, 1, 2, code, 21);
+    expect("a short code buffer is refused with 17 in version 2", IFG_NUMBER(answer) == 17);
+    for (i = 0; i < sizeof code; i++)
+        expect("a refusal by version leaves the code buffer", code[i] == 0xA5);
+    answer = ifg_compile_version(table, sizeof table, 1, 2, code, sizeof code);
+    expect("compile answers 22 in version 2", answer == 22);
+    expect("the code is case A's in version 2", memcmp(code, expected_code_2, sizeof expected_code_2) == 0);
+    for (i = sizeof expected_code_2; i < sizeof code; i++)
+        expect("bytes behind version 2's code are unchanged", code[i] == 0xA5);
+    out[0] = work[3] = 7;
+    expect("run answers 1 in version 2", ifr_run(code, 22, arguments, 2, work, 4, out, 2) == 1);
+    expect("3 times 0.5 is 1.5 in version 2", out[0] == word(1.5) && work[2] == word(1.5) && work[3] == 7);
+    expect("two points answer 2 in version 2", ifr_run_points(code, 22, 2, two_points, 4, work, 4, out, 3) == 2);
+    expect("two points give 1.5 and -8 in version 2", out[0] == word(1.5) && out[1] == word(-8.0));
+    out[0] = 7;
+    answer = ifg_evaluate_version(table, sizeof table, 1, 2, arguments, 2, code, 22, work, 3, out, 1);
+    expect("evaluate answers 1 in version 2", answer == 1 && out[0] == word(1.5));
     if (failures == 0)
-        printf("C program: case A as document 01 has it\n");
+        printf("C program: case A as documents 01 and 02 have it\n");
     return failures != 0;
 }

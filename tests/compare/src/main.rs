@@ -14,8 +14,12 @@ mod options;
 #[cfg(feature = "points")]
 mod points;
 mod report;
+#[cfg(feature = "evaluate_version")]
+mod reuse;
 #[cfg(feature = "run")]
 mod run;
+#[cfg(feature = "evaluate_version")]
+mod versions;
 
 use std::process::ExitCode;
 use std::time::Instant;
@@ -63,6 +67,12 @@ fn compare(options: &Options) -> bool {
     }
     #[cfg(feature = "points")]
     points::fixed(&mut report);
+    #[cfg(feature = "evaluate_version")]
+    {
+        versions::fixed(&mut report, &mut random);
+        reuse::fixed(&mut report, &mut random);
+        points::fixed_2(&mut report);
+    }
     for _ in 0..options.tables {
         random_table(&mut report, &mut random);
     }
@@ -135,10 +145,19 @@ fn random_table(report: &mut Report, random: &mut Random) {
             evaluate::compare(report, random, &damaged, id_damaged);
         }
     }
+    #[cfg(feature = "evaluate_version")]
+    {
+        versions::random(report, random, &table, id);
+        if random.chance(30) {
+            versions::random(report, random, &damaged, id_damaged);
+        }
+        reuse::random(report, random, &table, id);
+    }
 }
 
 /// Whether each part met every refusal it can give; says which it did not.
 fn all_met(report: &Report) -> bool {
+    let by_version = cfg!(feature = "evaluate_version");
     let parts = [
         (true, Part::Check, 1, 13),
         (cfg!(feature = "compile"), Part::Compile, 1, 17),
@@ -146,6 +165,13 @@ fn all_met(report: &Report) -> bool {
         (cfg!(feature = "points"), Part::Points, 18, 22),
         (cfg!(feature = "evaluate"), Part::Evaluate, 1, 17),
         (cfg!(feature = "evaluate"), Part::Evaluate, 19, 21),
+        (by_version, Part::CompileVersion, 1, 17),
+        (by_version, Part::CompileVersion, 31, 31),
+        (by_version, Part::RunVersion2, 18, 21),
+        (by_version, Part::PointsVersion2, 18, 22),
+        (by_version, Part::EvaluateVersion, 1, 17),
+        (by_version, Part::EvaluateVersion, 19, 21),
+        (by_version, Part::EvaluateVersion, 31, 31),
     ];
     let mut complete = true;
     for (there, part, first, last) in parts {

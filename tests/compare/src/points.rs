@@ -116,7 +116,7 @@ fn compare(report: &mut Report, call: &Call, meaning: Option<&Meaning>) {
             }
         }
     }
-    report.hold(Part::Points, wanted, got, inputs);
+    report.hold(Part::points(code), wanted, got, inputs);
 }
 
 /// The library's own runs, one for each point of a call that is not refused; all their output words.
@@ -181,7 +181,18 @@ pub fn compiled(report: &mut Report, random: &mut Random, meaning: &Meaning, cod
 /// Points of a list that no compiler wrote, and of a damaged one.
 pub fn list(report: &mut Report, random: &mut Random) {
     let code = codes::random_code(random);
-    let damaged = codes::damaged_code(random, &code);
+    list_and_damaged(report, random, &code);
+}
+
+/// The same with a list of version 2.
+#[cfg(feature = "evaluate_version")]
+pub fn list_2(report: &mut Report, random: &mut Random) {
+    let code = codes::random_code_2(random);
+    list_and_damaged(report, random, &code);
+}
+
+fn list_and_damaged(report: &mut Report, random: &mut Random, code: &Code) {
+    let damaged = codes::damaged_code(random, code);
     for bytes in [code.to_bytes(), damaged] {
         let call = some_call(random, bytes);
         compare(report, &call, None);
@@ -217,7 +228,7 @@ const HUGE: [u64; 16] = [
 const FAULTS: [fn(&mut Call); 20] = [
     |call| call.code.truncate(call.code.len() - 1),
     |call| call.code.push(0),
-    |call| call.code[3] = 2,
+    |call| call.code[3] = 3,
     |call| call.count = 1025,
     |call| call.count = 1 << 32,
     |call| call.count = 1 << 63,
@@ -330,6 +341,44 @@ pub fn fixed(report: &mut Report) {
                 let mut call = Call::good(&a, count);
                 call.code[at] = byte;
                 compare(report, &call, None);
+            }
+        }
+    }
+}
+
+/// The same with lists of version 2: compiled ones, one with words that are never written, and one that writes
+/// over its arguments.
+#[cfg(feature = "evaluate_version")]
+pub fn fixed_2(report: &mut Report) {
+    for (table, id) in functions() {
+        let code = independent::compile_version(&table, id, 2, usize::MAX);
+        let code = code.expect("within the limits");
+        let meaning = Meaning::of(&table, id);
+        around(report, &code, Some(&meaning));
+        two_faults(report, &code, &[0, 1, 3]);
+    }
+    let mut holes = Code::version_2(2);
+    holes.push_at(5, kinds::ADDITION, 1, &[0, 1], &[]);
+    holes.push_at(9, kinds::MULTIPLICATION, 1, &[5, 5], &[]);
+    holes.output(9);
+    holes.output(1);
+    let mut over = Code::version_2(3);
+    over.push_at(0, kinds::CROSS, 0, &[0, 0], &[]);
+    over.push_at(1, kinds::ADDITION, 2, &[0, 0], &[]);
+    for word in 0..4 {
+        over.output(word);
+    }
+    for code in [holes, over] {
+        let code = code.to_bytes();
+        around(report, &code, None);
+        two_faults(report, &code, &[0, 1, 3, 1024]);
+        for at in 0..code.len() {
+            for byte in [0, 1, 2, 3, 4, 127, 128, 255] {
+                for count in [0, 2, 1025] {
+                    let mut call = Call::good(&code, count);
+                    call.code[at] = byte;
+                    compare(report, &call, None);
+                }
             }
         }
     }

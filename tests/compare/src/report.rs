@@ -14,20 +14,51 @@ use crate::marked::Marked;
 pub enum Part {
     Check,
     Compile,
+    CompileVersion,
     Run,
+    RunVersion2,
     Points,
+    PointsVersion2,
     Evaluate,
+    EvaluateVersion,
     Lister,
 }
 
-const PARTS: [Part; 6] = [
+const PARTS: [Part; 10] = [
     Part::Check,
     Part::Compile,
+    Part::CompileVersion,
     Part::Run,
+    Part::RunVersion2,
     Part::Points,
+    Part::PointsVersion2,
     Part::Evaluate,
+    Part::EvaluateVersion,
     Part::Lister,
 ];
+
+/// One more than the highest number of a refusal.
+const NUMBERS: usize = 32;
+
+impl Part {
+    /// Runs, by the version that a code says it has.
+    #[cfg(feature = "run")]
+    pub fn run(code: &[u8]) -> Part {
+        match code.get(3..5) {
+            Some([2, 0]) => Part::RunVersion2,
+            _ => Part::Run,
+        }
+    }
+
+    /// Points, by the version that a code says it has.
+    #[cfg(feature = "points")]
+    pub fn points(code: &[u8]) -> Part {
+        match Part::run(code) {
+            Part::RunVersion2 => Part::PointsVersion2,
+            _ => Part::Points,
+        }
+    }
+}
 
 /// Differences printed in full; the rest are only counted.
 const PRINTED: usize = 5;
@@ -35,7 +66,7 @@ const PRINTED: usize = 5;
 #[derive(Default)]
 pub struct Report {
     /// For each part, how often each refusal was met; at 0, how often none.
-    met: [[u64; 23]; 6],
+    met: [[u64; NUMBERS]; PARTS.len()],
     pub differences: usize,
 }
 
@@ -111,6 +142,7 @@ impl Report {
 
     /// A table of the refusals met, in the parts that were compared.
     pub fn print(&self) {
+        let width = |part: Part| format!("{part:?}").len().max(9);
         let parts: Vec<Part> = PARTS
             .into_iter()
             .filter(|&part| self.count(part) > 0)
@@ -118,14 +150,17 @@ impl Report {
         let row = |name: &str, cell: &dyn Fn(Part) -> String| {
             let cells: Vec<String> = parts
                 .iter()
-                .map(|&part| format!("{:>9}", cell(part)))
+                .map(|&part| format!("{:>1$}", cell(part), width(part)))
                 .collect();
             println!("| {name:<8} | {} |", cells.join(" | "));
         };
         row("refusal", &|part| format!("{part:?}"));
-        let lines: Vec<&str> = parts.iter().map(|_| "----------:").collect();
+        let lines: Vec<String> = parts
+            .iter()
+            .map(|&part| format!("{:->1$}:", "", width(part) + 1))
+            .collect();
         println!("|----------|{}|", lines.join("|"));
-        for number in 0..23 {
+        for number in 0..NUMBERS {
             if parts
                 .iter()
                 .all(|&part| self.met[part as usize][number] == 0)

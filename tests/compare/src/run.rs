@@ -40,6 +40,14 @@ pub fn compare(
     };
     report.same_buffer("run: the work buffer", &work, &got_work, inputs);
     report.same_buffer("run: the output buffer", &out, &got_out, inputs);
+    if wanted.is_ok() && Part::run(code) == Part::RunVersion2 {
+        report.same(
+            "run: words never written",
+            &Vec::<usize>::new(),
+            &written_over(code, &got_work, room),
+            inputs,
+        );
+    }
     if let (Ok(count), Some(meaning)) = (wanted, meaning) {
         report.same(
             "run: the meaning",
@@ -57,7 +65,25 @@ pub fn compare(
             inputs,
         );
     }
-    report.hold(Part::Run, wanted, got, inputs);
+    report.hold(Part::run(code), wanted, got, inputs);
+}
+
+/// The work words that a well-formed list of version 2 never writes and that no longer have their marks.
+fn written_over(code: &[u8], work: &Marked<u64>, room: Room) -> Vec<usize> {
+    let code = Code::from_bytes(code);
+    let mut written = vec![false; room.work];
+    written[..code.argument_words as usize].fill(true);
+    for instruction in &code.instructions {
+        let words = codes::result_words(instruction.kind, instruction.ty);
+        written[instruction.result as usize..][..words].fill(true);
+    }
+    let marks = Marked::words(room.work);
+    let pairs = work.front(room.work).iter().zip(marks.front(room.work));
+    pairs
+        .enumerate()
+        .filter(|&(at, (word, mark))| !written[at] && word != mark)
+        .map(|(at, _)| at)
+        .collect()
 }
 
 /// The room that a code says it needs for so many points, exactly, or more, or less.
@@ -112,15 +138,26 @@ pub fn compiled(report: &mut Report, random: &mut Random, meaning: &Meaning, cod
 /// Runs a list that no compiler wrote, and a damaged one.
 pub fn list(report: &mut Report, random: &mut Random) {
     let code = codes::random_code(random);
+    list_and_damaged(report, random, &code);
+}
+
+/// The same with a list of version 2.
+#[cfg(feature = "evaluate_version")]
+pub fn list_2(report: &mut Report, random: &mut Random) {
+    let code = codes::random_code_2(random);
+    list_and_damaged(report, random, &code);
+}
+
+fn list_and_damaged(report: &mut Report, random: &mut Random, code: &Code) {
     let bytes = code.to_bytes();
     let arguments = some_arguments(random, argument_words(&bytes));
     let room = some_room(random, &bytes, 1);
     compare(report, &bytes, &arguments, room, None);
-    let bytes = codes::damaged_code(random, &code);
+    let bytes = codes::damaged_code(random, code);
     damaged(report, random, &bytes);
 }
 
-fn damaged(report: &mut Report, random: &mut Random, bytes: &[u8]) {
+pub fn damaged(report: &mut Report, random: &mut Random, bytes: &[u8]) {
     let arguments = some_arguments(random, argument_words(bytes));
     let room = some_room(random, bytes, 1);
     compare(report, bytes, &arguments, room, None);
@@ -166,6 +203,8 @@ pub fn every_kind(report: &mut Report, random: &mut Random) {
         let graph = shapes::kind_on_quotients(kind, ty);
         let table = graph.to_bytes();
         let code = independent::compile(&table, 1, usize::MAX).expect("within the limits");
+        let code_2 = independent::compile_version(&table, 1, 2, usize::MAX);
+        let code_2 = code_2.expect("within the limits");
         let meaning = Meaning::of(&table, 1);
         let inputs = &graph.functions[0].inputs;
         let most = Room {
@@ -200,12 +239,16 @@ pub fn every_kind(report: &mut Report, random: &mut Random) {
             }
             let room = if k < 3 { most } else { exact_room(&code) };
             compare(report, &code, &arguments, room, Some(&meaning));
+            // Version 2 on some of them.
+            if cfg!(feature = "evaluate_version") && k % 7 == 0 {
+                compare(report, &code_2, &arguments, room, Some(&meaning));
+            }
         }
     }
 }
 
 /// The room that a good code needs.
-fn exact_room(code: &[u8]) -> Room {
+pub fn exact_room(code: &[u8]) -> Room {
     Room {
         work: u16::from_le_bytes([code[10], code[11]]) as usize,
         out: code[6] as usize,

@@ -5,6 +5,7 @@ pub mod graph;
 pub mod heat_exchanger;
 pub mod kinds;
 pub mod random;
+pub mod reuse;
 pub mod shapes;
 pub mod tables;
 

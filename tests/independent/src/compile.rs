@@ -1,4 +1,4 @@
-//! The sums of a function, and the list that is laid down for it: refusals 14 to 17.
+//! The sums of a function, and the list that is laid down for it: refusals 14 to 17, and 31.
 
 use std::cmp::Reverse;
 use std::collections::BinaryHeap;
@@ -6,6 +6,7 @@ use std::collections::BinaryHeap;
 use crate::judge::{Judged, Source, judge};
 use crate::ports::{Ports, ports, type_words};
 use crate::read::{Graph, Payload, read};
+use crate::reuse::reused;
 use crate::{MOST_OPERATIONS, MOST_WORDS, Refusal, refuse};
 
 /// The counts of a function. They stop at the largest u64, far above every limit.
@@ -151,9 +152,39 @@ pub fn compile(table: &[u8], id: u16, available: usize) -> Result<Vec<u8>, Refus
     Ok(code)
 }
 
+/// Compiles the function with this id to a list of this version.
+pub fn compile_version(
+    table: &[u8],
+    id: u16,
+    version: u16,
+    available: usize,
+) -> Result<Vec<u8>, Refusal> {
+    let graph = read(table)?;
+    let judged = judge(&graph)?;
+    let Some(index) = graph.functions.iter().position(|f| f.id == id) else {
+        return refuse(14, 0);
+    };
+    match version {
+        1 => return compile(table, id, available),
+        2 => {}
+        _ => return refuse(31, 0),
+    }
+    if sums(&graph, &judged)[index].operations > MOST_OPERATIONS {
+        return refuse(15, 0);
+    }
+    let list = reused(&graph, &judged, index);
+    if list.words as u64 > MOST_WORDS {
+        return refuse(16, 0);
+    }
+    if list.code.len() > available {
+        return refuse(17, 0);
+    }
+    Ok(list.code)
+}
+
 /// The order of a function's nodes: always the first in the table among those
 /// not yet written whose references are all done.
-fn schedule(graph: &Graph, judged: &Judged, index: usize) -> Vec<usize> {
+pub(crate) fn schedule(graph: &Graph, judged: &Judged, index: usize) -> Vec<usize> {
     let nodes = &graph.functions[index].nodes;
     let sources = &judged.sources[index];
     let mut readers: Vec<Vec<usize>> = vec![Vec::new(); nodes.len()];

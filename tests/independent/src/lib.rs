@@ -10,9 +10,10 @@ mod list;
 mod points;
 mod ports;
 mod read;
+mod reuse;
 mod run;
 
-pub use compile::{Sums, code_length, compile, operations, words};
+pub use compile::{Sums, code_length, compile, compile_version, operations, words};
 pub use evaluate::{Meaning, evaluate};
 pub use list::listing;
 pub use points::run_points;
@@ -28,7 +29,7 @@ pub const MOST_POINTS: u64 = 1024;
 /// The bits of every NaN that a step gives.
 pub const NAN: u64 = 0x7FF8_0000_0000_0000;
 
-/// A refusal: its number, 1 to 22, and its place.
+/// A refusal: its number, 1 to 22 or 31, and its place.
 #[derive(Clone, Copy, Debug, PartialEq, Eq)]
 pub struct Refusal {
     pub number: u32,

@@ -1,12 +1,14 @@
 //! Running a board list: refusals 18 to 21.
 
-use crate::ports::{constant_words, ports, type_words};
+use crate::ports::{Ports, constant_words, ports, type_words};
 use crate::read::finite;
 use crate::{MOST_OPERATIONS, MOST_WORDS, NAN, Refusal, refuse};
 
 /// A code that was found well formed.
 pub struct CheckedCode<'a> {
     code: &'a [u8],
+    /// 1 or 2.
+    pub version: u16,
     pub argument_words: usize,
     pub output_words: usize,
     pub instructions: usize,
@@ -26,11 +28,12 @@ pub fn check_code(code: &[u8]) -> Result<CheckedCode<'_>, Refusal> {
 }
 
 fn well_formed(code: &[u8]) -> Option<CheckedCode<'_>> {
-    if code.len() < 12 || &code[..5] != b"IFR\x01\x00" || code[7] != 0 {
+    if code.len() < 12 || &code[..3] != b"IFR" || code[7] != 0 {
         return None;
     }
     let checked = CheckedCode {
         code,
+        version: u16::from_le_bytes([code[3], code[4]]),
         argument_words: code[5] as usize,
         output_words: code[6] as usize,
         instructions: u16_at(code, 8),
@@ -43,6 +46,16 @@ fn well_formed(code: &[u8]) -> Option<CheckedCode<'_>> {
     {
         return None;
     }
+    match checked.version {
+        1 => well_formed_1(checked),
+        2 => well_formed_2(checked),
+        _ => None,
+    }
+}
+
+/// Version 1: each result takes the next words, and operands stand before it.
+fn well_formed_1(checked: CheckedCode<'_>) -> Option<CheckedCode<'_>> {
+    let code = checked.code;
     let mut at = 12;
     let mut next = checked.argument_words;
     for _ in 0..checked.instructions {
@@ -63,11 +76,7 @@ fn well_formed(code: &[u8]) -> Option<CheckedCode<'_>> {
             }
             at += bytes.len();
         }
-        next += ports
-            .results
-            .iter()
-            .map(|&ty| type_words(ty))
-            .sum::<usize>();
+        next += result_words(&ports);
     }
     if next != checked.words {
         return None;
@@ -78,6 +87,54 @@ fn well_formed(code: &[u8]) -> Option<CheckedCode<'_>> {
     }
     let below = |address: &[u8]| u16_at(address, 0) < checked.words;
     outputs.chunks_exact(2).all(below).then_some(checked)
+}
+
+/// Version 2: each result has an address, and what is read is an argument's or was written before.
+fn well_formed_2(checked: CheckedCode<'_>) -> Option<CheckedCode<'_>> {
+    let code = checked.code;
+    let mut written = vec![false; checked.words];
+    written.get_mut(..checked.argument_words)?.fill(true);
+    let mut highest = checked.argument_words;
+    let mut at = 12;
+    for _ in 0..checked.instructions {
+        let head = code.get(at..at + 4)?;
+        let ports = ports(head[0], head[1])?;
+        at += 4;
+        let addresses = code.get(at..at + 2 * ports.operands.len())?;
+        for (address, &ty) in addresses.chunks_exact(2).zip(ports.operands) {
+            let first = u16_at(address, 0);
+            let read = written.get(first..first + type_words(ty))?;
+            if read.contains(&false) {
+                return None;
+            }
+        }
+        at += addresses.len();
+        if let Some(words) = constant_words(head[0]) {
+            let bytes = code.get(at..at + 8 * words)?;
+            if !bytes.chunks_exact(8).all(finite) {
+                return None;
+            }
+            at += bytes.len();
+        }
+        let first = u16_at(head, 2);
+        let end = first + result_words(&ports);
+        // A result word that the word count leaves out would make it too small.
+        written.get_mut(first..end)?.fill(true);
+        highest = highest.max(end);
+    }
+    if highest != checked.words {
+        return None;
+    }
+    let outputs = code.get(at..)?;
+    if outputs.len() != 2 * checked.output_words {
+        return None;
+    }
+    let known = |address: &[u8]| written.get(u16_at(address, 0)) == Some(&true);
+    outputs.chunks_exact(2).all(known).then_some(checked)
+}
+
+fn result_words(ports: &Ports) -> usize {
+    ports.results.iter().map(|&ty| type_words(ty)).sum()
 }
 
 /// Runs a code on arguments; gives the count of output words.
@@ -136,14 +193,41 @@ pub(crate) fn run_judged(
     let code = checked.code;
     let work = &mut work[..checked.words];
     work[..arguments.len()].copy_from_slice(arguments);
-    let mut at = 12;
-    let mut next = arguments.len();
-    for _ in 0..checked.instructions {
-        (at, next) = step(code, at, work, next);
-    }
+    let at = match checked.version {
+        1 => steps_1(checked, work),
+        _ => steps_2(checked, work),
+    };
     for (word, address) in out.iter_mut().zip(code[at..].chunks_exact(2)) {
         *word = work[u16_at(address, 0)];
     }
+}
+
+/// Every instruction of a version 1 list; where the outputs' addresses stand.
+fn steps_1(checked: &CheckedCode, work: &mut [u64]) -> usize {
+    let code = checked.code;
+    let mut at = 12;
+    let mut next = checked.argument_words;
+    for _ in 0..checked.instructions {
+        (at, next) = step(code[at], code[at + 1], code, at + 2, work, next);
+    }
+    at
+}
+
+/// Every instruction of a version 2 list. A result may stand on its own operands, so it is worked out
+/// behind all words and then moved to its address: all operands are read before anything is written.
+fn steps_2(checked: &CheckedCode, work: &mut [u64]) -> usize {
+    let (code, words) = (checked.code, checked.words);
+    let mut memory = work.to_vec();
+    memory.extend([0; 16]);
+    let mut at = 12;
+    for _ in 0..checked.instructions {
+        let (kind, ty, address) = (code[at], code[at + 1], u16_at(code, at + 2));
+        let (next, end) = step(kind, ty, code, at + 4, &mut memory, words);
+        memory.copy_within(words..end, address);
+        at = next;
+    }
+    work.copy_from_slice(&memory[..words]);
+    at
 }
 
 fn float(word: u64) -> f64 {
@@ -154,11 +238,9 @@ fn word(value: f64) -> u64 {
     if value.is_nan() { NAN } else { value.to_bits() }
 }
 
-/// One instruction: where the next stands, and where the next result goes.
-#[inline]
-fn step(code: &[u8], at: usize, work: &mut [u64], to: usize) -> (usize, usize) {
-    let (kind, ty) = (code[at], code[at + 1]);
-    let at = at + 2;
+/// One instruction, whose operands' addresses stand at `at`: where the next stands, and the end of the result.
+#[inline(always)]
+fn step(kind: u8, ty: u8, code: &[u8], at: usize, work: &mut [u64], to: usize) -> (usize, usize) {
     let operand = |k: usize| u16_at(code, at + 2 * k);
     match kind {
         1 => binary(code, at, ty, work, to, |a, b| a + b),
