@@ -27,7 +27,7 @@ use Rattle.bytecode.proofs.Back.{instruction-length}
 kind-length : (k : Kind) → 2 + 2 * arity k + 8 * constantWords k ≤ 130
 kind-length k = leb-true _ _ (every-kind (λ k. leb (2 + 2 * arity k + 8 * constantWords k) 130) refl k)
 
-result-most : (v : Version) → resultBytes v ≤ 2
+pub result-most : (v : Version) → resultBytes v ≤ 2
 result-most V1 = omega arith
 result-most V2 = omega arith
 

@@ -7,30 +7,33 @@ use mathlib.Core.Option.{Option, none, some}
 use native.Mathlib.Omega.{arith}
 use lib.Dec.{leb, eqb}
 use lib.ListN.{length}
-use borrow.Author.Tests.{leb-true, le-leb, lt-leb}
+use borrow.Author.Tests.{leb-true, le-leb, lt-leb, ne-eqb}
 use Rattle.base.specs.Limits.{functionLimit, operationLimit, wordLimit, withinLimits}
 use Rattle.base.specs.Outcome.{Outcome, ok, fault, _>>=_, _>>_, need, orElse}
 use Rattle.base.specs.Bytes.{u16}
-use Rattle.base.proofs.Outcomes.{takes, stops, passes, fails}
+use Rattle.base.proofs.Outcomes.{takes, stops, passes, fails, some-else}
 use Rattle.graph.specs.Graph.{Function}
 use Rattle.graph.specs.Judge.{table, verdict}
 use Rattle.graph.specs.Sums.{functionOperations, operationsOf, functionWords}
 use Rattle.graph.specs.Table.{Chosen, chosen}
-use Rattle.lowering.specs.Answers.{within, compilable, codeOf}
+use Rattle.bytecode.specs.declared.Version.{Version}
+use Rattle.bytecode.specs.declared.Version.the-variants.{V1, V2}
+use Rattle.bytecode.specs.Version.{versionOf}
+use Rattle.lowering.specs.Answers.{Job, wordsOf, within, compilable, codeOf}
 use Rattle.reader.specs.Layout.{functionAt, earlier}
 use Rattle.checker.specs.declared.Verdict.{Verdict}
 use Rattle.checker.specs.Answers.{verdictOf}
 use Rattle.sums.specs.declared.Sizes.{Sizes}
-use Rattle.sums.specs.CodeSums.{functionInstructions, instructionsOf}
+use Rattle.sums.specs.CodeSums.{functionInstructions, functionBytes, instructionsOf, bytesOfFunction}
 use Rattle.sums.specs.Position.{placeOf, functionIn, before, positionOf}
-use Rattle.sums.specs.Capped.{operationCap, wordCap}
+use Rattle.sums.specs.Capped.{operationCap, wordCap, byteCap}
 use Rattle.sums.specs.Answers.{cappedSizes, sizesOf}
 use Rattle.sums.proofs.Positions.{at-position, no-position}
 use Rattle.sums.proofs.Accepted.{functions-are, refused-table}
-use Rattle.sums.proofs.CodeLimits.{function-operations}
+use Rattle.sums.proofs.CodeLimits.{function-operations, bytes-below}
 use Rattle.sums.proofs.Measuring.{leb-cap}
 use Rattle.quetlapin.specs.declared.Count.{Count}
-use Rattle.quetlapin.specs.Measures.{named, chosenAt, exactSizes, upTo, countOf, operationCount, wordCount, codeCount}
+use Rattle.quetlapin.specs.Measures.{named, chosenAt, jobAt, exactSizes, upTo, countOf, operationCount, wordCount, codeCount}
 
 -- ---- what an answer of the checker says of the verdict
 
@@ -70,24 +73,35 @@ module _ (s : List ℕ) (c : ℕ) where
 
 -- ---- 15 and 16
 
--- what is asked of a function that was found
-abbrev limited : Chosen → Outcome Chosen
-limited x =
+-- what is asked of a function that was found, in a version
+abbrev pub limited : Version → Chosen → Outcome Job
+limited v x =
     need (leb (functionOperations (operationsOf (x .early)) (x .function)) operationLimit) 15 0
-    >> (need (leb (functionWords (x .early) (x .function)) wordLimit) 16 0 >> ok x)
+    >> (need (leb (wordsOf v x) wordLimit) 16 0 >> ok (record { chosen = x; version = v }))
 
-within-found : (t : Outcome (List Function)) (c : ℕ) (x : Chosen) → (t >>= λ fs. orElse (chosen c fs) 14 0) ≡ ok x → (t >>= λ fs. within fs c) ≡ limited x
+within-found : (t : Outcome (List Function)) (c n : ℕ) (v : Version) (x : Chosen) → versionOf n ≡ some v → (t >>= λ fs. orElse (chosen c fs) 14 0) ≡ ok x → (t >>= λ fs. within fs c n) ≡ limited v x
 unfolding _>>=_
-within-found (ok fs) c x e = takes (orElse (chosen c fs) 14 0) _ x e
-within-found (fault n p) c x e = let z : _≡_ {A = ℕ} 0 1 = cc in absurd (omega arith)
+within-found (ok fs) c n v x ev e = takes (orElse (chosen c fs) 14 0) _ x e ∙ takes (orElse (versionOf n) 31 0) _ v (some-else _ _ ev)
+within-found (fault a p) c n v x ev e = let z : _≡_ {A = ℕ} 0 1 = cc in absurd (omega arith)
 
-within-refused : (t : Outcome (List Function)) (c a b : ℕ) → (t >>= λ fs. orElse (chosen c fs) 14 0) ≡ fault a b → (t >>= λ fs. within fs c) ≡ fault a b
+within-refused : (t : Outcome (List Function)) (c n a b : ℕ) → (t >>= λ fs. orElse (chosen c fs) 14 0) ≡ fault a b → (t >>= λ fs. within fs c n) ≡ fault a b
 unfolding _>>=_
-within-refused (ok fs) c a b e = stops (orElse (chosen c fs) 14 0) _ a b e
-within-refused (fault n p) c a b e = e
+within-refused (ok fs) c n a b e = stops (orElse (chosen c fs) 14 0) _ a b e
+within-refused (fault m p) c n a b e = e
 
-pub compilable-refused : (s : List ℕ) (c a b : ℕ) → named s c ≡ fault a b → compilable s c ≡ fault a b
-compilable-refused s c a b e = within-refused (table s) c a b e
+within-unknown : (t : Outcome (List Function)) (c n : ℕ) (x : Chosen) → versionOf n ≡ none → (t >>= λ fs. orElse (chosen c fs) 14 0) ≡ ok x → (t >>= λ fs. within fs c n) ≡ fault 31 0
+unfolding _>>=_
+within-unknown (ok fs) c n x ev e = takes (orElse (chosen c fs) 14 0) _ x e ∙ stops (orElse (versionOf n) 31 0) _ 31 0 (ap (λ (o : Option Version). orElse o 31 0) ev)
+within-unknown (fault a p) c n x ev e = let z : _≡_ {A = ℕ} 0 1 = cc in absurd (omega arith)
+
+pub compilable-refused : (s : List ℕ) (c n a b : ℕ) → named s c ≡ fault a b → compilable s c n ≡ fault a b
+compilable-refused s c n a b e = within-refused (table s) c n a b e
+
+pub compilable-unknown : (s : List ℕ) (c n : ℕ) (x : Chosen) → versionOf n ≡ none → named s c ≡ ok x → compilable s c n ≡ fault 31 0
+compilable-unknown s c n x ev e = within-unknown (table s) c n x ev e
+
+pub unknown-number : (n : ℕ) → (n ≡ 1 → ⊥) → (n ≡ 2 → ⊥) → versionOf n ≡ none
+unknown-number n a b = rw (ne-eqb n 1 a, ne-eqb n 2 b) refl
 
 pub count-refused : (g : Chosen → Count) (s : List ℕ) (c a b : ℕ) → named s c ≡ fault a b → Count.Refused a b ≡ countOf g (named s c)
 count-refused g s c a b e = ap (countOf g) (sym e)
@@ -131,23 +145,30 @@ module _ (s : List ℕ) (c k : ℕ) (e : named s c ≡ ok (chosenAt s k)) (m : S
   abbrev words : ℕ
   words = functionWords (before s k) (functionIn s k)
 
-  pub over-operations : operationLimit < m .operations → compilable s c ≡ fault 15 0
-  over-operations l = within-found (table s) c (chosenAt s k) e ∙ fails _ 15 0 _ (sym operations-test ∙ lt-leb (m .operations) operationLimit l)
+  pub over-operations : (n : ℕ) (v : Version) → versionOf n ≡ some v → operationLimit < m .operations → compilable s c n ≡ fault 15 0
+  over-operations n v ev l = within-found (table s) c n v (chosenAt s k) ev e ∙ fails _ 15 0 _ (sym operations-test ∙ lt-leb (m .operations) operationLimit l)
 
   module _ (l : m .operations ≤ operationLimit) where
     few : leb operations operationLimit ≡ true
     few = sym operations-test ∙ le-leb (m .operations) operationLimit l
 
-    pub over-words : wordLimit < m .words → compilable s c ≡ fault 16 0
+    -- version 2: by the words that the placement gives
+    pub over-placed : wordLimit < wordsOf V2 (chosenAt s k) → compilable s c 2 ≡ fault 16 0
+    over-placed h = within-found (table s) c 2 V2 (chosenAt s k) refl e ∙ passes _ 15 0 _ few ∙ fails _ 16 0 _ (lt-leb (wordsOf V2 (chosenAt s k)) wordLimit h)
+
+    pub within-placed : wordsOf V2 (chosenAt s k) ≤ wordLimit → compilable s c 2 ≡ ok (jobAt V2 s k)
+    within-placed h = within-found (table s) c 2 V2 (chosenAt s k) refl e ∙ passes _ 15 0 _ few ∙ passes _ 16 0 _ (le-leb (wordsOf V2 (chosenAt s k)) wordLimit h)
+
+    pub over-words : wordLimit < m .words → compilable s c 1 ≡ fault 16 0
     over-words h =
-        within-found (table s) c (chosenAt s k) e ∙ passes _ 15 0 _ few ∙ fails _ 16 0 _ (sym words-test ∙ lt-leb (m .words) wordLimit h)
+        within-found (table s) c 1 V1 (chosenAt s k) refl e ∙ passes _ 15 0 _ few ∙ fails _ 16 0 _ (sym words-test ∙ lt-leb (m .words) wordLimit h)
 
     module _ (h : m .words ≤ wordLimit) where
       short : leb words wordLimit ≡ true
       short = sym words-test ∙ le-leb (m .words) wordLimit h
 
-      pub within-limits : compilable s c ≡ ok (chosenAt s k)
-      within-limits = within-found (table s) c (chosenAt s k) e ∙ passes _ 15 0 _ few ∙ passes _ 16 0 _ short
+      pub within-limits : compilable s c 1 ≡ ok (jobAt V1 s k)
+      within-limits = within-found (table s) c 1 V1 (chosenAt s k) refl e ∙ passes _ 15 0 _ few ∙ passes _ 16 0 _ short
 
       -- within the limits the sizes are exact
       pub exact : m ≡ exactSizes (chosenAt s k)
@@ -159,7 +180,8 @@ module _ (s : List ℕ) (c k : ℕ) (e : named s c ≡ ok (chosenAt s k)) (m : S
           let zo : min operationCap operations ≡ operations = omega arith in
           let zw : min wordCap words ≡ words = omega arith in
           let zi : min operationCap (functionInstructions (instructionsOf (before s k)) (functionIn s k)) ≡ functionInstructions (instructionsOf (before s k)) (functionIn s k) = omega arith in
-          em ∙ rw (few, short, zo, zw, zi)
+          let zb : min byteCap (functionBytes (bytesOfFunction (before s k)) (functionIn s k)) ≡ functionBytes (bytesOfFunction (before s k)) (functionIn s k) = bytes-below (before s k) (functionIn s k) (omega arith) in
+          em ∙ rw (few, short, zo, zw, zi, zb)
 
   -- ---- the code's length
 
@@ -170,7 +192,7 @@ module _ (s : List ℕ) (c k : ℕ) (e : named s c ≡ ok (chosenAt s k)) (m : S
   unfolding codeCount cappedSizes
   its-code t =
       let b : withinLimits operations words ≡ true = sym both-test ∙ t in
-      let z : m .code ≡ length (codeOf (chosenAt s k)) = ap (λ (x : Sizes). x .code) em ∙ rw b in
+      let z : m .code ≡ length (codeOf V1 (chosenAt s k)) = ap (λ (x : Sizes). x .code) em ∙ rw b in
       ap (λ (n : ℕ). Count.Exactly n) z ∙ sym (ap (countOf codeCount) e ∙ rw b)
 
   pub no-code : withinLimits (m .operations) (m .words) ≡ false → Count.Over ≡ countOf codeCount (named s c)

@@ -1,5 +1,5 @@
--- Every answer is told whole: a success is below 2^32, a refusal has one of the numbers 1 to 22 and a place below 2^32, and so no two answers
--- have the same number.
+-- Every answer is told whole: a success is below 2^32, a refusal has one of the numbers 1 to 22 or 31 and a place below 2^32, and so no two
+-- answers have the same number.
 use Prim.Native.Nat.{ℕ, _≤_}
 use mathlib.Core.Path.{_≡_, refl, ap, sym, _∙_, subst}
 use mathlib.Core.Bool.{Bool, true, false, _&&_}
@@ -20,7 +20,7 @@ use Rattle.value.specs.Values.{argumentWord}
 use Rattle.graph.specs.Graph.{Function}
 use Rattle.graph.specs.Judge.{table, verdict}
 use Rattle.graph.specs.Types.{outputTypes}
-use Rattle.graph.specs.Sums.{functionOperations, operationsOf, functionWords}
+use Rattle.graph.specs.Sums.{functionOperations, operationsOf}
 use Rattle.graph.specs.Table.{Chosen, chosen}
 use Rattle.graph.proofs.Formats.{places-held}
 use Rattle.graph.proofs.Ranges.{fault-bounds, count-bounds}
@@ -28,7 +28,10 @@ use Rattle.bytecode.specs.Code.{decode}
 use Rattle.bytecode.specs.Answers.{Buffers, ran}
 use Rattle.bytecode.proofs.Decoded.{well-formed}
 use Rattle.lowering.specs.Answers as Answers
-use Rattle.lowering.specs.Answers.{within, compilable, codeOf, compiled, evaluated}
+use Rattle.bytecode.specs.declared.Version.{Version}
+use Rattle.bytecode.specs.Version.{versionOf}
+use Rattle.bytecode.proofs.Length.{result-most}
+use Rattle.lowering.specs.Answers.{wordsOf, within, compilable, codeOf, compiled, evaluated}
 use Rattle.lowering.specs.Demand3.{Within}
 use Rattle.lowering.proofs.Whole.{compilable-within, code-length, output-count, evaluated-is, runOrRefusal, withCode}
 use Rattle.points.specs.Points.{ranPoints}
@@ -58,7 +61,7 @@ told-one (fault n p) (fault m q) (b, b1, b2) (d, d1, d2) e =
 module _ {A : Type 0} (f : A → ℕ) where
   bounded-fault : (g : Outcome A) → Bounded (counted f g) → (n p : ℕ) → g ≡ fault n p → Refusal n p
   bounded-fault (ok a) b n p e = let z : _≡_ {A = ℕ} 0 1 = cc in absurd (omega arith)
-  bounded-fault (fault m q) (b, b1, b2) n p e = let k : m ≡ n = cc in let l : q ≡ p = cc in (omega arith, omega arith, omega arith)
+  bounded-fault (fault m q) (b, b1, b2) n p e = let k : m ≡ n = cc in let l : q ≡ p = cc in (omega arith, subst (λ (j : ℕ). (j ≤ 22) ⊎ (j ≡ 31)) k b1, omega arith)
 
 module _ {A B : Type 0} (f : B → ℕ) where
   bound-bounded : (g : Outcome A) (k : A → Outcome B) → ((n p : ℕ) → g ≡ fault n p → Refusal n p) → ((a : A) → g ≡ ok a → Bounded (counted f (k a)))
@@ -100,76 +103,79 @@ module _ (s : List ℕ) (small : Bytes s) where
     where
       go : (o : Outcome ℕ) → verdict s ≡ o → Bounded o
       go (ok n) e = let (a, b) = count-bounds s small n e in omega arith
-      go (fault n p) e = let (a, b, c) = fault-bounds s small n p e in let h = places-held s in (a, omega arith, omega arith)
+      go (fault n p) e = let (a, b, c) = fault-bounds s small n p e in let h = places-held s in (a, inl (omega arith), omega arith)
 
   table-fault : (n p : ℕ) → table s ≡ fault n p → Refusal n p
   unfolding verdict
-  table-fault n p e = let (a, b, c) = fault-bounds s small n p (stops (table s) _ n p e) in let h = places-held s in (a, omega arith, omega arith)
+  table-fault n p e = let (a, b, c) = fault-bounds s small n p (stops (table s) _ n p e) in let h = places-held s in (a, inl (omega arith), omega arith)
 
-  compilable-fault : (c n p : ℕ) → compilable s c ≡ fault n p → Refusal n p
-  compilable-fault c n p e =
-      bounded-fault none-told (compilable s c)
-      (bound-bounded none-told (table s) (λ latest. within latest c) table-fault
+  compilable-fault : (c v n p : ℕ) → compilable s c v ≡ fault n p → Refusal n p
+  compilable-fault c v n p e =
+      bounded-fault none-told (compilable s c v)
+      (bound-bounded none-told (table s) (λ latest. within latest c v) table-fault
       (λ latest q.
-      there-bounded none-told (chosen c latest) _ 14 (omega arith, omega arith, omega arith)
+      there-bounded none-told (chosen c latest) _ 14 (omega arith, inl (omega arith), omega arith)
       (λ x r.
-      need-bounded none-told (leb (functionOperations (operationsOf (x .early)) (x .function)) operationLimit) 15 _ (omega arith, omega arith, omega arith)
-      (need-bounded none-told (leb (functionWords (x .early) (x .function)) wordLimit) 16 (ok x) (omega arith, omega arith, omega arith) (omega arith)))))
+      there-bounded none-told (versionOf v) _ 31 (omega arith, inr refl, omega arith)
+      (λ w t.
+      need-bounded none-told (leb (functionOperations (operationsOf (x .early)) (x .function)) operationLimit) 15 _ (omega arith, inl (omega arith), omega arith)
+      (need-bounded none-told (leb (wordsOf w x) wordLimit) 16 (ok (record { chosen = x; version = w })) (omega arith, inl (omega arith), omega arith) (omega arith))))))
       n p e
 
-  module _ (c : ℕ) (code : List ℕ) where
-    pub compiled-bounded : Bounded (codeLength (compiled s c code))
+  module _ (c v : ℕ) (code : List ℕ) where
+    pub compiled-bounded : Bounded (codeLength (compiled s c v code))
     unfolding compiled
     compiled-bounded =
-        bound-bounded size-told (compilable s c) _ (compilable-fault c)
-        (λ x e.
-        need-bounded size-told (leb (length (codeOf x)) (length code)) 17 _ (omega arith, omega arith, omega arith)
-        (let (fs, w) = compilable-within s c x small e in omega (arith, code-length s c fs x w)))
+        bound-bounded size-told (compilable s c v) _ (compilable-fault c v)
+        (λ j e.
+        need-bounded size-told (leb (length (codeOf (j .version) (j .chosen))) (length code)) 17 _ (omega arith, inl (omega arith), omega arith)
+        (let (fs, w) = compilable-within s c v j small e in omega (arith, code-length s c v fs (j .version) (j .chosen) w, result-most (j .version))))
 
   -- once the compiler passes, the bounds are those of a run of its list
-  module _ (c : ℕ) (arguments code work out : List ℕ) where
-    runs-bounded : (functions : List Function) (x : Chosen) → Within s c functions x → length (codeOf x) ≤ length code
-        → Bounded (evaluationCount (evaluated s c arguments code work out))
-    runs-bounded functions x w l =
-        let g = runOrRefusal s c functions x w arguments code work out in
+  module _ (c n : ℕ) (arguments code work out : List ℕ) where
+    runs-bounded : (functions : List Function) (v : Version) (x : Chosen) → Within s c n functions v x → length (codeOf v x) ≤ length code
+        → Bounded (evaluationCount (evaluated s c n arguments code work out))
+    runs-bounded functions v x w l =
+        let g = runOrRefusal s c n functions v x w arguments code work out in
         let b : Bounded (runCount g) =
-        need-bounded count-told (eqb (length arguments) (widths (x .function .inputs))) 19 _ (omega arith, omega arith, omega arith)
-        (need-bounded count-told (every argumentWord arguments) 20 _ (omega arith, omega arith, omega arith)
-        (need-bounded count-told (leb (functionWords (x .early) (x .function)) (length work) && leb (widths (outputTypes (x .function .outputs))) (length out)) 21 _ (omega arith, omega arith, omega arith)
-        (omega (arith, output-count s c functions x w)))) in
-        subst (λ (o : Outcome Answers.Evaluated). Bounded (evaluationCount o)) (sym (evaluated-is s c functions x w arguments code work out l))
-        (bound-bounded words-told g (λ b. ok (withCode x code b)) (bounded-fault count-told g b) (λ a e. subst (λ (o : Outcome Buffers). Bounded (runCount o)) e b))
+        need-bounded count-told (eqb (length arguments) (widths (x .function .inputs))) 19 _ (omega arith, inl (omega arith), omega arith)
+        (need-bounded count-told (every argumentWord arguments) 20 _ (omega arith, inl (omega arith), omega arith)
+        (need-bounded count-told (leb (wordsOf v x) (length work) && leb (widths (outputTypes (x .function .outputs))) (length out)) 21 _ (omega arith, inl (omega arith), omega arith)
+        (omega (arith, output-count s c n functions v x w)))) in
+        subst (λ (o : Outcome Answers.Evaluated). Bounded (evaluationCount o)) (sym (evaluated-is s c n functions v x w arguments code work out l))
+        (bound-bounded words-told g (λ b. ok (withCode v x code b)) (bounded-fault count-told g b) (λ a e. subst (λ (o : Outcome Buffers). Bounded (runCount o)) e b))
 
-    pub evaluated-bounded : Bounded (evaluationCount (evaluated s c arguments code work out))
+    pub evaluated-bounded : Bounded (evaluationCount (evaluated s c n arguments code work out))
     unfolding evaluated compiled
-    evaluated-bounded = go (compiled s c code) refl
+    evaluated-bounded = go (compiled s c n code) refl
       where
-        go : (o : Outcome Answers.Compiled) → compiled s c code ≡ o → Bounded (evaluationCount (evaluated s c arguments code work out))
+        go : (o : Outcome Answers.Compiled) → compiled s c n code ≡ o → Bounded (evaluationCount (evaluated s c n arguments code work out))
         go (ok a) e =
-            let (x, found, e1) = took (compilable s c) _ a e in
-            let (t, e2) = passed (leb (length (codeOf x)) (length code)) 17 0 _ a e1 in
-            let (functions, w) = compilable-within s c x small found in
-            runs-bounded functions x w (leb-true (length (codeOf x)) (length code) t)
-        go (fault n p) e =
-            subst (λ (o : Outcome Answers.Evaluated). Bounded (evaluationCount o)) (sym (stops (compiled s c code) _ n p e))
-            (bounded-fault size-told (compiled s c code) (compiled-bounded c code) n p e)
+            let (j, found, e1) = took (compilable s c n) _ a e in
+            let code-of-j = codeOf (j .version) (j .chosen) in
+            let (t, e2) = passed (leb (length code-of-j) (length code)) 17 0 _ a e1 in
+            let (functions, w) = compilable-within s c n j small found in
+            runs-bounded functions (j .version) (j .chosen) w (leb-true (length code-of-j) (length code) t)
+        go (fault a p) e =
+            subst (λ (o : Outcome Answers.Evaluated). Bounded (evaluationCount o)) (sym (stops (compiled s c n code) _ a p e))
+            (bounded-fault size-told (compiled s c n code) (compiled-bounded c n code) a p e)
 
 pub ran-bounded : (code : List ℕ) → Bytes code → (arguments work out : List ℕ) → Bounded (runCount (ran code arguments work out))
 unfolding ran
 ran-bounded code small arguments work out =
-    there-bounded count-told (decode code) _ 18 (omega arith, omega arith, omega arith)
+    there-bounded count-told (decode code) _ 18 (omega arith, inl (omega arith), omega arith)
     (λ b e.
-    need-bounded count-told (eqb (length arguments) (b .arguments)) 19 _ (omega arith, omega arith, omega arith)
-    (need-bounded count-told (every argumentWord arguments) 20 _ (omega arith, omega arith, omega arith)
-    (need-bounded count-told (leb (b .words) (length work) && leb (length (b .outputs)) (length out)) 21 _ (omega arith, omega arith, omega arith)
-    (omega (arith, well-formed code small b .0 e .fit .outputs)))))
+    need-bounded count-told (eqb (length arguments) (b .arguments)) 19 _ (omega arith, inl (omega arith), omega arith)
+    (need-bounded count-told (every argumentWord arguments) 20 _ (omega arith, inl (omega arith), omega arith)
+    (need-bounded count-told (leb (b .words) (length work) && leb (length (b .outputs)) (length out)) 21 _ (omega arith, inl (omega arith), omega arith)
+    (omega (arith, well-formed code small b .0 e .1 .formed .outputs)))))
 
 pub points-bounded : (code : List ℕ) (points : ℕ) (arguments work out : List ℕ) → Bounded (runCount (ranPoints code points arguments work out))
 points-bounded code points arguments work out = go (ranPoints code points arguments work out) refl
   where
     refusal : {n p : ℕ} → ((decode code ≡ none) × (n ≡ 18) × (p ≡ 0)) ⊎ Late n p → Refusal n p
-    refusal (inl (d, a, b)) = (omega arith, omega arith, omega arith)
-    refusal (inr (a, b, c)) = (omega arith, omega arith, omega arith)
+    refusal (inl (d, a, b)) = (omega arith, inl (omega arith), omega arith)
+    refusal (inr (a, b, c)) = (omega arith, inl (omega arith), omega arith)
 
     go : (o : Outcome Buffers) → ranPoints code points arguments work out ≡ o → Bounded (runCount o)
     go (ok b) e = omega (arith, points-count code points arguments work out b e)

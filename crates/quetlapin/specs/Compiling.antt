@@ -1,7 +1,9 @@
 -- What `compile` answers, and the buffer after it.
-use Prim.Native.Nat.{ℕ}
+use Prim.Native.Nat.{ℕ, _+_, _*_}
 use mathlib.Core.List.{List}
+use Rattle.base.specs.Limits.{headerLength}
 use Rattle.base.specs.Outcome.{Outcome, ok, fault}
+use Rattle.sums.specs.declared.Sizes.{Sizes}
 use Rattle.lowering.specs.Answers as Answers
 use Rattle.quetlapin.specs.declared.Compiled.{Compiled}
 
@@ -14,3 +16,7 @@ answerOf (fault n p) = Compiled.Refused n p
 abbrev pub codeAfter : List ℕ → Outcome Answers.Compiled → List ℕ
 codeAfter code (ok r) = r .buffer
 codeAfter code (fault n p) = code
+
+-- the length of the code of version 2, by the sizes of a function: each instruction has an address more
+abbrev pub placedLength : Sizes → ℕ
+placedLength m = headerLength + m .bytes + 2 * m .instructions + 2 * m .outputs

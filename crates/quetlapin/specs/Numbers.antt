@@ -2,6 +2,7 @@
 use Prim.Native.Nat.{ℕ, _+_, _*_, _≤_, _<_}
 use mathlib.Core.List.{List}
 use mathlib.Core.Path.{_≡_}
+use mathlib.Core.Logic.{_⊎_}
 use Rattle.base.specs.Outcome.{Outcome, ok, fault}
 use Rattle.bytecode.specs.Answers.{Buffers}
 use Rattle.lowering.specs.Answers as Answers
@@ -27,9 +28,9 @@ abbrev pub numberOf : Outcome ℕ → ℕ
 numberOf (ok n) = n
 numberOf (fault n p) = refusalNumber n p
 
--- one of 01's numbers or 02's 22, and a place below 2^32
+-- one of 01's numbers or 02's 22 and 31, and a place below 2^32
 abbrev pub Refusal : ℕ → ℕ → Type 0
-Refusal n p = (1 ≤ n) × (n ≤ 22) × (p < 0x1_0000_0000)
+Refusal n p = (1 ≤ n) × ((n ≤ 22) ⊎ (n ≡ 31)) × (p < 0x1_0000_0000)
 
 -- a success is below 2^32 too
 abbrev pub Bounded : Outcome ℕ → Type 0

@@ -2,9 +2,12 @@
 // functions are found once and summed once. For other programs an answer is one number, a refusal's number times 2^32
 // and its place.
 ghost use mathlib.Core.Path.{_≡_};
-ghost use Prim.Native.Nat.{_<_};
-ghost use Rattle.base.specs.Limits.{functionLimit};
-ghost use Rattle.base.specs.Outcome.{ok};
+ghost use mathlib.Core.Option.{none};
+ghost use Prim.Native.Nat.{ℕ, _<_, _≤_};
+ghost use Rattle.base.specs.Limits.{functionLimit, portWordLimit};
+ghost use Rattle.base.specs.Outcome.{ok, fault};
+ghost use Rattle.bytecode.specs.Version.{versionOf};
+ghost use Rattle.sums.specs.Capped.{byteCap, operationCap};
 ghost use lib.ListN.{length};
 ghost use Rattle.graph.specs.Judge.{verdict};
 ghost use Rattle.lowering.specs.Answers.{compilable, compiled, evaluated};
@@ -13,15 +16,22 @@ ghost use Rattle.bytecode.specs.Answers.{ran};
 ghost use Rattle.points.specs.Points.{ranPoints};
 ghost use Rattle.points.specs.Demand3.{Demand3Points};
 ghost use Rattle.quetlapin.specs.Compiling as compiling;
-ghost use Rattle.quetlapin.specs.Compiling.{codeAfter};
+ghost use Rattle.quetlapin.specs.Compiling.{codeAfter, placedLength};
 ghost use Rattle.quetlapin.specs.Measures.{named, Finds, Readies, measuredOf, upTo, countOf, operationCount, wordCount, codeCount};
 ghost use Rattle.quetlapin.specs.declared.Evaluated.the-variants.{Done};
 ghost use Rattle.quetlapin.specs.Answers.{fromRun, Answered};
 ghost use Rattle.quetlapin.specs.Numbers.{refusalNumber, numberOf, Bounded, Told, codeLength, ofVerdict, ofCompiled, ofRan, ofEvaluated, RunAnswered, EvaluationAnswered};
 use base::FUNCTION_LIMIT;
+use base::HEADER_LENGTH;
 use base::OPERATION_LIMIT;
+use base::PLACED_LIMIT;
+use base::PORT_LIMIT;
+use base::REFERENCE_LIMIT;
 use base::WORD_LIMIT;
 use checker::Verdict;
+use compiler::ORDER_LIMIT;
+use compiler::OUTPUT_LIMIT;
+use placement::Extent;
 use runner::Ran;
 use sums::Sizes;
 
@@ -33,24 +43,25 @@ pub enum Found {
     Refused(u8, usize),
 }
 
-// In a table that is accepted: 14 where there is no function of that id. The places of the functions and the words of
-// those up to it are left in `starts` and `words`, for the compiler.
+// In a table that is accepted: 14 where there is no function of that id. The places of the functions, and the words
+// and instructions of those up to it, are left in the arrays, for the compiler.
 fn find_accepted(
     table: &[u8],
     count: usize,
     id: u16,
     starts: &mut [usize; FUNCTION_LIMIT],
     words: &mut [u32; FUNCTION_LIMIT],
+    counts: &mut [u32; FUNCTION_LIMIT],
 ) -> Found
-    requires { ⌜ (verdict (now table) ≡ ok count) × (length (now starts) ≡ functionLimit) × (length (now words) ≡ functionLimit) ⌝ }
-    ensures { λ r. ⌜ Finds (now (table .entry)) id (now (starts .exit)) (now (words .exit)) r ⌝ }
+    requires { ⌜ (verdict (now table) ≡ ok count) × (length (now starts) ≡ functionLimit) × (length (now words) ≡ functionLimit) × (length (now counts) ≡ functionLimit) ⌝ }
+    ensures { λ r. ⌜ Finds (now (table .entry)) id (now (starts .exit)) (now (words .exit)) (now (counts .exit)) r ⌝ }
 {
     sums::find_starts(table, count, starts);
     let k = sums::position_of(table, starts, count, base::wide16(id));
     if count <= k {
         return Found::Refused(14, 0);
     }
-    Found::At(k, sums::measure(table, starts, k, words))
+    Found::At(k, sums::measure(table, starts, k, words, counts))
 }
 
 // The table's refusals, then 14.
@@ -59,28 +70,30 @@ fn find(
     id: u16,
     starts: &mut [usize; FUNCTION_LIMIT],
     words: &mut [u32; FUNCTION_LIMIT],
+    counts: &mut [u32; FUNCTION_LIMIT],
 ) -> Found
-    requires { ⌜ (length (now starts) ≡ functionLimit) × (length (now words) ≡ functionLimit) ⌝ }
-    ensures { λ r. ⌜ Finds (now (table .entry)) id (now (starts .exit)) (now (words .exit)) r ⌝ }
+    requires { ⌜ (length (now starts) ≡ functionLimit) × (length (now words) ≡ functionLimit) × (length (now counts) ≡ functionLimit) ⌝ }
+    ensures { λ r. ⌜ Finds (now (table .entry)) id (now (starts .exit)) (now (words .exit)) (now (counts .exit)) r ⌝ }
 {
     let answer = checker::check(table);
     match answer {
-        Verdict::Accepted(count) => find_accepted(table, count, id, starts, words),
+        Verdict::Accepted(count) => find_accepted(table, count, id, starts, words, counts),
         Verdict::Refused(number, place) => Found::Refused(number, place),
     }
 }
 
-// The table's refusals, then 14, 15 and 16.
+// The table's refusals, then 14, and 15 and 16 of version 1.
 fn find_compilable(
     table: &[u8],
     id: u16,
     starts: &mut [usize; FUNCTION_LIMIT],
     words: &mut [u32; FUNCTION_LIMIT],
+    counts: &mut [u32; FUNCTION_LIMIT],
 ) -> Found
-    requires { ⌜ (length (now starts) ≡ functionLimit) × (length (now words) ≡ functionLimit) ⌝ }
-    ensures { λ r. ⌜ Readies (now (table .entry)) id (now (starts .exit)) (now (words .exit)) r ⌝ }
+    requires { ⌜ (length (now starts) ≡ functionLimit) × (length (now words) ≡ functionLimit) × (length (now counts) ≡ functionLimit) ⌝ }
+    ensures { λ r. ⌜ Readies (now (table .entry)) id (now (starts .exit)) (now (words .exit)) (now (counts .exit)) r ⌝ }
 {
-    let found = find(table, id, starts, words);
+    let found = find(table, id, starts, words, counts);
     match found {
         Found::At(k, sizes) => {
             if OPERATION_LIMIT < sizes.operations {
@@ -105,11 +118,12 @@ pub enum Measured {
 
 // The sizes of the function of an id: the table's refusals, then 14, 15 and 16.
 pub fn measure(table: &[u8], id: u16) -> Measured
-    ensures { λ r. ⌜ r ≡ measuredOf (compilable (now (table .entry)) id) ⌝ }
+    ensures { λ r. ⌜ r ≡ measuredOf (compilable (now (table .entry)) id 1) ⌝ }
 {
     let mut starts = [0usize; FUNCTION_LIMIT];
     let mut words = [0u32; FUNCTION_LIMIT];
-    let found = find_compilable(table, id, &mut starts, &mut words);
+    let mut counts = [0u32; FUNCTION_LIMIT];
+    let found = find_compilable(table, id, &mut starts, &mut words, &mut counts);
     match found {
         Found::At(_, sizes) => Measured::Is(sizes),
         Found::Refused(number, place) => Measured::Refused(number, place),
@@ -139,7 +153,8 @@ pub fn operations(table: &[u8], id: u16) -> Count
 {
     let mut starts = [0usize; FUNCTION_LIMIT];
     let mut words = [0u32; FUNCTION_LIMIT];
-    let found = find(table, id, &mut starts, &mut words);
+    let mut counts = [0u32; FUNCTION_LIMIT];
+    let found = find(table, id, &mut starts, &mut words, &mut counts);
     match found {
         Found::At(_, sizes) => up_to(OPERATION_LIMIT, sizes.operations),
         Found::Refused(number, place) => Count::Refused(number, place),
@@ -152,7 +167,8 @@ pub fn words(table: &[u8], id: u16) -> Count
 {
     let mut starts = [0usize; FUNCTION_LIMIT];
     let mut words = [0u32; FUNCTION_LIMIT];
-    let found = find(table, id, &mut starts, &mut words);
+    let mut counts = [0u32; FUNCTION_LIMIT];
+    let found = find(table, id, &mut starts, &mut words, &mut counts);
     match found {
         Found::At(_, sizes) => up_to(WORD_LIMIT, sizes.words),
         Found::Refused(number, place) => Count::Refused(number, place),
@@ -165,7 +181,8 @@ pub fn code_length(table: &[u8], id: u16) -> Count
 {
     let mut starts = [0usize; FUNCTION_LIMIT];
     let mut words = [0u32; FUNCTION_LIMIT];
-    let found = find(table, id, &mut starts, &mut words);
+    let mut counts = [0u32; FUNCTION_LIMIT];
+    let found = find(table, id, &mut starts, &mut words, &mut counts);
     match found {
         Found::At(_, sizes) => {
             if base::within_limits(sizes.operations, sizes.words) {
@@ -186,14 +203,29 @@ pub enum Compiled {
     Refused(u8, usize),
 }
 
-// The board list of the function of an id: its code's length, or the refusal.
-pub fn compile(table: &[u8], id: u16, code: &mut [u8]) -> Compiled
-    ensures { λ r. ⌜ r ≡ compiling.answerOf (compiled (now (table .entry)) id (now (code .entry))) ⌝ }
-    ensures { λ r. ⌜ now (code .exit) ≡ compiling.codeAfter (now (code .entry)) (compiled (now (table .entry)) id (now (code .entry))) ⌝ }
+// A refusal's number and place.
+pub struct Fault {
+    pub number: u8,
+    pub place: usize,
+}
+
+// The length of the code of version 2: each instruction has an address more.
+fn placed_length(sizes: Sizes) -> usize
+    requires { ⌜ (sizes .bytes ≤ byteCap) × (sizes .instructions ≤ operationCap) × (sizes .outputs ≤ portWordLimit) ⌝ }
+    ensures { λ r. ⌜ r ≡ placedLength sizes ⌝ }
+{
+    HEADER_LENGTH + sizes.bytes + 2 * sizes.instructions + 2 * sizes.outputs
+}
+
+// The list of version 1.
+fn compile_sequential(table: &[u8], id: u16, code: &mut [u8]) -> Compiled
+    ensures { λ r. ⌜ r ≡ compiling.answerOf (compiled (now (table .entry)) id 1 (now (code .entry))) ⌝ }
+    ensures { λ r. ⌜ now (code .exit) ≡ compiling.codeAfter (now (code .entry)) (compiled (now (table .entry)) id 1 (now (code .entry))) ⌝ }
 {
     let mut starts = [0usize; FUNCTION_LIMIT];
     let mut words = [0u32; FUNCTION_LIMIT];
-    let found = find_compilable(table, id, &mut starts, &mut words);
+    let mut counts = [0u32; FUNCTION_LIMIT];
+    let found = find_compilable(table, id, &mut starts, &mut words, &mut counts);
     match found {
         Found::At(k, sizes) => {
             let size = sizes.code;
@@ -205,6 +237,100 @@ pub fn compile(table: &[u8], id: u16, code: &mut [u8]) -> Compiled
         }
         Found::Refused(number, place) => Compiled::Refused(number, place),
     }
+}
+
+// The list of version 2. Its words are placed before anything is written: only then is it known whether they pass the limit.
+fn compile_reusing(table: &[u8], id: u16, code: &mut [u8]) -> Compiled
+    ensures { λ r. ⌜ r ≡ compiling.answerOf (compiled (now (table .entry)) id 2 (now (code .entry))) ⌝ }
+    ensures { λ r. ⌜ now (code .exit) ≡ compiling.codeAfter (now (code .entry)) (compiled (now (table .entry)) id 2 (now (code .entry))) ⌝ }
+{
+    let mut starts = [0usize; FUNCTION_LIMIT];
+    let mut words = [0u32; FUNCTION_LIMIT];
+    let mut counts = [0u32; FUNCTION_LIMIT];
+    let found = find(table, id, &mut starts, &mut words, &mut counts);
+    match found {
+        Found::At(k, sizes) => {
+            if OPERATION_LIMIT < sizes.operations {
+                return Compiled::Refused(15, 0);
+            }
+            let mut outs = [0u16; OUTPUT_LIMIT];
+            let mut order = [0u16; ORDER_LIMIT];
+            let mut locations = [0u16; REFERENCE_LIMIT];
+            let mut begins = [0u16; FUNCTION_LIMIT];
+            let mut ins = [0u16; PORT_LIMIT];
+            let mut places = [0u16; PLACED_LIMIT];
+            let extent = compiler::lay_out(
+                table,
+                &starts,
+                &counts,
+                k,
+                sizes,
+                &mut outs,
+                &mut order,
+                &mut locations,
+                &mut begins,
+                &mut ins,
+                &mut places,
+            );
+            match extent {
+                Extent::Words(all) => {
+                    let length = placed_length(sizes);
+                    if code.len() < length {
+                        return Compiled::Refused(17, 0);
+                    }
+                    compiler::compile_placed(
+                        table,
+                        &starts,
+                        k,
+                        sizes,
+                        all,
+                        &outs,
+                        &order,
+                        &locations,
+                        &begins,
+                        &ins,
+                        &mut places,
+                        code,
+                    );
+                    Compiled::Length(length)
+                }
+                Extent::Over => Compiled::Refused(16, 0),
+            }
+        }
+        Found::Refused(number, place) => Compiled::Refused(number, place),
+    }
+}
+
+// A version that there is not: the table's refusals and 14 come first.
+fn unknown_version(table: &[u8], id: u16) -> Fault
+    ensures { λ r. ⌜ ((n : ℕ) → versionOf n ≡ none → compilable (now (table .entry)) id n ≡ fault (r .number) (r .place)) ⌝ }
+{
+    let mut starts = [0usize; FUNCTION_LIMIT];
+    let mut words = [0u32; FUNCTION_LIMIT];
+    let mut counts = [0u32; FUNCTION_LIMIT];
+    let found = find(table, id, &mut starts, &mut words, &mut counts);
+    match found {
+        Found::At(_, _) => Fault {
+            number: 31,
+            place: 0,
+        },
+        Found::Refused(number, place) => Fault { number, place },
+    }
+}
+
+// The board list of the function of an id, in a version: its code's length, or the refusal.
+pub fn compile(table: &[u8], id: u16, version: u16, code: &mut [u8]) -> Compiled
+    ensures { λ r. ⌜ r ≡ compiling.answerOf (compiled (now (table .entry)) id version (now (code .entry))) ⌝ }
+    ensures { λ r. ⌜ now (code .exit) ≡ compiling.codeAfter (now (code .entry)) (compiled (now (table .entry)) id version (now (code .entry))) ⌝ }
+{
+    if version == 1 {
+        return compile_sequential(table, id, code);
+    }
+    if version == 2 {
+        return compile_reusing(table, id, code);
+    }
+    let fault = unknown_version(table, id);
+    Compiled::Refused(fault.number, fault.place)
 }
 
 // ---- from table to output words
@@ -224,9 +350,9 @@ fn from_run(a: Ran) -> Evaluated
     }
 }
 
-// Compiles a function and runs its code on arguments. Every refusal is judged before any byte or word is written, so
-// that neither the compiler nor the runner refuses then.
-pub fn evaluate(
+// Compiles a function in version 1 and runs its code on arguments. Every refusal is judged before any byte or word is
+// written, so that neither the compiler nor the runner refuses then.
+fn evaluate_sequential(
     table: &[u8],
     id: u16,
     arguments: &[u64],
@@ -234,14 +360,15 @@ pub fn evaluate(
     work: &mut [u64],
     out: &mut [u64],
 ) -> Evaluated
-    ensures { λ r. ⌜ Answered (evaluated (now (table .entry)) id (now (arguments .entry)) (now (code .entry)) (now (work .entry)) (now (out .entry)))
+    ensures { λ r. ⌜ Answered (evaluated (now (table .entry)) id 1 (now (arguments .entry)) (now (code .entry)) (now (work .entry)) (now (out .entry)))
         (now (code .entry)) (now (work .entry)) (now (out .entry)) (now (code .exit)) (now (work .exit)) (now (out .exit)) r ⌝ }
-    ensures { λ r. ⌜ Demand3 (λ n. r ≡ Done n) (now (table .entry)) id (now (arguments .entry)) (now (code .entry)) (now (work .entry)) (now (out .entry))
+    ensures { λ r. ⌜ Demand3 (λ n. r ≡ Done n) (now (table .entry)) id 1 (now (arguments .entry)) (now (code .entry)) (now (work .entry)) (now (out .entry))
         (now (code .exit)) (now (work .exit)) (now (out .exit)) ⌝ }
 {
     let mut starts = [0usize; FUNCTION_LIMIT];
     let mut words = [0u32; FUNCTION_LIMIT];
-    let found = find_compilable(table, id, &mut starts, &mut words);
+    let mut counts = [0u32; FUNCTION_LIMIT];
+    let found = find_compilable(table, id, &mut starts, &mut words, &mut counts);
     match found {
         Found::At(k, sizes) => {
             let length = sizes.code;
@@ -265,6 +392,114 @@ pub fn evaluate(
         }
         Found::Refused(number, place) => Evaluated::Refused(number, place),
     }
+}
+
+// In version 2.
+fn evaluate_reusing(
+    table: &[u8],
+    id: u16,
+    arguments: &[u64],
+    code: &mut [u8],
+    work: &mut [u64],
+    out: &mut [u64],
+) -> Evaluated
+    ensures { λ r. ⌜ Answered (evaluated (now (table .entry)) id 2 (now (arguments .entry)) (now (code .entry)) (now (work .entry)) (now (out .entry)))
+        (now (code .entry)) (now (work .entry)) (now (out .entry)) (now (code .exit)) (now (work .exit)) (now (out .exit)) r ⌝ }
+    ensures { λ r. ⌜ Demand3 (λ n. r ≡ Done n) (now (table .entry)) id 2 (now (arguments .entry)) (now (code .entry)) (now (work .entry)) (now (out .entry))
+        (now (code .exit)) (now (work .exit)) (now (out .exit)) ⌝ }
+{
+    let mut starts = [0usize; FUNCTION_LIMIT];
+    let mut words = [0u32; FUNCTION_LIMIT];
+    let mut counts = [0u32; FUNCTION_LIMIT];
+    let found = find(table, id, &mut starts, &mut words, &mut counts);
+    match found {
+        Found::At(k, sizes) => {
+            if OPERATION_LIMIT < sizes.operations {
+                return Evaluated::Refused(15, 0);
+            }
+            let mut outs = [0u16; OUTPUT_LIMIT];
+            let mut order = [0u16; ORDER_LIMIT];
+            let mut locations = [0u16; REFERENCE_LIMIT];
+            let mut begins = [0u16; FUNCTION_LIMIT];
+            let mut ins = [0u16; PORT_LIMIT];
+            let mut places = [0u16; PLACED_LIMIT];
+            let extent = compiler::lay_out(
+                table,
+                &starts,
+                &counts,
+                k,
+                sizes,
+                &mut outs,
+                &mut order,
+                &mut locations,
+                &mut begins,
+                &mut ins,
+                &mut places,
+            );
+            match extent {
+                Extent::Words(all) => {
+                    let length = placed_length(sizes);
+                    if code.len() < length {
+                        return Evaluated::Refused(17, 0);
+                    }
+                    if arguments.len() != sizes.arguments {
+                        return Evaluated::Refused(19, 0);
+                    }
+                    if !runner::arguments_allowed(arguments) {
+                        return Evaluated::Refused(20, 0);
+                    }
+                    if work.len() < all {
+                        return Evaluated::Refused(21, 0);
+                    }
+                    if out.len() < sizes.outputs {
+                        return Evaluated::Refused(21, 0);
+                    }
+                    compiler::compile_placed(
+                        table,
+                        &starts,
+                        k,
+                        sizes,
+                        all,
+                        &outs,
+                        &order,
+                        &locations,
+                        &begins,
+                        &ins,
+                        &mut places,
+                        code,
+                    );
+                    from_run(runner::run(&code[..length], arguments, work, out))
+                }
+                Extent::Over => Evaluated::Refused(16, 0),
+            }
+        }
+        Found::Refused(number, place) => Evaluated::Refused(number, place),
+    }
+}
+
+// Compiles a function in a version and runs its code on arguments.
+pub fn evaluate(
+    table: &[u8],
+    id: u16,
+    version: u16,
+    arguments: &[u64],
+    code: &mut [u8],
+    work: &mut [u64],
+    out: &mut [u64],
+) -> Evaluated
+    ensures { λ r. ⌜ Answered (evaluated (now (table .entry)) id version (now (arguments .entry)) (now (code .entry)) (now (work .entry)) (now (out .entry)))
+        (now (code .entry)) (now (work .entry)) (now (out .entry)) (now (code .exit)) (now (work .exit)) (now (out .exit)) r ⌝ }
+    ensures { λ r. ⌜ Demand3 (λ n. r ≡ Done n) (now (table .entry)) id version (now (arguments .entry)) (now (code .entry)) (now (work .entry)) (now (out .entry))
+        (now (code .exit)) (now (work .exit)) (now (out .exit)) ⌝ }
+{
+    if version == 1 {
+        return evaluate_sequential(table, id, arguments, code, work, out);
+    }
+    if version == 2 {
+        return evaluate_reusing(table, id, arguments, code, work, out);
+    }
+    let fault = unknown_version(table, id);
+    Evaluated::Refused(fault.number, fault.place)
 }
 
 fn refusal_number(n: u8, p: usize) -> u64
@@ -322,13 +557,22 @@ pub extern "C" fn ifg_check(table: &[u8]) -> u64
     verdict_number(checker::check(table))
 }
 
-// Compiles a function: the code's length, or a refusal, which leaves every byte of the buffer.
+// Compiles a function in version 1: the code's length, or a refusal, which leaves every byte of the buffer.
 #[no_mangle]
 pub extern "C" fn ifg_compile(table: &[u8], id: u16, code: &mut [u8]) -> u64
-    ensures { λ r. ⌜ Told (codeLength (compiled (now (table .entry)) id (now (code .entry)))) r ⌝ }
-    ensures { λ r. ⌜ now (code .exit) ≡ codeAfter (now (code .entry)) (compiled (now (table .entry)) id (now (code .entry))) ⌝ }
+    ensures { λ r. ⌜ Told (codeLength (compiled (now (table .entry)) id 1 (now (code .entry)))) r ⌝ }
+    ensures { λ r. ⌜ now (code .exit) ≡ codeAfter (now (code .entry)) (compiled (now (table .entry)) id 1 (now (code .entry))) ⌝ }
 {
-    compiled_number(compile(table, id, code))
+    ifg_compile_version(table, id, 1, code)
+}
+
+// In the version that is named.
+#[no_mangle]
+pub extern "C" fn ifg_compile_version(table: &[u8], id: u16, version: u16, code: &mut [u8]) -> u64
+    ensures { λ r. ⌜ Told (codeLength (compiled (now (table .entry)) id version (now (code .entry)))) r ⌝ }
+    ensures { λ r. ⌜ now (code .exit) ≡ codeAfter (now (code .entry)) (compiled (now (table .entry)) id version (now (code .entry))) ⌝ }
+{
+    compiled_number(compile(table, id, version, code))
 }
 
 // Runs a code: the count of output words, or a refusal.
@@ -355,7 +599,7 @@ pub extern "C" fn ifr_run_points(
     ran_number(points::run_points(code, count as usize, arguments, work, out))
 }
 
-// Compiles a function and runs its code on arguments: the count of output words, or a refusal, which leaves every byte
+// Compiles a function in version 1 and runs its code on arguments: the count of output words, or a refusal, which leaves every byte
 // and word of the buffers.
 #[no_mangle]
 pub extern "C" fn ifg_evaluate(
@@ -366,10 +610,29 @@ pub extern "C" fn ifg_evaluate(
     work: &mut [u64],
     out: &mut [u64],
 ) -> u64
-    ensures { λ r. ⌜ EvaluationAnswered (evaluated (now (table .entry)) id (now (arguments .entry)) (now (code .entry)) (now (work .entry)) (now (out .entry)))
+    ensures { λ r. ⌜ EvaluationAnswered (evaluated (now (table .entry)) id 1 (now (arguments .entry)) (now (code .entry)) (now (work .entry)) (now (out .entry)))
         (now (code .entry)) (now (work .entry)) (now (out .entry)) (now (code .exit)) (now (work .exit)) (now (out .exit)) r ⌝ }
-    ensures { λ r. ⌜ Demand3 (λ n. r ≡ n) (now (table .entry)) id (now (arguments .entry)) (now (code .entry)) (now (work .entry)) (now (out .entry))
+    ensures { λ r. ⌜ Demand3 (λ n. r ≡ n) (now (table .entry)) id 1 (now (arguments .entry)) (now (code .entry)) (now (work .entry)) (now (out .entry))
         (now (code .exit)) (now (work .exit)) (now (out .exit)) ⌝ }
 {
-    evaluated_number(evaluate(table, id, arguments, code, work, out))
+    ifg_evaluate_version(table, id, 1, arguments, code, work, out)
+}
+
+// In the version that is named.
+#[no_mangle]
+pub extern "C" fn ifg_evaluate_version(
+    table: &[u8],
+    id: u16,
+    version: u16,
+    arguments: &[u64],
+    code: &mut [u8],
+    work: &mut [u64],
+    out: &mut [u64],
+) -> u64
+    ensures { λ r. ⌜ EvaluationAnswered (evaluated (now (table .entry)) id version (now (arguments .entry)) (now (code .entry)) (now (work .entry)) (now (out .entry)))
+        (now (code .entry)) (now (work .entry)) (now (out .entry)) (now (code .exit)) (now (work .exit)) (now (out .exit)) r ⌝ }
+    ensures { λ r. ⌜ Demand3 (λ n. r ≡ n) (now (table .entry)) id version (now (arguments .entry)) (now (code .entry)) (now (work .entry)) (now (out .entry))
+        (now (code .exit)) (now (work .exit)) (now (out .exit)) ⌝ }
+{
+    evaluated_number(evaluate(table, id, version, arguments, code, work, out))
 }

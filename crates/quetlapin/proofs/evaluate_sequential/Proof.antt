@@ -12,8 +12,8 @@ use Rattle.value.specs.Values.{argumentWord}
 use Rattle.quetlapin.specs.Measures.{chosenAt, ReadyAt, Readies}
 use Rattle.quetlapin.proofs.Compiling.{code-is, measured as measures}
 use Rattle.quetlapin.proofs.Evaluating.{Sized, sized, refused-table, refused-17, refused-19, refused-20, refused-work, refused-out, completed}
-use Rattle.quetlapin.proofs.evaluate.Statement.{statement}
-use Rattle.quetlapin.proofs.evaluate.Tie as tie
+use Rattle.quetlapin.proofs.evaluate_sequential.Statement.{statement}
+use Rattle.quetlapin.proofs.evaluate_sequential.Tie as tie
 
 -- ---- the places: lent, measured, after each test, compiled, run
 
