@@ -87,7 +87,7 @@ within-found (fault a p) c n v x ev e = let z : _≡_ {A = ℕ} 0 1 = cc in absu
 within-refused : (t : Outcome (List Function)) (c n a b : ℕ) → (t >>= λ fs. orElse (chosen c fs) 14 0) ≡ fault a b → (t >>= λ fs. within fs c n) ≡ fault a b
 unfolding _>>=_
 within-refused (ok fs) c n a b e = stops (orElse (chosen c fs) 14 0) _ a b e
-within-refused (fault m p) c n a b e = e
+within-refused (fault m p) c n a b e = let x : m ≡ a = cc in let y : p ≡ b = cc in rw (x, y) refl
 
 within-unknown : (t : Outcome (List Function)) (c n : ℕ) (x : Chosen) → versionOf n ≡ none → (t >>= λ fs. orElse (chosen c fs) 14 0) ≡ ok x → (t >>= λ fs. within fs c n) ≡ fault 31 0
 unfolding _>>=_

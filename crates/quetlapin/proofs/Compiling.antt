@@ -156,13 +156,13 @@ module _ (s : List ℕ) (c : ℕ) (starts words counts : List ℕ) (k : ℕ) (m 
   few-operations = let o = counts-are .0 in omega arith
 
   exact-instructions : m .instructions ≡ functionInstructions (instructionsOf (before s k)) (functionIn s k)
-  exact-instructions = let i = counts-are .1 .0 in let n = function-operations (before s k) (functionIn s k) in let o = few-operations in omega arith
+  exact-instructions = let i = counts-are .1 in let n = function-operations (before s k) (functionIn s k) in let o = few-operations in omega arith
 
   exact-bytes : m .bytes ≡ functionBytes (bytesOfFunction (before s k)) (functionIn s k)
-  exact-bytes = counts-are .1 .1 .0 ∙ bytes-below (before s k) (functionIn s k) few-operations
+  exact-bytes = counts-are .2 ∙ bytes-below (before s k) (functionIn s k) few-operations
 
   pub sizes-low : (m .bytes ≤ byteCap) × (m .instructions ≤ operationCap) × (m .outputs ≤ portWordLimit)
-  sizes-low = let i = counts-are .1 .0 in let b = counts-are .1 .1 .0 in (omega arith, omega arith, r .sizes .outputs)
+  sizes-low = let i = counts-are .1 in let b = counts-are .2 in (omega arith, omega arith, r .sizes .outputs)
 
   pub placed-length : placedLength m ≡ length (codeOf V2 (chosenAt s k))
   placed-length =
@@ -173,7 +173,7 @@ module _ (s : List ℕ) (c : ℕ) (starts words counts : List ℕ) (k : ℕ) (m 
       let d : length (boardListOf early f .instructions) ≡ functionInstructions (instructionsOf early) f = function-instructions widths early f sound-2 (places 0 (f .inputs)) (widths (f .inputs)) in
       let i = exact-instructions in
       let y = exact-bytes in
-      let o = counts-are .1 .1 .1 .1 in
+      let o = counts-are .4 in
       omega arith
 
   pub measured-placed : compiler.Measured V2 s k (m .instructions) (m .arguments) (m .outputs)
@@ -187,8 +187,8 @@ module _ (s : List ℕ) (c : ℕ) (starts words counts : List ℕ) (k : ℕ) (m 
       let l = sound-2 .0 .resolved .formed .inputs in
       record {
         instructions = i ∙ sym (function-instructions (sizing V2) early f sound-2 (names 0 (length (f .inputs))) (nameStep * length (f .inputs)));
-        arguments = counts-are .1 .1 .1 .0;
-        results = counts-are .1 .1 .1 .1;
+        arguments = counts-are .3;
+        results = counts-are .4;
         few = omega arith;
         narrow = (r .sizes .arguments, r .sizes .outputs);
         own = omega arith;

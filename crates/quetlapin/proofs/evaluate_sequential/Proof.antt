@@ -1,4 +1,4 @@
--- `quetlapin::evaluate`: the refusals in their order, then the compiler and the runner.
+-- `quetlapin::evaluate_sequential`: the refusals in their order, then the compiler and the runner.
 use borrow.Author.Needs.{needs}
 use mathlib.Core.Path.{_≡_, sym, _∙_, subst}
 use mathlib.Core.Bool.{true}
@@ -9,8 +9,9 @@ use lib.Seq.{length-take-le}
 use Rattle.base.specs.Bytes.{Bytes}
 use Rattle.base.specs.Lists.{every}
 use Rattle.value.specs.Values.{argumentWord}
+use Rattle.bytecode.specs.declared.Version.the-variants.{V1}
 use Rattle.quetlapin.specs.Measures.{chosenAt, ReadyAt, Readies}
-use Rattle.quetlapin.proofs.Compiling.{code-is, measured as measures}
+use Rattle.quetlapin.proofs.Compiling.{code-is, words-are, measured as measures}
 use Rattle.quetlapin.proofs.Evaluating.{Sized, sized, refused-table, refused-17, refused-19, refused-20, refused-work, refused-out, completed}
 use Rattle.quetlapin.proofs.evaluate_sequential.Statement.{statement}
 use Rattle.quetlapin.proofs.evaluate_sequential.Tie as tie
@@ -18,7 +19,7 @@ use Rattle.quetlapin.proofs.evaluate_sequential.Tie as tie
 -- ---- the places: lent, measured, after each test, compiled, run
 
 abbrev lent : tie.After-find-compilable → tie.After-slice-known
-lent c = let x = c .before .before .before in x .before .before
+lent c = let x = c .before .before .before in x .before .before .before
 
 abbrev start : tie.After-find-compilable → tie.Start
 start c = lent c .before .before .before
@@ -54,19 +55,19 @@ bytes c i = omega (arith, lent c .before .before .shared-slice-known .given i)
 
 -- the function that was found
 ready : (k : tie.After-known-told) → let f = measured k in let a = start f .args in let g = k .before .found .given .0 in
-    ReadyAt (now (a .table)) (a .id) (f .find-compilable .last .1 .1 .0) (f .find-compilable .last .1 .1 .1 .0) (g .0) (g .1 .0)
+    ReadyAt (now (a .table)) (a .id) (f .find-compilable .last .1 .1 .0) (f .find-compilable .last .1 .1 .1 .0) (f .find-compilable .last .1 .1 .1 .1 .0) (g .0) (g .1 .0)
 ready k =
     let f = measured k in
     let a = start f .args in
-    subst (Readies (now (a .table)) (a .id) (f .find-compilable .last .1 .1 .0) (f .find-compilable .last .1 .1 .1 .0)) (k .before .found .given .1) (f .find-compilable .ensures)
+    subst (Readies (now (a .table)) (a .id) (f .find-compilable .last .1 .1 .0) (f .find-compilable .last .1 .1 .1 .0) (f .find-compilable .last .1 .1 .1 .1 .0)) (k .before .found .given .1) (f .find-compilable .ensures)
 
 sizes : (k : tie.After-known-told) → let a = start (measured k) .args in let g = k .before .found .given .0 in
-    Sized (now (a .table)) (a .id) (g .1 .0) (chosenAt (now (a .table)) (g .0))
+    Sized (now (a .table)) (a .id) 1 V1 (g .1 .0 .code) (g .1 .0 .words) (g .1 .0 .arguments) (g .1 .0 .outputs) (chosenAt (now (a .table)) (g .0))
 sizes k =
     let f = measured k in
     let a = start f .args in
     let g = k .before .found .given .0 in
-    sized (now (a .table)) (a .id) (f .find-compilable .last .1 .1 .0) (f .find-compilable .last .1 .1 .1 .0) (g .0) (g .1 .0) (ready k)
+    sized (now (a .table)) (a .id) (f .find-compilable .last .1 .1 .0) (f .find-compilable .last .1 .1 .1 .0) (f .find-compilable .last .1 .1 .1 .1 .0) (g .0) (g .1 .0) (ready k)
 
 finite : (e : tie.Else3) → every argumentWord (now (start (measured (told (counted e))) .args .arguments)) ≡ true
 finite e = sym (e .before .arguments-allowed .ensures) ∙ not-false _ (e .if3 .left)
@@ -75,13 +76,13 @@ returns : tie.Need-returns
 returns c =
     let k = c .before in
     let a = start (measured k) .args in
-    refused-17 (now (a .table)) (a .id) (now (a .arguments)) (now (a .code)) (now (a .work)) (now (a .out)) (bytes (measured k)) _ _ (sizes k) (c .if1 .taken)
+    refused-17 (now (a .table)) (a .id) 1 (now (a .arguments)) (now (a .code)) (now (a .work)) (now (a .out)) (bytes (measured k)) V1 _ _ _ _ _ (sizes k) (c .if1 .taken)
 
 returns-2 : tie.Need-returns-2
 returns-2 c =
     let k = c .before .before .before in
     let a = start (measured k) .args in
-    refused-19 (now (a .table)) (a .id) (now (a .arguments)) (now (a .code)) (now (a .work)) (now (a .out)) (bytes (measured k)) _ _ (sizes k) (c .before .before .if1 .left)
+    refused-19 (now (a .table)) (a .id) 1 (now (a .arguments)) (now (a .code)) (now (a .work)) (now (a .out)) (bytes (measured k)) V1 _ _ _ _ _ (sizes k) (c .before .before .if1 .left)
     (c .if2 .taken)
 
 returns-3 : tie.Need-returns-3
@@ -89,7 +90,7 @@ returns-3 c =
     let d = c .before .before in
     let k = told d in
     let a = start (measured k) .args in
-    refused-20 (now (a .table)) (a .id) (now (a .arguments)) (now (a .code)) (now (a .work)) (now (a .out)) (bytes (measured k)) _ _ (sizes k) (d .before .before .if1 .left)
+    refused-20 (now (a .table)) (a .id) 1 (now (a .arguments)) (now (a .code)) (now (a .work)) (now (a .out)) (bytes (measured k)) V1 _ _ _ _ _ (sizes k) (d .before .before .if1 .left)
     (d .if2 .left) (sym (c .before .arguments-allowed .ensures) ∙ not-true _ (c .if3 .taken))
 
 returns-4 : tie.Need-returns-4
@@ -98,7 +99,7 @@ returns-4 c =
     let d = counted e in
     let k = told d in
     let a = start (measured k) .args in
-    refused-work (now (a .table)) (a .id) (now (a .arguments)) (now (a .code)) (now (a .work)) (now (a .out)) (bytes (measured k)) _ _ (sizes k) (d .before .before .if1 .left)
+    refused-work (now (a .table)) (a .id) 1 (now (a .arguments)) (now (a .code)) (now (a .work)) (now (a .out)) (bytes (measured k)) V1 _ _ _ _ _ (sizes k) (d .before .before .if1 .left)
     (d .if2 .left) (finite e) (c .if4 .taken)
 
 returns-5 : tie.Need-returns-5
@@ -107,7 +108,7 @@ returns-5 c =
     let d = counted e in
     let k = told d in
     let a = start (measured k) .args in
-    refused-out (now (a .table)) (a .id) (now (a .arguments)) (now (a .code)) (now (a .work)) (now (a .out)) (bytes (measured k)) _ _ (sizes k) (d .before .before .if1 .left)
+    refused-out (now (a .table)) (a .id) 1 (now (a .arguments)) (now (a .code)) (now (a .work)) (now (a .out)) (bytes (measured k)) V1 _ _ _ _ _ (sizes k) (d .before .before .if1 .left)
     (d .if2 .left) (finite e) (omega (arith, c .if5 .taken))
 
 compile-requires : tie.Need-compile-requires
@@ -118,10 +119,15 @@ compile-requires c κs =
     let a = start f .args in
     let g = k .before .found .given .0 in
     let r = ready k in
-    let q = code-is (now (a .table)) (a .id) (f .find-compilable .last .1 .1 .0) (f .find-compilable .last .1 .1 .1 .0) (g .0) (g .1 .0) r in
+    let q = code-is (now (a .table)) (a .id) (f .find-compilable .last .1 .1 .0) (f .find-compilable .last .1 .1 .1 .0) (f .find-compilable .last .1 .1 .1 .1 .0) (g .0) (g .1 .0) r in
     let l = d .before .before .if1 .left in (
       (r .found .accepted, r .found .places, r .found .held),
-      (measures (now (a .table)) (a .id) (f .find-compilable .last .1 .1 .0) (f .find-compilable .last .1 .1 .1 .0) (g .0) (g .1 .0) r, omega arith),
+      (
+        measures (now (a .table)) (a .id) (f .find-compilable .last .1 .1 .0) (f .find-compilable .last .1 .1 .1 .0) (f .find-compilable .last .1 .1 .1 .1 .0) (g .0) (g .1 .0) r,
+        words-are (now (a .table)) (a .id) (f .find-compilable .last .1 .1 .0) (f .find-compilable .last .1 .1 .1 .0) (f .find-compilable .last .1 .1 .1 .1 .0) (g .0) (g .1 .0) r,
+        r .few-words,
+        omega arith,
+      ),
     )
 
 -- the code's bytes are within the buffer
@@ -141,7 +147,7 @@ returns-6 c =
     let k = told d in
     let b = measured k in
     let a = start b .args in
-    completed (now (a .table)) (a .id) (now (a .arguments)) (now (a .code)) (now (a .work)) (now (a .out)) (bytes b) _ _ (sizes k) (d .before .before .if1 .left)
+    completed (now (a .table)) (a .id) 1 (now (a .arguments)) (now (a .code)) (now (a .work)) (now (a .out)) (bytes b) V1 _ _ _ _ _ (sizes k) (d .before .before .if1 .left)
     (d .if2 .left) (finite e) (λ i. omega (arith, lent b .before .shared-slice-known2 .given i))
     (roomy g .if4 .left) (omega (arith, g .if5 .left))
     (m .compile .ensures) (r .run .ensures .0) (c .from-run .ensures)
@@ -150,11 +156,11 @@ returns-7 : tie.Need-returns-7
 returns-7 c =
     let b = c .before .before .before in
     let a = start b .args in
-    refused-table (now (a .table)) (a .id) (now (a .arguments)) (now (a .code)) (now (a .work)) (now (a .out)) _ _
-    (subst (Readies (now (a .table)) (a .id) (b .find-compilable .last .1 .1 .0) (b .find-compilable .last .1 .1 .1 .0)) (c .before .found2 .given .1) (b .find-compilable .ensures))
+    refused-table (now (a .table)) (a .id) 1 (now (a .arguments)) (now (a .code)) (now (a .work)) (now (a .out)) _ _
+    (subst (Readies (now (a .table)) (a .id) (b .find-compilable .last .1 .1 .0) (b .find-compilable .last .1 .1 .1 .0) (b .find-compilable .last .1 .1 .1 .1 .0)) (c .before .found2 .given .1) (b .find-compilable .ensures))
 
-pub evaluate-spec : {M : Type 1} → statement M
-evaluate-spec =
+pub evaluate-sequential-spec : {M : Type 1} → statement M
+evaluate-sequential-spec =
     tie.close
     (tie.spec
     (λ c κs. search needs) (λ c. search needs) returns returns-2 (λ c κs. search needs) returns-3 returns-4 returns-5

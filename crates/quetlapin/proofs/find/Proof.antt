@@ -10,10 +10,10 @@ start c = c .before .before
 
 find-accepted-requires : tie.Need-find-accepted-requires
 find-accepted-requires c κs =
-    let k = c .before .before in
+    let k = c .before .before .before in
     let r = k .before .before .before in
     let b = start r in
-    (is-accepted (verdict (b .args .table .now)) _ (sym (k .before .answer .given .1) ∙ r .check .ensures .0), b .pre .0, b .pre .1)
+    (is-accepted (verdict (b .args .table .now)) _ (sym (k .before .answer .given .1) ∙ r .check .ensures .0), b .pre .0, b .pre .1, b .pre .2)
 
 returns : tie.Need-returns
 returns c = c .find-accepted .ensures

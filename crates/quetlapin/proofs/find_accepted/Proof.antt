@@ -63,11 +63,11 @@ starts c =
     fewer-starts (start f .args .table .now) _ (start f .args .count) _ (f .find-starts .ensures .1) (omega arith)
 
 measure-requires : tie.Need-measure-requires
-measure-requires c κs = let e = c .before .before in (accepted e, starts e, start (placed (e .before)) .pre .2)
+measure-requires c κs = let e = c .before .before .before in let b = start (placed (e .before)) in (accepted e, starts e, b .pre .2, b .pre .3)
 
 returns-2 : tie.Need-returns-2
 returns-2 c =
-    let e = c .before .before .before in
+    let e = c .before .before .before .before in
     let g = e .before in
     let f = placed g in
     let b = start f in
@@ -79,6 +79,7 @@ returns-2 c =
       sizes = c .measure .ensures .0;
       places = starts e;
       held = c .measure .ensures .1;
+      counted = c .measure .ensures .2;
     }
 
 pub find-accepted-spec : {M : Type 1} → statement M

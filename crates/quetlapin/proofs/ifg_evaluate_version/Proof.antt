@@ -1,4 +1,4 @@
--- `quetlapin::ifg_evaluate`: the evaluation, its answer as a number.
+-- `quetlapin::ifg_evaluate_version`: the evaluation, its answer as a number.
 use borrow.Author.Needs.{needs}
 use mathlib.Core.Path.{_≡_, ap, _∙_}
 use native.Mathlib.Omega.{arith}
@@ -7,8 +7,8 @@ use Rattle.lowering.specs.Answers.{evaluated}
 use Rattle.quetlapin.specs.Numbers.{Bounded, evaluationCount, ofEvaluated}
 use Rattle.quetlapin.proofs.Evaluating.{meant-number}
 use Rattle.quetlapin.proofs.Telling.{evaluated-bounded, of-evaluated, may-tell, told}
-use Rattle.quetlapin.proofs.ifg_evaluate.Statement.{statement}
-use Rattle.quetlapin.proofs.ifg_evaluate.Tie as tie
+use Rattle.quetlapin.proofs.ifg_evaluate_version.Statement.{statement}
+use Rattle.quetlapin.proofs.ifg_evaluate_version.Tie as tie
 
 abbrev buffers-lent : tie.After-evaluate → tie.After-slice-known3
 buffers-lent m = let o = m .before .before .before in o .before
@@ -25,12 +25,12 @@ at-evaluate c = let o = c .before .before .before in o .before .before .before
 
 bounds : (m : tie.After-evaluate) →
     let a = start m .args in
-    Bounded (evaluationCount (evaluated (now (a .table)) (a .id) (now (a .arguments)) (now (a .code)) (now (a .work)) (now (a .out))))
-bounds m = evaluated-bounded _ (λ i. omega (arith, words-lent m .before .shared-slice-known .given i)) _ _ _ _ _
+    Bounded (evaluationCount (evaluated (now (a .table)) (a .id) (a .version) (now (a .arguments)) (now (a .code)) (now (a .work)) (now (a .out))))
+bounds m = evaluated-bounded _ (λ i. omega (arith, words-lent m .before .shared-slice-known .given i)) _ _ _ _ _ _
 
 same : (m : tie.After-evaluate) →
     let a = start m .args in
-    ofEvaluated (m .evaluate .result) ≡ evaluationCount (evaluated (now (a .table)) (a .id) (now (a .arguments)) (now (a .code)) (now (a .work)) (now (a .out)))
+    ofEvaluated (m .evaluate .result) ≡ evaluationCount (evaluated (now (a .table)) (a .id) (a .version) (now (a .arguments)) (now (a .code)) (now (a .work)) (now (a .out)))
 same m = ap ofEvaluated (m .evaluate .ensures .0 .answer) ∙ of-evaluated _
 
 returns : tie.Need-returns
@@ -43,11 +43,11 @@ returns c =
         work-after = r .work-after;
         out-after = r .out-after;
       },
-      meant-number _ _ _ _ _ _ _ _ _ (m .evaluate .ensures .1) (c .evaluated-number .ensures),
+      meant-number _ _ _ _ _ _ _ _ _ _ (m .evaluate .ensures .1) (c .evaluated-number .ensures),
     )
 
-pub ifg-evaluate-spec : {M : Type 1} → statement M
-ifg-evaluate-spec =
+pub ifg-evaluate-version-spec : {M : Type 1} → statement M
+ifg-evaluate-version-spec =
     tie.close
     (tie.spec
     (λ c κs. search needs) (λ c κs. let m = at-evaluate c in may-tell (bounds m) (same m)) (λ c. search needs) (λ c. search needs) (λ c. search needs) returns)

@@ -1,4 +1,4 @@
--- `quetlapin::ifg_compile`: the compiler's answer as a number.
+-- `quetlapin::ifg_compile_version`: the compiler's answer as a number.
 use borrow.Author.Needs.{needs}
 use mathlib.Core.Path.{_≡_, ap, _∙_}
 use native.Mathlib.Omega.{arith}
@@ -6,8 +6,8 @@ use denote.Ref.{now}
 use Rattle.lowering.specs.Answers.{compiled}
 use Rattle.quetlapin.specs.Numbers.{Bounded, codeLength, ofCompiled}
 use Rattle.quetlapin.proofs.Telling.{compiled-bounded, of-compiled, may-tell, told}
-use Rattle.quetlapin.proofs.ifg_compile.Statement.{statement}
-use Rattle.quetlapin.proofs.ifg_compile.Tie as tie
+use Rattle.quetlapin.proofs.ifg_compile_version.Statement.{statement}
+use Rattle.quetlapin.proofs.ifg_compile_version.Tie as tie
 
 abbrev lent : tie.After-compile → tie.After-shared-slice-known
 lent m = m .before .before .before
@@ -19,19 +19,19 @@ start m = lent m .before
 abbrev at-compile : tie.After-slice-known2 → tie.After-compile
 at-compile c = c .before .before
 
-bounds : (m : tie.After-compile) → Bounded (codeLength (compiled (now (start m .args .table)) (start m .args .id) (now (start m .args .code))))
-bounds m = compiled-bounded _ (λ i. omega (arith, lent m .shared-slice-known .given i)) _ _
+bounds : (m : tie.After-compile) → Bounded (codeLength (compiled (now (start m .args .table)) (start m .args .id) (start m .args .version) (now (start m .args .code))))
+bounds m = compiled-bounded _ (λ i. omega (arith, lent m .shared-slice-known .given i)) _ _ _
 
-same : (m : tie.After-compile) → ofCompiled (m .compile .result) ≡ codeLength (compiled (now (start m .args .table)) (start m .args .id) (now (start m .args .code)))
-same m = ap ofCompiled (m .compile .ensures .0) ∙ of-compiled (compiled (now (start m .args .table)) (start m .args .id) (now (start m .args .code)))
+same : (m : tie.After-compile) → ofCompiled (m .compile .result) ≡ codeLength (compiled (now (start m .args .table)) (start m .args .id) (start m .args .version) (now (start m .args .code)))
+same m = ap ofCompiled (m .compile .ensures .0) ∙ of-compiled (compiled (now (start m .args .table)) (start m .args .id) (start m .args .version) (now (start m .args .code)))
 
 returns : tie.Need-returns
 returns c =
     let m = at-compile (c .before) in
     (told (bounds m) (same m) (c .compiled-number .ensures), m .compile .ensures .1)
 
-pub ifg-compile-spec : {M : Type 1} → statement M
-ifg-compile-spec =
+pub ifg-compile-version-spec : {M : Type 1} → statement M
+ifg-compile-version-spec =
     tie.close
     (tie.spec
     (λ c κs. search needs) (λ c κs. let m = at-compile c in may-tell (bounds m) (same m)) (λ c. search needs) returns)
