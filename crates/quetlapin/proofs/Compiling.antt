@@ -1,14 +1,15 @@
 -- What the compiler answers of a function that was found, and what it asks.
 use Prim.Native.Nat.{ℕ, suc, _+_, _*_, _≤_, _<_, min}
-use mathlib.Core.Path.{_≡_, sym, ap, _∙_}
+use mathlib.Core.Path.{_≡_, refl, sym, ap, _∙_}
+use mathlib.Core.Bool.{Bool, true, false, cond}
 use mathlib.Core.List.{List, [], _∷_, _++_, map}
 use native.Mathlib.Omega.{arith}
 use lib.Dec.{leb}
 use lib.ListN.{length, length-append, length-map}
 use lib.Seq.{sets}
-use borrow.Author.Tests.{le-leb, lt-leb}
+use borrow.Author.Tests.{le-leb, lt-leb, leb-false}
 use Rattle.base.specs.Bytes.{allBytes}
-use Rattle.base.specs.Limits.{operationLimit, portWordLimit}
+use Rattle.base.specs.Limits.{operationLimit, portWordLimit, wordLimit}
 use Rattle.base.specs.Outcome.{ok, fault}
 use Rattle.base.proofs.Outcomes.{takes, stops, passes, fails}
 use Rattle.base.proofs.Stands.{all-length}
@@ -24,6 +25,9 @@ use Rattle.bytecode.specs.declared.Version.the-variants.{V1, V2}
 use Rattle.bytecode.specs.Run.{Instruction, places}
 use Rattle.bytecode.specs.Code.{instructionCode, instructionsCode, headerCode, encode}
 use Rattle.bytecode.proofs.Back.{instruction-length}
+use Rattle.placement.specs.declared.Extent.{Extent}
+use Rattle.placement.specs.declared.Extent.the-variants.{Words, Over}
+use Rattle.placement.specs.Record.{extentOf}
 use Rattle.placement.specs.Place.{Placed, placesOf, rename, renamed, reusing}
 use Rattle.lowering.specs.Compile.{boardListOf}
 use Rattle.lowering.specs.Naming.{nameStep, sizing, names}
@@ -194,3 +198,15 @@ module _ (s : List ℕ) (c : ℕ) (starts words counts : List ℕ) (k : ℕ) (m 
         own = omega arith;
         end = omega arith;
       }
+
+-- an extent that is over the limit
+pub extent-over : (w : ℕ) → Over ≡ extentOf w → wordLimit < w
+extent-over w e = pick (leb w wordLimit) refl e
+  where
+    is-words : Extent → ℕ
+    is-words (Words m) = 0
+    is-words Over = 1
+
+    pick : (c : Bool) → leb w wordLimit ≡ c → Over ≡ cond c (Words w) Over → wordLimit < w
+    pick true q e = absurd (let z : _≡_ {A = ℕ} 1 0 = ap is-words e in omega arith)
+    pick false q e = leb-false w wordLimit q

@@ -23,7 +23,7 @@ use Rattle.base.proofs.Stores.{front}
 use Rattle.bytecode.specs.Answers.{Buffers, ran}
 use Rattle.lowering.specs.Answers as Answers
 use Rattle.bytecode.specs.declared.Version.{Version}
-use Rattle.bytecode.specs.declared.Version.the-variants.{V1}
+use Rattle.bytecode.specs.declared.Version.the-variants.{V1, V2}
 use Rattle.lowering.specs.Answers.{wordsOf, compilable, codeOf, compiled, evaluated}
 use Rattle.lowering.specs.Demand3.{Within, Lent, Demand3}
 use Rattle.value.proofs.Laws.{each-finite}
@@ -33,18 +33,23 @@ use Rattle.runner.specs.declared.Ran.{Ran}
 use Rattle.runner.specs.Runs as runner
 use Rattle.quetlapin.specs.declared.Evaluated.{Evaluated}
 use Rattle.quetlapin.specs.declared.Evaluated.the-variants.{Done, Refused}
-use Rattle.quetlapin.specs.Measures.{chosenAt, exactSizes, ReadyAt}
+use Rattle.quetlapin.specs.Measures.{chosenAt, exactSizes, FoundAt, ReadyAt}
+use Rattle.quetlapin.specs.Compiling.{placedLength}
+use Rattle.quetlapin.proofs.Choosing.{within-placed}
+use Rattle.quetlapin.proofs.Compiling.{placed-length}
+use Rattle.base.specs.Limits.{operationLimit, wordLimit}
+use Rattle.sums.specs.Answers.{cappedSizes}
 use Rattle.quetlapin.specs.Numbers.{numberOf, ofEvaluated}
 use Rattle.quetlapin.specs.Answers.{answerOf, fromRun, codeAfter, workAfter, outAfter, Answered}
 
 -- ---- a function that can be compiled, and its sizes
 
 pub record Sized (s : List ℕ) (c n : ℕ) (v : Version) (size words inputs outs : ℕ) (it : Chosen) : Type 0 where
-  found : compilable s c n ≡ ok (record { chosen = it; version = v })
-  words-are : words ≡ wordsOf v it
-  code : size ≡ length (codeOf v it)
-  arguments : inputs ≡ widths (it .function .inputs)
-  outputs : outs ≡ widths (outputTypes (it .function .outputs))
+  pub found : compilable s c n ≡ ok (record { chosen = it; version = v })
+  pub words-are : words ≡ wordsOf v it
+  pub code : size ≡ length (codeOf v it)
+  pub arguments : inputs ≡ widths (it .function .inputs)
+  pub outputs : outs ≡ widths (outputTypes (it .function .outputs))
 
 -- in version 1
 pub sized : (s : List ℕ) (c : ℕ) (starts words counts : List ℕ) (k : ℕ) (m : Sizes) → ReadyAt s c starts words counts k m
@@ -57,6 +62,20 @@ sized s c starts words counts k m r =
       code = ap (λ (z : Sizes). z .code) (r .sizes);
       arguments = ap (λ (z : Sizes). z .arguments) (r .sizes);
       outputs = ap (λ (z : Sizes). z .outputs) (r .sizes);
+    }
+
+-- in version 2
+pub sized-placed :
+    (s : List ℕ) (c : ℕ) (starts words counts : List ℕ) (k : ℕ) (m : Sizes) → FoundAt s c starts words counts k m → m .operations ≤ operationLimit → {size all : ℕ} → size ≡ placedLength m
+    → all ≡ wordsOf V2 (chosenAt s k) → wordsOf V2 (chosenAt s k) ≤ wordLimit → Sized s c 2 V2 size all (m .arguments) (m .outputs) (chosenAt s k)
+unfolding cappedSizes
+sized-placed s c starts words counts k m r few es ea l =
+    record {
+      found = within-placed s c k (r .named) m (r .sizes .sizes) few l;
+      words-are = ea;
+      code = es ∙ placed-length s c starts words counts k m r few;
+      arguments = ap (λ (z : Sizes). z .arguments) (r .sizes .sizes);
+      outputs = ap (λ (z : Sizes). z .outputs) (r .sizes .sizes);
     }
 
 each-word : (xs : List ℕ) → ((i : ℕ) → Word (wordAt xs i)) → Each Word xs

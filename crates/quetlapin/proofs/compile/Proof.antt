@@ -1,53 +1,44 @@
 use borrow.Author.Needs.{needs}
+use Prim.Native.Nat.{ℕ}
+use mathlib.Core.Path.{_≡_, sym, ap, _∙_}
+use Rattle.lowering.specs.Answers.{compiled}
+use Rattle.quetlapin.specs.Compiling.{answerOf, codeAfter}
+use Rattle.quetlapin.proofs.Choosing.{unknown-number}
+use Rattle.quetlapin.proofs.Compiling.{refused}
 use Rattle.quetlapin.proofs.compile.Statement.{statement}
 use Rattle.quetlapin.proofs.compile.Tie as tie
-use Rattle.quetlapin.proofs.compile.Reads as reads
-use Rattle.quetlapin.proofs.compile.Lts as lts
-use Rattle.quetlapin.proofs.compile_reusing.Reads as compile-reusing-reads
-use Rattle.quetlapin.proofs.compile_sequential.Reads as compile-sequential-reads
-use Rattle.quetlapin.proofs.unknown_version.Reads as unknown-version-reads
 
--- src/lib.rt:327:9
-compile-sequential-requires : tie.Need-compile-sequential-requires
-compile-sequential-requires c κs = search needs
+-- ---- places
 
--- src/lib.rt:327:9
-same-length : tie.Need-same-length
-same-length c = search needs
+abbrev start : tie.Else1 → tie.Start
+start c = c .before .before .before
 
--- src/lib.rt:327:9
 returns : tie.Need-returns
-returns c = ?
+returns c =
+    let w = c .before .before in
+    let t = w .before .before in
+    let a = t .before .before .before .args in (
+      w .compile-sequential .ensures .0 ∙ ap (λ (n : ℕ). answerOf (compiled (a .table .now) (a .id) n (a .code .now))) (sym (t .if1 .taken)),
+      w .compile-sequential .ensures .1 ∙ ap (λ (n : ℕ). codeAfter (a .code .now) (compiled (a .table .now) (a .id) n (a .code .now))) (sym (t .if1 .taken)),
+    )
 
--- src/lib.rt:330:9
-compile-reusing-requires : tie.Need-compile-reusing-requires
-compile-reusing-requires c κs = search needs
-
--- src/lib.rt:330:9
-same-length-2 : tie.Need-same-length-2
-same-length-2 c = search needs
-
--- src/lib.rt:330:9
 returns-2 : tie.Need-returns-2
-returns-2 c = ?
+returns-2 c =
+    let w = c .before .before in
+    let t = w .before .before in
+    let a = start (t .before) .args in (
+      w .compile-reusing .ensures .0 ∙ ap (λ (n : ℕ). answerOf (compiled (a .table .now) (a .id) n (a .code .now))) (sym (t .if2 .taken)),
+      w .compile-reusing .ensures .1 ∙ ap (λ (n : ℕ). codeAfter (a .code .now) (compiled (a .table .now) (a .id) n (a .code .now))) (sym (t .if2 .taken)),
+    )
 
--- src/lib.rt:332:9
-unknown-version-requires : tie.Need-unknown-version-requires
-unknown-version-requires c κs = search needs
-
--- src/lib.rt:322:1
 returns-3 : tie.Need-returns-3
-returns-3 c = ?
+returns-3 c =
+    let e = c .before in
+    let a = start (e .before) .args in
+    let q = refused (a .table .now) (a .id) (a .version) (a .code .now) _ _ (c .unknown-version .ensures (a .version) (unknown-number (a .version) (e .before .if1 .left) (e .if2 .left))) in
+    (sym (ap answerOf q), sym (ap (codeAfter (a .code .now)) q))
 
 pub compile-spec : {M : Type 1} → statement M
 compile-spec =
     tie.close
-    (tie.spec
-    compile-sequential-requires
-    same-length
-    returns
-    compile-reusing-requires
-    same-length-2
-    returns-2
-    unknown-version-requires
-    returns-3)
+    (tie.spec (λ c κs. search needs) (λ c. search needs) returns (λ c κs. search needs) (λ c. search needs) returns-2 (λ c κs. search needs) returns-3)

@@ -1,73 +1,58 @@
+-- `quetlapin::evaluate`, by the version.
 use borrow.Author.Needs.{needs}
+use Prim.Native.Nat.{ℕ}
+use mathlib.Core.Path.{sym, subst}
+use denote.Ref.{now}
+use Rattle.quetlapin.proofs.Choosing.{unknown-number}
+use Rattle.quetlapin.proofs.Evaluating.{Says, refused-table}
 use Rattle.quetlapin.proofs.evaluate.Statement.{statement}
 use Rattle.quetlapin.proofs.evaluate.Tie as tie
-use Rattle.quetlapin.proofs.evaluate.Reads as reads
-use Rattle.quetlapin.proofs.evaluate.Lts as lts
-use Rattle.quetlapin.proofs.evaluate_reusing.Reads as evaluate-reusing-reads
-use Rattle.quetlapin.proofs.evaluate_sequential.Reads as evaluate-sequential-reads
-use Rattle.quetlapin.proofs.unknown_version.Reads as unknown-version-reads
 
--- src/lib.rt:496:9
-evaluate-sequential-requires : tie.Need-evaluate-sequential-requires
-evaluate-sequential-requires c κs = search needs
+-- ---- places: the buffers are lent, then the version is told
 
--- src/lib.rt:496:9
-same-length : tie.Need-same-length
-same-length c = search needs
+abbrev start : tie.After-slice-known3 → tie.Start
+start c = let x = c .before .before .before in x .before .before
 
--- src/lib.rt:496:9
-same-length-2 : tie.Need-same-length-2
-same-length-2 c = search needs
+abbrev first : tie.After-evaluate-sequential → tie.Then1
+first w = let x = w .before .before .before in x .before
 
--- src/lib.rt:496:9
-same-length-3 : tie.Need-same-length-3
-same-length-3 c = search needs
+abbrev second : tie.After-evaluate-reusing → tie.Then2
+second w = let x = w .before .before .before in x .before
 
--- src/lib.rt:496:9
+abbrev ran-first : tie.After-slice-known6 → tie.After-evaluate-sequential
+ran-first c = let x = c .before .before .before in x .before .before .before
+
+abbrev ran-second : tie.After-slice-known9 → tie.After-evaluate-reusing
+ran-second c = let x = c .before .before .before in x .before .before .before
+
 returns : tie.Need-returns
-returns c = ?
+returns c =
+    let w = ran-first c in
+    let t = first w in
+    let a = start (t .before) .args in
+    subst (λ (n : ℕ). Says (now (a .table)) (a .id) n (now (a .arguments)) (now (a .code)) (now (a .work)) (now (a .out))
+    (w .evaluate-sequential .last .1 .1 .1 .0) (w .evaluate-sequential .last .1 .1 .1 .1 .0) (w .evaluate-sequential .last .1 .1 .1 .1 .1 .0) (w .evaluate-sequential .result)) (sym (t .if1 .taken))
+    (w .evaluate-sequential .ensures)
 
--- src/lib.rt:499:9
-evaluate-reusing-requires : tie.Need-evaluate-reusing-requires
-evaluate-reusing-requires c κs = search needs
-
--- src/lib.rt:499:9
-same-length-4 : tie.Need-same-length-4
-same-length-4 c = search needs
-
--- src/lib.rt:499:9
-same-length-5 : tie.Need-same-length-5
-same-length-5 c = search needs
-
--- src/lib.rt:499:9
-same-length-6 : tie.Need-same-length-6
-same-length-6 c = search needs
-
--- src/lib.rt:499:9
 returns-2 : tie.Need-returns-2
-returns-2 c = ?
+returns-2 c =
+    let w = ran-second c in
+    let t = second w in
+    let a = start (t .before .before) .args in
+    subst (λ (n : ℕ). Says (now (a .table)) (a .id) n (now (a .arguments)) (now (a .code)) (now (a .work)) (now (a .out))
+    (w .evaluate-reusing .last .1 .1 .1 .0) (w .evaluate-reusing .last .1 .1 .1 .1 .0) (w .evaluate-reusing .last .1 .1 .1 .1 .1 .0) (w .evaluate-reusing .result)) (sym (t .if2 .taken))
+    (w .evaluate-reusing .ensures)
 
--- src/lib.rt:501:9
-unknown-version-requires : tie.Need-unknown-version-requires
-unknown-version-requires c κs = search needs
-
--- src/lib.rt:481:1
 returns-3 : tie.Need-returns-3
-returns-3 c = ?
+returns-3 c =
+    let e = c .before in
+    let a = start (e .before .before) .args in
+    refused-table (now (a .table)) (a .id) (a .version) (now (a .arguments)) (now (a .code)) (now (a .work)) (now (a .out)) _ _
+    (c .unknown-version .ensures (a .version) (unknown-number (a .version) (e .before .if1 .left) (e .if2 .left)))
 
 pub evaluate-spec : {M : Type 1} → statement M
 evaluate-spec =
     tie.close
     (tie.spec
-    evaluate-sequential-requires
-    same-length
-    same-length-2
-    same-length-3
-    returns
-    evaluate-reusing-requires
-    same-length-4
-    same-length-5
-    same-length-6
-    returns-2
-    unknown-version-requires
-    returns-3)
+    (λ c κs. search needs) (λ c. search needs) (λ c. search needs) (λ c. search needs) returns
+    (λ c κs. search needs) (λ c. search needs) (λ c. search needs) (λ c. search needs) returns-2 (λ c κs. search needs) returns-3)
