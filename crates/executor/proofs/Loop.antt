@@ -162,7 +162,7 @@ same-size k t s at result m after x d = ap length (d .words) ∙ execute-length 
 
 next-of : (v : Version) (written : List Range) (s : List ℕ) (left at : ℕ) (m end after : List ℕ) (x : Extent) → Split v written s left at m end
     → Executed (byte s at) (byte s (at + 1)) s (operandsAt v at) (resultAt v s (at + 2) written) m after x
-    → Running v s left (at + (resultBytes v + x .bytes)) (resultAt v s (at + 2) written + x .words) after end
+    → Running v s left (operandsAt v at + x .bytes) (resultAt v s (at + 2) written + x .words) after end
 next-of v written s left at m end after x p d =
     let i = p .first in
     let e = p .read .is in
@@ -173,8 +173,8 @@ next-of v written s left at m end after x p d =
     let value : Range = record { first = result; width = wordsGiven k t } in
     let b : x .bytes ≡ codeBytes k = d .bytes in
     let g : x .words ≡ wordsGiven k t = d .given in
-    let ek : at + (resultBytes v + x .bytes) ≡ endOf k from = omega arith in
-    let ea : at + (resultBytes v + x .bytes) ≡ i .next = ek ∙ ap (λ (y : Part Instruction). y .next) e in
+    let ek : operandsAt v at + x .bytes ≡ endOf k from = omega arith in
+    let ea : operandsAt v at + x .bytes ≡ i .next = ek ∙ ap (λ (y : Part Instruction). y .next) e in
     let ev : value ∷ written ≡ resultValue (i .it) ∷ written = ap (λ (y : Part Instruction). resultValue (y .it) ∷ written) e in
     let em : after ≡ execute (i .it) m = d .words ∙ ap (λ (y : Part Instruction). execute (y .it) m) e in
     let el : length after ≡ length m = same-size k t s from result m after x d in
@@ -196,14 +196,8 @@ less v s zero at next m end h p = absurd (omega arith)
 less v s (suc left) at next m end h p = rw sub-one (split v s left at next m end h)
 
 module _ (b : Bool) {s : List ℕ} {left at next : ℕ} {m end : List ℕ} (h : Running (versionBy b) s left at next m end) (more : 0 < left) where
-  pub head-there : at + 2 + resultBytes (versionBy b) ≤ length s
-  head-there = let f : endOf (byte s at) (at + 2 + resultBytes (versionBy b)) ≤ length s = less (versionBy b) s left at next m end h more .read .fits in omega arith
-
-  pub address-there : b ≡ true → at + 2 + 2 ≤ length s
-  address-there e =
-      let f = head-there in
-      let g : resultBytes (versionBy b) ≡ 2 = ap (λ (c : Bool). resultBytes (versionBy c)) e in
-      omega arith
+  pub head-there : operandsAt (versionBy b) at ≤ length s
+  head-there = let f : endOf (byte s at) (operandsAt (versionBy b) at) ≤ length s = less (versionBy b) s left at next m end h more .read .fits in omega arith
 
   module _ {from result : ℕ} (ef : from ≡ operandsAt (versionBy b) at) (er : result ≡ cond b (u16 s (at + 2)) next) where
     placed : result ≡ resultAt (versionBy b) s (at + 2) (h .written)
@@ -216,14 +210,14 @@ module _ (b : Bool) {s : List ℕ} {left at next : ℕ} {m end : List ℕ} (h : 
         (executable-of (versionBy b) (h .written) s (left - 1) at m end (less (versionBy b) s left at next m end h more)))
 
     pub turned : {after : List ℕ} {x : Extent} → Executed (byte s at) (byte s (at + 1)) s from result m after x
-        → {at′ : ℕ} → at′ ≡ at + (resultBytes (versionBy b) + x .bytes) → Running (versionBy b) s (left - 1) at′ (result + x .words) after end
-    turned {after} {x} d e =
+        → Running (versionBy b) s (left - 1) (from + x .bytes) (result + x .words) after end
+    turned {after} {x} d =
         let v = versionBy b in
         let d′ : Executed (byte s at) (byte s (at + 1)) s (operandsAt v at) (resultAt v s (at + 2) (h .written)) m after x =
         subst (λ (r : ℕ). Executed (byte s at) (byte s (at + 1)) s (operandsAt v at) r m after x) placed
         (subst (λ (f : ℕ). Executed (byte s at) (byte s (at + 1)) s f result m after x) ef d) in
-        subst (λ (a : ℕ). Running v s (left - 1) a (result + x .words) after end) (sym e)
-        (subst (λ (r : ℕ). Running v s (left - 1) (at + (resultBytes v + x .bytes)) (r + x .words) after end) (sym placed)
+        subst (λ (f : ℕ). Running v s (left - 1) (f + x .bytes) (result + x .words) after end) (sym ef)
+        (subst (λ (r : ℕ). Running v s (left - 1) (operandsAt v at + x .bytes) (r + x .words) after end) (sym placed)
         (next-of v (h .written) s (left - 1) at m end after x (less v s left at next m end h more) d′))
 
 pub done : (v : Version) (s : List ℕ) (left at next : ℕ) (m end : List ℕ) → Running v s left at next m end → left ≡ 0 → m ≡ end

@@ -35,9 +35,9 @@ instructionAt k t s at result =
 abbrev pub endOf : ℕ → ℕ → ℕ
 endOf k at = at + 2 * arity (kindOf k) + 8 * constantWords (kindOf k)
 
--- its bytes, kind and type byte among them
+-- the bytes of its operands and constants
 abbrev pub codeBytes : ℕ → ℕ
-codeBytes k = 2 + 2 * arity (kindOf k) + 8 * constantWords (kindOf k)
+codeBytes k = 2 * arity (kindOf k) + 8 * constantWords (kindOf k)
 
 -- the words of its results
 abbrev pub wordsGiven : ℕ → ℕ → ℕ

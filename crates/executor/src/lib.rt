@@ -1,7 +1,7 @@
 // The instructions of a board list, carried out on a memory of words. What carries one out takes the address of its result:
 // only the loop knows the list's version, by which results follow one another or stand where the code says.
 ghost use mathlib.Core.Path.{_≡_};
-ghost use mathlib.Core.Bool.{true, cond};
+ghost use mathlib.Core.Bool.{cond};
 ghost use Prim.Native.Nat.{_+_, _≤_};
 ghost use lib.ListN.{length};
 ghost use Rattle.base.specs.Bytes.{byte, u16};
@@ -16,7 +16,7 @@ mod operands;
 mod operators;
 mod plain;
 
-// The bytes of an instruction, and the words of its results.
+// The bytes of an instruction's operands and constants, and the words of its results.
 pub struct Extent {
     pub bytes: usize,
     pub words: usize,
@@ -37,22 +37,28 @@ pub fn execute(code: &[u8], at: usize, from: usize, result: usize, work: &mut [u
     }
 }
 
-// The bytes of a result's address, in the version where an instruction carries it or in the other.
-pub fn result_bytes(addressed: bool) -> usize
-    ensures { λ r. ⌜ r ≡ resultBytes (versionBy addressed) ⌝ }
-{
-    if addressed { 2 } else { 0 }
+// Where an instruction's operands stand, and where its result goes.
+pub struct Place {
+    pub from: usize,
+    pub result: usize,
 }
 
-// The address of a result: it stands at `at`, or is the next word.
-fn result_at(code: &[u8], at: usize, addressed: bool, next: usize) -> usize
-    requires { ⌜ (addressed ≡ true → at + 2 ≤ length (now code)) ⌝ }
-    ensures { λ r. ⌜ r ≡ cond addressed (u16 (now (code .entry)) at) next ⌝ }
+// Of the instruction at `at`: it carries its result's address, or its result takes the next words.
+fn locate(code: &[u8], at: usize, addressed: bool, next: usize) -> Place
+    requires { ⌜ at + 2 + resultBytes (versionBy addressed) ≤ length (now code) ⌝ }
+    ensures { λ r. ⌜ (r .from ≡ at + 2 + resultBytes (versionBy addressed)) × (r .result ≡ cond addressed (u16 (now (code .entry)) (at + 2)) next) ⌝ }
 {
     if addressed {
-        base::u16_at(code, at)
+        let result = base::u16_at(code, at + 2);
+        Place {
+            from: at + 4,
+            result,
+        }
     } else {
-        next
+        Place {
+            from: at + 2,
+            result: next,
+        }
     }
 }
 
@@ -62,17 +68,14 @@ pub fn execute_all(code: &[u8], addressed: bool, count: usize, first: usize, wor
     requires { ⌜ Instructions (versionBy addressed) (now code) count first (now work) ⌝ }
     ensures { λ _. ⌜ now (work .exit) ≡ afterAll (readInstructions (versionBy addressed) count (now (code .entry)) headerLength (argumentWords first)) (now (work .entry)) ⌝ }
 {
-    let skipped = result_bytes(addressed);
     let mut at = HEADER_LENGTH;
     let mut next = first;
     let mut left = count;
     while 0 < left {
-        let head = at + 2;
-        let result = result_at(code, head, addressed, next);
-        let from = head + skipped;
-        let extent = execute(code, at, from, result, work);
-        at += skipped + extent.bytes;
-        next = result + extent.words;
+        let place = locate(code, at, addressed, next);
+        let extent = execute(code, at, place.from, place.result, work);
+        at = place.from + extent.bytes;
+        next = place.result + extent.words;
         left -= 1;
     }
 }

@@ -105,6 +105,10 @@ of-operands r e n =
     let (u, v) = and-inv (executable (r .form)) (eqb (constantIn (r .form) (r .words)) 0) x in
     (u, eqb-true _ _ v, y)
 
+-- a kind with operands has no constant
+pub operands-no-constant : (row : Ports) (k : Kind) → row ≡ portsOf k → (row .operands ≡ 0 → ⊥) → constantIn (row .form) (row .words) ≡ 0
+operands-no-constant row k e n = of-operands row (ap shaped e ∙ every-shaped k) n .1
+
 of-constant : (r : Ports) → shaped r ≡ true → r .operands ≡ 0 → executable (r .form) ≡ true → constantIn (r .form) (r .words) ≡ r .words
 of-constant r e n can =
     let some = executable (r .form) && eqb (constantIn (r .form) (r .words)) 0 && cond (hasType r) (eqb (r .first) 0 && eqb (r .rest) 0) true in

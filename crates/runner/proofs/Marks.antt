@@ -86,14 +86,14 @@ pub every-same : (f g : ℕ → Bool) → ((a : ℕ) → f a ≡ g a) → (xs : 
 every-same f g h [] = refl
 every-same f g h (x ∷ xs) = ap₂ (λ (a b : Bool). a && b) (h x) (every-same f g h xs)
 
+and-true : (b : Bool) → b && true ≡ b
+and-true true = refl
+and-true false = refl
+
 module _ (test : ℕ → Bool) where
   -- a scalar
   pub one-word : (a t : ℕ) → t ≡ 1 → {r : Bool} → r ≡ test a → r ≡ every test (span a (width t))
   one-word a t e q = rw e (q ∙ sym (and-true (test a)))
-    where
-      and-true : (b : Bool) → b && true ≡ b
-      and-true true = refl
-      and-true false = refl
 
   pub words-walk : Walk (λ n at. every test (span at n)) test 1
   words-walk = record { none = λ at. refl; more = λ n at. ap (λ (a : ℕ). test at && every test (span a n)) (sym (add-one at)) }
@@ -125,3 +125,15 @@ module _ (test : ℕ → Bool) where
     pub operands-over : (left at t : ℕ) → left ≡ 0 → left-written left at t ≡ true
     operands-over zero at t z = refl
     operands-over (suc n) at t z = absurd (omega arith)
+
+  -- two operands
+  module _ (s : List ℕ) (at p q : ℕ) where
+    pub two-off : every test (span (u16 s at) (width p)) ≡ false → false ≡ every test (spans (types 2 p q) (addresses 2 s at))
+    two-off e = sym (operands-off s q 2 at p (omega arith) e)
+
+    pub two-on : every test (span (u16 s at) (width p)) ≡ true → {r : Bool} → r ≡ every test (span (u16 s (at + 2)) (width q))
+        → r ≡ every test (spans (types 2 p q) (addresses 2 s at))
+    two-on e g =
+        g
+        ∙ sym (every-append test (span (u16 s (at + 2)) (width q)) [] ∙ and-true (every test (span (u16 s (at + 2)) (width q))))
+        ∙ sym (operands-on s q 2 at p (omega arith) e)

@@ -3,7 +3,7 @@
 use Prim.Native.Nat.{ℕ, zero, suc, _+_, _-_, _*_, _≤_, _<_, max}
 use mathlib.Core.Path.{_≡_, refl, ap, ap₂, sym, _∙_, subst}
 use mathlib.Core.Bool.{Bool, true, false, _&&_, cond}
-use mathlib.Core.List.{List, _∷_}
+use mathlib.Core.List.{List, [], _∷_}
 use mathlib.Core.Option.{Option, none, some}
 use native.Mathlib.Omega.{arith}
 use native.Mathlib.Numerals.{sub-one}
@@ -12,13 +12,14 @@ use lib.Dec.{leb}
 use lib.ListN.{length}
 use Rattle.ports.specs.declared.Ports.{Ports}
 use Rattle.ports.specs.Kinds.{kindOf}
-use Rattle.ports.specs.Ports.{rows, portsOf, takesRow, arity, executable, typeFits}
-use Rattle.ports.proofs.Laws.{no-kind, words-few}
-use Rattle.base.specs.Bytes.{byte, u16}
+use Rattle.ports.specs.Ports.{rows, own, types, portsOf, takes, takesRow, arity, constantIn, constantWords, resultWords, executable, typeFits, legalInstruction}
+use Rattle.ports.proofs.Laws.{no-kind, words-few, words-given}
+use Rattle.value.specs.Values.{constantWord}
+use Rattle.base.specs.Bytes.{byte, u16, constants}
 use Rattle.base.specs.Lists.{every}
 use Rattle.base.specs.Limits.{wordLimit}
 use Rattle.base.specs.Outcome.{Part}
-use Rattle.base.proofs.Bools.{and-false}
+use Rattle.base.proofs.Bools.{and-inv, and-both}
 use Rattle.base.proofs.Lists.{some-is}
 use Rattle.bytecode.specs.Run.{Instruction, spans}
 use Rattle.bytecode.specs.Ranges.{Range, behind, resultValue}
@@ -28,13 +29,14 @@ use Rattle.bytecode.specs.Code.{then, addresses, readable, argumentWords, readI
 use Rattle.bytecode.proofs.Readable.{behind-grows}
 use Rattle.executor.specs.Execution.{endOf, wordsGiven}
 use Rattle.executor.specs.Instructions.{versionBy}
-use Rattle.executor.proofs.Loop.{operandsAt}
+use Rattle.executor.proofs.Loop.{operandsAt, read-inv}
 use Rattle.runner.specs.declared.Cursor.{Cursor}
 use Rattle.runner.specs.declared.Progress.{Progress}
 use Rattle.runner.specs.declared.Progress.the-variants.{Passed, Refused}
-use Rattle.runner.specs.Checks.{marked, Recorded, Extended, instructionPassed, writePassed, Wrote, Placed, Placeable, endedOf, writtenOf, Checkable, Ended}
+use Rattle.runner.specs.Checks.{marked, Recorded, Extended, instructionPassed, legalRow, wasWritten, readPassed, Stored, writePassed, Wrote, endedOf, writtenOf, Checkable, Ended}
 use Rattle.runner.proofs.Marks.{records-next, every-same}
-use Rattle.runner.proofs.Reading.{below-reads, Passes, passes, readsOf, instructionOf, none-illegal, none-unread, none-refused, is-read}
+use Rattle.runner.proofs.Checking.{operands-no-constant}
+use Rattle.runner.proofs.Reading.{below-reads, passes, readsOf, instructionOf, unread, none-illegal, none-refused, is-read}
 
 -- ---- the instructions that are left
 
@@ -153,51 +155,59 @@ module _ (b : Bool) {s : List ℕ} {o : Option Listed} where
             few = omega arith;
           }
 
--- ---- a turn of the loop: the row passed, and the result has its place
+-- ---- a turn of version 1
 
-pub record Turned (b : Bool) (s : List ℕ) (o : Option Listed) (left : ℕ) (after : List Bool) (r : Progress) : Type 0 where
+module _ {s : List ℕ} {o : Option Listed} {left at high : ℕ} {marks : List Bool} (g : Going false s o left at high marks) where
+  -- its operands stand behind kind and type
+  row-from : {r : Progress} → instructionPassed s at (at + 2) high ≡ r → instructionPassed s at (operandsAt V1 at) (behind (g .written)) ≡ r
+  row-from e = ap₂ (instructionPassed s at) (omega arith) (g .high-is) ∙ e
+
+  pub row-stops : instructionPassed s at (at + 2) high ≡ Refused → readInstruction V1 (g .written) s at ≡ none
+  row-stops e = none-refused V1 (g .written) s at (row-from e)
+
+  pub row-on : 0 < left → {x : Cursor} → instructionPassed s at (at + 2) high ≡ Passed x → Going false s o (left - 1) (x .at) (x .result) marks
+  row-on h {x} e =
+      let k = byte s at in
+      let t = byte s (at + 1) in
+      let p = passes s at (operandsAt V1 at) (behind (g .written)) x (row-from e) in
+      let f : endOf k (operandsAt V1 at) ≤ length s = leb-true _ _ (p .fits) in
+      let i = is-read V1 (g .written) s at (omega arith) (p .legal) (p .fits)
+      (below-reads (g .written) (takesRow (portsOf (kindOf k)) t) (addresses (arity (kindOf k)) s (operandsAt V1 at)) (p .stands)) (p .consts) in
+      let ea : x .at ≡ endOf k (operandsAt V1 at) = p .at-is in
+      let eh : x .result ≡ behind (g .written) + wordsGiven k t = p .result-is in
+      let w : wordsGiven k t ≤ 16 = words-few (kindOf k) t in
+      let q : behind (g .written) ≡ high = g .high-is in
+      let z : high + 16 * left ≤ wordLimit + 16 * 65535 = g .small in
+      on false g h i x ea (omega arith) (omega arith) (omega arith) tt
+
+-- ---- a turn of version 2
+
+-- what its tests ask, by the kind
+module _ (s : List ℕ) (at : ℕ) (marks : List Bool) where
+  abbrev ofKind : Bool
+  ofKind =
+      let k = kindOf (byte s at) in
+      let from = at + 2 + 2 in
+      legalInstruction k (byte s (at + 1)) && leb (endOf (byte s at) from) (length s)
+      && every (marked marks) (spans (takes k (byte s (at + 1))) (addresses (arity k) s from))
+      && every constantWord (constants (constantWords k) s (from + 2 * arity k))
+
+  by-kind : {row : Ports} → row ≡ portsOf (kindOf (byte s at)) → readPassed s at row (byte s (at + 1)) marks ≡ ofKind
+  unfolding readPassed
+  by-kind {row} e =
+      let k = byte s at in
+      let r = portsOf (kindOf k) in
+      let size : at + 2 + 2 + (2 * r .operands + 8 * constantIn (r .form) (r .words)) ≡ endOf k (at + 2 + 2) = omega arith in
+      ap (λ (y : Ports). readPassed s at y (byte s (at + 1)) marks) e ∙ rw size refl
+
+pub record Turned (s : List ℕ) (o : Option Listed) (left : ℕ) (after : List Bool) (r : Progress) : Type 0 where
   pub refused : r ≡ Refused → Refused ≡ endedOf o
-  pub passed : (y : Cursor) → r ≡ Passed y → Going b s o (left - 1) (y .at) (y .result) after
+  pub passed : (y : Cursor) → r ≡ Passed y → Going true s o (left - 1) (y .at) (y .result) after
 
-module _ (b : Bool) {s : List ℕ} {o : Option Listed} {left at from high : ℕ} {marks : List Bool} (g : Going b s o left at high marks)
-    (ef : from ≡ operandsAt (versionBy b) at) where
-  row-refused : instructionPassed s at from high ≡ Refused → instructionPassed s at (operandsAt (versionBy b) at) (behind (g .written)) ≡ Refused
-  row-refused e = ap₂ (instructionPassed s at) (sym ef) (g .high-is) ∙ e
-
-  -- the row does not fit
-  pub row-stops : instructionPassed s at from high ≡ Refused → readInstruction (versionBy b) (g .written) s at ≡ none
-  row-stops e = none-refused (versionBy b) (g .written) s at (row-refused e)
-
-  pub row-passes : {x : Cursor} → instructionPassed s at from high ≡ Passed x → Passes s at (operandsAt (versionBy b) at) (behind (g .written)) x
-  row-passes {x} e = passes s at (operandsAt (versionBy b) at) (behind (g .written)) x (ap₂ (instructionPassed s at) (sym ef) (g .high-is) ∙ e)
-
--- version 1
-turned-next : {s : List ℕ} {o : Option Listed} {left at high : ℕ} {marks after : List Bool} {r : Progress} (g : Going false s o left at high marks) → 0 < left
-    → {x : Cursor} → Passes s at (operandsAt V1 at) (behind (g .written)) x → r ≡ Passed x → Turned false s o left after r
-turned-next {s} {o} {left} {at} {high} {marks} {after} {r} g h {x} p e =
-    let k = byte s at in
-    let t = byte s (at + 1) in
-    let f : endOf k (operandsAt V1 at) ≤ length s = leb-true _ _ (p .fits) in
-    let i = is-read V1 (g .written) s at (omega arith) p
-    (below-reads (g .written) (takesRow (portsOf (kindOf k)) t) (addresses (arity (kindOf k)) s (operandsAt V1 at)) (p .stands)) in
-    let ea : x .at ≡ endOf k (operandsAt V1 at) = p .at-is in
-    let eh : x .result ≡ behind (g .written) + wordsGiven k t = p .result-is in
-    let w : wordsGiven k t ≤ 16 = words-few (kindOf k) t in
-    let q : behind (g .written) ≡ high = g .high-is in
-    let z : high + 16 * left ≤ wordLimit + 16 * 65535 = g .small in
-    let go : Going false s o (left - 1) (x .at) (x .result) after = on false g h i x ea (omega arith) (omega arith) (omega arith) tt in
-    record {
-      refused = λ u. absurd (refused-apart (sym u ∙ e));
-      passed = λ y u. subst (λ (c : Cursor). Going false s o (left - 1) (c .at) (c .result) after) (passed-is (sym e ∙ u)) go;
-    }
-
--- version 2
-turned-at : {s : List ℕ} {o : Option Listed} {left at high : ℕ} {marks after : List Bool} {row : Ports} {r : Progress} (g : Going true s o left at high marks)
-    → 0 < left → {x : Cursor} → Passes s at (operandsAt V2 at) (behind (g .written)) x → row ≡ portsOf (kindOf (byte s at))
-    → Wrote s at row (x .result - high) high (x .at) marks after r → Turned true s o left after r
+pub turned : {s : List ℕ} {o : Option Listed} {left at high : ℕ} {marks after : List Bool} {row : Ports} {r : Progress} (g : Going true s o left at high marks)
+    → 0 < left → at + 2 + 2 ≤ length s → row ≡ portsOf (kindOf (byte s at)) → Wrote s at row high marks after r → Turned s o left after r
 unfolding writePassed
-turned-at {s} {o} {left} {at} {high} {marks} {after} {row} {r} g h {x} p er w =
-    go (every (marked marks) (spans (takesRow row t) (addresses (row .operands) s (at + 2 + 2)))) refl (leb last (length marks)) refl
+turned {s} {o} {left} {at} {high} {marks} {after} {row} {r} g h long er w = go (ofKind s at marks) refl (leb last (length marks)) refl
   where
     k : ℕ
     k = byte s at
@@ -206,18 +216,19 @@ turned-at {s} {o} {left} {at} {high} {marks} {after} {row} {r} g h {x} p er w =
     t = byte s (at + 1)
 
     last : ℕ
-    last = u16 s (at + 2) + (x .result - high)
+    last = u16 s (at + 2) + resultWords row t
 
-    same : every (marked marks) (spans (takesRow row t) (addresses (row .operands) s (at + 2 + 2))) ≡ every (readable V2 (g .written)) (readsOf V2 (g .written) s at)
-    same =
-        every-same (marked marks) (readable V2 (g .written)) (g .recorded .is) (spans (takesRow row t) (addresses (row .operands) s (at + 2 + 2)))
-        ∙ ap (λ (y : Ports). every (readable V2 (g .written)) (spans (takesRow y t) (addresses (y .operands) s (at + 2 + 2)))) er
+    next : ℕ
+    next = at + 2 + 2 + 2 * row .operands + 8 * constantIn (row .form) (row .words)
 
-    fits : endOf k (at + 2 + 2) ≤ length s
-    fits = leb-true _ _ (p .fits)
+    same : every (marked marks) (readsOf V2 (g .written) s at) ≡ every (readable V2 (g .written)) (readsOf V2 (g .written) s at)
+    same = every-same (marked marks) (readable V2 (g .written)) (g .recorded .is) (readsOf V2 (g .written) s at)
 
-    words : x .result - high ≡ wordsGiven k t
-    words = let a : x .result ≡ behind (g .written) + wordsGiven k t = p .result-is in let q : behind (g .written) ≡ high = g .high-is in omega arith
+    words : resultWords row t ≡ wordsGiven k t
+    words = ap (λ (y : Ports). resultWords y t) er ∙ words-given (kindOf k) t
+
+    next-is : next ≡ endOf k (at + 2 + 2)
+    next-is = ap (λ (y : Ports). at + 2 + 2 + 2 * y .operands + 8 * constantIn (y .form) (y .words)) er
 
     highest : max high last ≡ behind (resultValue (instructionOf V2 (g .written) s at .it) ∷ g .written)
     highest =
@@ -225,65 +236,56 @@ turned-at {s} {o} {left} {at} {high} {marks} {after} {row} {r} g h {x} p er w =
         let e = words in
         omega arith
 
-    answer : (c d : Bool) → every (marked marks) (spans (takesRow row t) (addresses (row .operands) s (at + 2 + 2))) ≡ c → leb last (length marks) ≡ d
-        → r ≡ cond (c && d) (Passed (record { at = x .at; result = max high last })) Refused
-    answer c d ec ed = w .answer ∙ ap₂ (λ (c d : Bool). cond (c && d) (Passed (record { at = x .at; result = max high last })) Refused) ec ed
+    answer : (c d : Bool) → ofKind s at marks ≡ c → leb last (length marks) ≡ d → r ≡ cond (c && d) (Passed (record { at = next; result = max high last })) Refused
+    answer c d ec ed =
+        w .answer ∙ ap₂ (λ (c d : Bool). cond (c && d) (Passed (record { at = next; result = max high last })) Refused) (by-kind s at marks er ∙ ec) ed
 
-    go : (c : Bool) → every (marked marks) (spans (takesRow row t) (addresses (row .operands) s (at + 2 + 2))) ≡ c → (d : Bool) → leb last (length marks) ≡ d
-        → Turned true s o left after r
+    -- all tests passed
+    read : ofKind s at marks ≡ true → readInstruction V2 (g .written) s at ≡ some (instructionOf V2 (g .written) s at)
+    read ec =
+        let (abc, d) = and-inv (legalInstruction (kindOf k) t && leb (endOf k (at + 2 + 2)) (length s) && every (marked marks) (readsOf V2 (g .written) s at)) (every constantWord (constants (constantWords (kindOf k)) s (at + 2 + 2 + 2 * arity (kindOf k)))) ec in
+        let (ab, c) = and-inv (legalInstruction (kindOf k) t && leb (endOf k (at + 2 + 2)) (length s)) (every (marked marks) (readsOf V2 (g .written) s at)) abc in
+        let (a, b) = and-inv (legalInstruction (kindOf k) t) (leb (endOf k (at + 2 + 2)) (length s)) ab in
+        is-read V2 (g .written) s at (omega (arith, long)) a b (sym same ∙ c) d
+
+    not-read : ofKind s at marks ≡ false → readInstruction V2 (g .written) s at ≡ none
+    not-read ec =
+        unread V2 (g .written) s at (λ l a b c d.
+        let q : ofKind s at marks ≡ true = and-both (legalInstruction (kindOf k) t && leb (endOf k (at + 2 + 2)) (length s) && every (marked marks) (readsOf V2 (g .written) s at)) (every constantWord (constants (constantWords (kindOf k)) s (at + 2 + 2 + 2 * arity (kindOf k)))) (and-both (legalInstruction (kindOf k) t && leb (endOf k (at + 2 + 2)) (length s)) (every (marked marks) (readsOf V2 (g .written) s at)) (and-both (legalInstruction (kindOf k) t) (leb (endOf k (at + 2 + 2)) (length s)) a b) (same ∙ c)) d in
+        let z : _≡_ {A = ℕ} 0 1 = cc in
+        omega arith)
+
+    go : (c : Bool) → ofKind s at marks ≡ c → (d : Bool) → leb last (length marks) ≡ d → Turned s o left after r
     go false ec d ed =
         record {
-          refused = λ u. stop true g h (none-unread V2 (g .written) s at (sym same ∙ ec));
+          refused = λ u. stop true g h (not-read ec);
           passed = λ y u. absurd (refused-apart (sym (answer false d ec ed) ∙ u));
         }
     go true ec false ed =
-        let f : endOf k (at + 2 + 2) ≤ length s = fits in
-        let i = is-read V2 (g .written) s at (omega arith) p (sym same ∙ ec) in
         let l : length marks < last = leb-false _ _ ed in
         let n : length marks ≡ wordLimit = g .recorded .size in
         let q = highest in
         record {
-          refused = λ u. beyond true g h i (omega arith);
+          refused = λ u. beyond true g h (read ec) (omega arith);
           passed = λ y u. absurd (refused-apart (sym (answer true false ec ed) ∙ u));
         }
     go true ec true ed =
-        let f : endOf k (at + 2 + 2) ≤ length s = fits in
-        let i = is-read V2 (g .written) s at (omega arith) p (sym same ∙ ec) in
         let l : last ≤ length marks = leb-true _ _ ed in
         let n : length marks ≡ wordLimit = g .recorded .size in
-        let a : r ≡ Passed (record { at = x .at; result = max high last }) = answer true true ec ed in
+        let a : r ≡ Passed (record { at = next; result = max high last }) = answer true true ec ed in
         let ext : Extended (u16 s (at + 2)) (wordsGiven k t) marks after =
         subst (λ (m : ℕ). Extended (u16 s (at + 2)) m marks after) words (w .extended _ a) in
-        let ea : x .at ≡ endOf k (at + 2 + 2) = p .at-is in
+        let i = read ec in
+        let f : endOf k (at + 2 + 2) ≤ length s = read-inv V2 (g .written) s at (instructionOf V2 (g .written) s at) i .fits in
+        let ea = next-is in
         let z : high + 16 * left ≤ wordLimit + 16 * 65535 = g .small in
         let c : left ≤ 65535 = g .few in
-        let next : Going true s o (left - 1) (x .at) (max high last) after =
-        on true g h i (record { at = x .at; result = max high last }) ea (omega arith) highest (omega arith) (records-next (g .recorded) ext) in
+        let on-from : Going true s o (left - 1) next (max high last) after =
+        on true g h i (record { at = next; result = max high last }) ea (omega arith) highest (omega arith) (records-next (g .recorded) ext) in
         record {
           refused = λ u. absurd (refused-apart (sym u ∙ a));
-          passed = λ y u. subst (λ (c : Cursor). Going true s o (left - 1) (c .at) (c .result) after) (passed-is (sym a ∙ u)) next;
+          passed = λ y u. subst (λ (c : Cursor). Going true s o (left - 1) (c .at) (c .result) after) (passed-is (sym a ∙ u)) on-from;
         }
-
-pub turned : (b : Bool) {s : List ℕ} {o : Option Listed} {left at from high : ℕ} {marks after : List Bool} {row : Ports} {r : Progress}
-    (g : Going b s o left at high marks) → 0 < left → from ≡ operandsAt (versionBy b) at → {x : Cursor} → instructionPassed s at from high ≡ Passed x
-    → row ≡ portsOf (kindOf (byte s at)) → Placed b s at row high x marks after r → Turned b s o left after r
-turned false g h ef e er p = turned-next g h (row-passes false g ef e) p
-turned true g h ef e er p = turned-at g h (row-passes true g ef e) er p
-
-pub placeable : (b : Bool) {s : List ℕ} {o : Option Listed} {left at from high : ℕ} {marks : List Bool} {row : Ports}
-    (g : Going b s o left at high marks) → from ≡ operandsAt (versionBy b) at → {x : Cursor} → instructionPassed s at from high ≡ Passed x
-    → row ≡ portsOf (kindOf (byte s at)) → Placeable b s at row high x
-placeable false g ef e er = tt
-placeable true {s} {o} {left} {at} {from} {high} {marks} {row} g ef {x} e er =
-    let p = row-passes true g ef e in
-    let k = byte s at in
-    let f : endOf k (at + 2 + 2) ≤ length s = leb-true _ _ (p .fits) in
-    let n : row .operands ≡ arity (kindOf k) = ap (λ (y : Ports). y .operands) er in
-    let w : wordsGiven k (byte s (at + 1)) ≤ 16 = words-few (kindOf k) (byte s (at + 1)) in
-    let a : x .result ≡ behind (g .written) + wordsGiven k (byte s (at + 1)) = p .result-is in
-    let q : behind (g .written) ≡ high = g .high-is in
-    let z : high + 16 * left ≤ wordLimit + 16 * 65535 = g .small in
-    (record { bytes = omega arith; few = omega arith; high-small = omega arith }, omega arith)
 
 -- none is left
 module _ (b : Bool) {s : List ℕ} {o : Option Listed} {left at high : ℕ} {marks : List Bool} (g : Going b s o left at high marks) (z : left ≡ 0) where
@@ -306,29 +308,88 @@ module _ (b : Bool) {s : List ℕ} {o : Option Listed} {left at high : ℕ} {mar
         recorded = λ x e written f. subst (λ (rs : List Range). Recorded b rs marks) (some-is (sym w ∙ f)) (g .recorded);
       }
 
--- ---- a result that is written
+-- ---- version 1 keeps no marks
 
-module _ (s : List ℕ) (at : ℕ) (row : Ports) (words high next : ℕ) (marks after : List Bool) where
-  abbrev wasWritten : Bool
-  wasWritten = every (marked marks) (spans (takesRow row (byte s (at + 1))) (addresses (row .operands) s (at + 2 + 2)))
+pub unmarked : {b : Bool} {s : List ℕ} {count first : ℕ} {marks : List Bool} → Checkable b s count first marks → Checkable false s count first []
+unmarked h = record { long = h .long; few = h .few; first-small = h .first-small; recorded = tt }
+
+pub no-marks : {o : Option Listed} {marks after : List Bool} {r : Progress} → Ended false o marks r → Ended false o after r
+no-marks h = record { answer = h .answer; recorded = λ x e written f. tt }
+
+-- ---- an instruction of version 2, test by test
+
+module _ (first words next high : ℕ) (marks after : List Bool) where
+  pub not-stored : length marks < first + words → Stored first words next high marks after Refused
+  not-stored l = record { answer = rw (lt-leb (first + words) (length marks) l); extended = λ x q. absurd (refused-apart q) }
+
+  pub is-stored : first + words ≤ length marks → {a n : ℕ} → a ≡ first → n ≡ max high (a + words) → Extended a words marks after
+      → Stored first words next high marks after (Passed (record { at = next; result = n }))
+  is-stored l {a} {n} ea en h =
+      let q : n ≡ max high (first + words) = en ∙ ap (λ (x : ℕ). max high (x + words)) ea in
+      record {
+        answer = rw (le-leb (first + words) (length marks) l, q) refl;
+        extended = λ x u. subst (λ (x : ℕ). Extended x words marks after) ea h;
+      }
+
+module _ (s : List ℕ) (at : ℕ) (row : Ports) (t : ℕ) (et : t ≡ byte s (at + 1)) (high : ℕ) (marks after : List Bool) where
+  abbrev constantsOf : ℕ
+  constantsOf = constantIn (row .form) (row .words)
 
   abbrev endsAt : ℕ
-  endsAt = u16 s (at + 2) + words
+  endsAt = at + 2 + 2 + (2 * row .operands + 8 * constantsOf)
 
-  wrote-refused : Refused ≡ writePassed s at row words high next marks → Wrote s at row words high next marks after Refused
-  wrote-refused e = record { answer = e; extended = λ x q. absurd (refused-apart q) }
-
-  pub write-unread : wasWritten ≡ false → Wrote s at row words high next marks after Refused
+  refuses : readPassed s at row t marks ≡ false → Wrote s at row high marks after Refused
   unfolding writePassed
-  write-unread e = wrote-refused (rw e)
+  refuses e =
+      let q : readPassed s at row (byte s (at + 1)) marks ≡ false = ap (λ (u : ℕ). readPassed s at row u marks) (sym et) ∙ e in
+      record { answer = rw q; extended = λ x q. absurd (refused-apart q) }
 
-  pub write-over : length marks < endsAt → Wrote s at row words high next marks after Refused
-  unfolding writePassed
-  write-over l = wrote-refused (rw (lt-leb endsAt (length marks) l, and-false wasWritten))
+  pub no-kind-here : legalRow row t ≡ false → Wrote s at row high marks after Refused
+  unfolding readPassed
+  no-kind-here a = refuses (rw a)
 
-  pub write-whole : wasWritten ≡ true → {a : ℕ} → a ≡ u16 s (at + 2) → endsAt ≤ length marks → {n : ℕ} → n ≡ max high (a + words) → Extended a words marks after
-      → Wrote s at row words high next marks after (Passed (record { at = next; result = n }))
-  unfolding writePassed
-  write-whole e {a} ea l {n} en h =
-      let q : n ≡ max high endsAt = en ∙ ap (λ (x : ℕ). max high (x + words)) ea in
-      record { answer = rw (e, le-leb endsAt (length marks) l, q) refl; extended = λ x u. subst (λ (x : ℕ). Extended x words marks after) ea h }
+  module _ (a : legalRow row t ≡ true) where
+    pub no-bytes : length s < endsAt → Wrote s at row high marks after Refused
+    unfolding readPassed
+    no-bytes l = refuses (rw (a, lt-leb endsAt (length s) l))
+
+    module _ (l : endsAt ≤ length s) where
+      pub no-word : wasWritten s at row t marks ≡ false → Wrote s at row high marks after Refused
+      unfolding readPassed
+      no-word c = refuses (rw (a, le-leb endsAt (length s) l, c))
+
+      module _ (c : wasWritten s at row t marks ≡ true) where
+        pub no-constant : every constantWord (constants constantsOf s (at + 2 + 2 + 2 * row .operands)) ≡ false → Wrote s at row high marks after Refused
+        unfolding readPassed
+        no-constant d = refuses (rw (a, le-leb endsAt (length s) l, c, d))
+
+        pub writes : every constantWord (constants constantsOf s (at + 2 + 2 + 2 * row .operands)) ≡ true → {words next : ℕ} {r : Progress} → words ≡ resultWords row t
+            → next ≡ endsAt → Stored (u16 s (at + 2)) words next high marks after r → Wrote s at row high marks after r
+        unfolding readPassed writePassed
+        writes d {words} {next} {r} ew en h =
+            let p : readPassed s at row (byte s (at + 1)) marks ≡ true =
+            ap (λ (u : ℕ). readPassed s at row u marks) (sym et) ∙ rw (a, le-leb endsAt (length s) l, c, d) refl in
+            let w : words ≡ resultWords row (byte s (at + 1)) = ew ∙ ap (resultWords row) et in
+            let e : next ≡ at + 2 + 2 + 2 * row .operands + 8 * constantsOf = omega arith in
+            record {
+              answer = h .answer ∙ rw (p, w, e) refl;
+              extended = λ x u. subst (λ (n : ℕ). Extended (u16 s (at + 2)) n marks after) w (h .extended x u);
+            }
+
+  -- with two operands there is no constant
+  module _ (er : row ≡ portsOf (kindOf (byte s at))) (two : row .operands ≡ 2) where
+    no-constants : constantsOf ≡ 0
+    no-constants = operands-no-constant row (kindOf (byte s at)) er (λ z. absurd (omega arith))
+
+    pub two-end : at + 2 + 2 + 4 ≡ endsAt
+    two-end = let z = no-constants in omega arith
+
+    pub two-constants : every constantWord (constants constantsOf s (at + 2 + 2 + 2 * row .operands)) ≡ true
+    two-constants = ap (λ (n : ℕ). every constantWord (constants n s (at + 2 + 2 + 2 * row .operands))) no-constants
+
+    pub two-written : {first second : ℕ} {r : Bool} → first ≡ own t (row .first) → second ≡ own t (row .rest)
+        → r ≡ every (marked marks) (spans (types 2 first second) (addresses 2 s (at + 2 + 2))) → wasWritten s at row t marks ≡ r
+    two-written {first} {second} {r} ef es e =
+        ap (λ (n : ℕ). every (marked marks) (spans (types n (own t (row .first)) (own t (row .rest))) (addresses n s (at + 2 + 2)))) two
+        ∙ ap₂ (λ (x y : ℕ). every (marked marks) (spans (types 2 x y) (addresses 2 s (at + 2 + 2)))) (sym ef) (sym es)
+        ∙ sym e

@@ -19,10 +19,9 @@ use Rattle.bytecode.specs.Run.{Instruction, spans}
 use Rattle.bytecode.specs.Ranges.{Range, behind}
 use Rattle.bytecode.specs.declared.Version.{Version}
 use Rattle.bytecode.specs.declared.Version.the-variants.{V1}
-use Rattle.bytecode.specs.Code.{guard, addresses, readable, resultAt, resultBytes, readInstruction}
+use Rattle.bytecode.specs.Code.{guard, addresses, readable, resultAt, readInstruction}
 use Rattle.bytecode.proofs.Readable.{readable-behind, width-some, every-append, every-span}
 use Rattle.executor.specs.Execution.{instructionAt, endOf, wordsGiven}
-use Rattle.executor.specs.Instructions.{versionBy}
 use Rattle.executor.proofs.Loop.{operandsAt}
 use Rattle.runner.specs.declared.Cursor.{Cursor}
 use Rattle.runner.specs.declared.Progress.the-variants.{Passed, Refused}
@@ -61,10 +60,6 @@ less-reads written [] = refl
 less-reads written (x ∷ xs) = ap (λ (b : Bool). ltb x (behind written) && b) (less-reads written xs)
 
 -- ---- the check of the row
-
-pub address-short : (b : Bool) → resultBytes (versionBy b) ≤ 2
-address-short false = omega arith
-address-short true = omega arith
 
 module _ (s : List ℕ) (at from result : ℕ) where
   abbrev k : ℕ
@@ -137,7 +132,7 @@ module _ (v : Version) (written : List Range) (s : List ℕ) (at : ℕ) where
   abbrev allAllowed : Bool
   allAllowed = every constantWord (constants (constantWords (kindOf kind)) s (operandsAt v at + 2 * arity (kindOf kind)))
 
-  unread :
+  pub unread :
       (at + 2 ≤ length s → legalInstruction (kindOf kind) type ≡ true → leb (endOf kind (operandsAt v at)) (length s) ≡ true
       → every (readable v written) readsOf ≡ true → allAllowed ≡ true → ⊥)
       → readInstruction v written s at ≡ none
@@ -165,7 +160,7 @@ module _ (v : Version) (written : List Range) (s : List ℕ) (at : ℕ) where
       let z : _≡_ {A = ℕ} 0 1 = cc in
       omega arith)
 
-  pub is-read : at + 2 ≤ length s → {x : Cursor} → Passes s at (operandsAt v at) (behind written) x → every (readable v written) readsOf ≡ true
-      → readInstruction v written s at ≡ some instructionOf
+  pub is-read : at + 2 ≤ length s → legalInstruction (kindOf kind) type ≡ true → leb (endOf kind (operandsAt v at)) (length s) ≡ true
+      → every (readable v written) readsOf ≡ true → allAllowed ≡ true → readInstruction v written s at ≡ some instructionOf
   unfolding guard
-  is-read l p r = rw (le-leb (at + 2) (length s) l, p .legal, p .fits, r, p .consts) refl
+  is-read l a b c d = rw (le-leb (at + 2) (length s) l, a, b, c, d) refl

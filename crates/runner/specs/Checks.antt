@@ -1,5 +1,5 @@
 -- The check of a code: its counts, or that it is not well formed.
-use Prim.Native.Nat.{ℕ, _+_, _*_, _^_, _-_, _≤_, _<_, max}
+use Prim.Native.Nat.{ℕ, _+_, _*_, _^_, _≤_, _<_, max}
 use mathlib.Core.Path.{_≡_}
 use mathlib.Core.Bool.{Bool, true, false, _&&_, _||_, cond}
 use mathlib.Core.List.{List, [], _∷_}
@@ -9,10 +9,10 @@ use lib.Dec.{leb, ltb}
 use lib.ListN.{length, getD}
 use Rattle.ports.specs.declared.Ports.{Ports}
 use Rattle.ports.specs.Kinds.{kindOf}
-use Rattle.ports.specs.Ports.{width, portsOf, types, takes, takesRow, arity, constantWords, legalInstruction}
+use Rattle.ports.specs.Ports.{width, portsOf, types, takes, takesRow, arity, constantIn, constantWords, resultWords, executable, typeFits, legalInstruction}
 use Rattle.base.specs.Bytes.{byte, u16, constants}
 use Rattle.base.specs.Lists.{every}
-use Rattle.base.specs.Limits.{portWordLimit, wordLimit, valueLimit, headerLength}
+use Rattle.base.specs.Limits.{portWordLimit, wordLimit, headerLength}
 use Rattle.value.specs.Values.{constantWord}
 use Rattle.bytecode.specs.Run.{BoardList, spans}
 use Rattle.bytecode.specs.Ranges.{Range, inside, behind}
@@ -113,33 +113,37 @@ pub record Extended (first n : ℕ) (marks after : List Bool) : Type 0 where
   pub size : length after ≡ length marks
   pub is : (a : ℕ) → marked after a ≡ inside (record { first = first; width = n }) a || marked marks a
 
--- what follows an instruction whose `words` go to the address that stands behind its kind and type: all that it reads was written
-unfoldable pub writePassed : List ℕ → (at : ℕ) → Ports → (words high next : ℕ) → List Bool → Progress
-writePassed s at row words high next marks =
-    let end = u16 s (at + 2) + words in
-    cond
-    (every (marked marks) (spans (takesRow row (byte s (at + 1))) (addresses (row .operands) s (at + 2 + 2))) && leb end (length marks))
-    (Passed (record { at = next; result = max high end }))
+-- an instruction of version 2 but for its result, by its kind's row: all that it reads was written
+abbrev pub legalRow : Ports → ℕ → Bool
+legalRow row t = executable (row .form) && typeFits row t
+
+abbrev pub wasWritten : List ℕ → (at : ℕ) → Ports → (t : ℕ) → List Bool → Bool
+wasWritten s at row t marks = every (marked marks) (spans (takesRow row t) (addresses (row .operands) s (at + 2 + 2)))
+
+unfoldable pub readPassed : List ℕ → (at : ℕ) → Ports → (t : ℕ) → List Bool → Bool
+readPassed s at row t marks =
+    let n = row .operands in
+    let c = constantIn (row .form) (row .words) in
+    let from = at + 2 + 2 in
+    legalRow row t && leb (from + (2 * n + 8 * c)) (length s) && wasWritten s at row t marks && every constantWord (constants c s (from + 2 * n))
+
+-- what follows a result of some words at an address: they are within the record, and are marked
+pub record Stored (first words next high : ℕ) (marks after : List Bool) (r : Progress) : Type 0 where
+  pub answer : r ≡ cond (leb (first + words) (length marks)) (Passed (record { at = next; result = max high (first + words) })) Refused
+  pub extended : (x : Cursor) → r ≡ Passed x → Extended first words marks after
+
+-- what follows an instruction
+unfoldable pub writePassed : List ℕ → (at : ℕ) → Ports → (high : ℕ) → List Bool → Progress
+writePassed s at row high marks =
+    let t = byte s (at + 1) in
+    let end = u16 s (at + 2) + resultWords row t in
+    cond (readPassed s at row t marks && leb end (length marks))
+    (Passed (record { at = at + 2 + 2 + 2 * row .operands + 8 * constantIn (row .form) (row .words); result = max high end }))
     Refused
 
-pub record Wrote (s : List ℕ) (at : ℕ) (row : Ports) (words high next : ℕ) (marks after : List Bool) (r : Progress) : Type 0 where
-  pub answer : r ≡ writePassed s at row words high next marks
-  pub extended : (x : Cursor) → r ≡ Passed x → Extended (u16 s (at + 2)) words marks after
-
--- the same by version; in version 1 the result takes the next words
-abbrev pub Placed : Bool → List ℕ → (at : ℕ) → Ports → (high : ℕ) → Cursor → List Bool → List Bool → Progress → Type 0
-Placed false s at row high next marks after r = r ≡ Passed next
-Placed true s at row high next marks after r = Wrote s at row (next .result - high) high (next .at) marks after r
-
--- its operands are there, and its words are few
-pub record Writable (s : List ℕ) (at : ℕ) (row : Ports) (words high : ℕ) : Type 0 where
-  pub bytes : at + 2 + 2 + 2 * row .operands ≤ length s
-  pub few : words ≤ valueLimit
-  pub high-small : high < 2 ^ 32
-
-abbrev pub Placeable : Bool → List ℕ → (at : ℕ) → Ports → (high : ℕ) → Cursor → Type 0
-Placeable false s at row high next = Unit {0}
-Placeable true s at row high next = Writable s at row (next .result - high) high × (high ≤ next .result)
+pub record Wrote (s : List ℕ) (at : ℕ) (row : Ports) (high : ℕ) (marks after : List Bool) (r : Progress) : Type 0 where
+  pub answer : r ≡ writePassed s at row high marks
+  pub extended : (x : Cursor) → r ≡ Passed x → Extended (u16 s (at + 2)) (resultWords row (byte s (at + 1))) marks after
 
 -- ---- all instructions
 

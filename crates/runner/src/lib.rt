@@ -1,6 +1,6 @@
 // The runner of board lists: the check of a code, and the run of a code that was checked.
 ghost use mathlib.Core.Path.{_≡_};
-ghost use mathlib.Core.Bool.{false, cond};
+ghost use mathlib.Core.Bool.{true, false, cond};
 ghost use mathlib.Core.List.{[], map};
 ghost use Prim.Native.Nat.{_+_, _*_, _≤_};
 ghost use lib.Dec.{eqb};
@@ -15,11 +15,10 @@ ghost use Rattle.bytecode.specs.declared.Version.the-variants.{V1, V2};
 ghost use Rattle.bytecode.specs.Code.{addresses, argumentWords, readInstructions, countsFit, decode};
 ghost use Rattle.bytecode.specs.Answers.{ran};
 ghost use Rattle.executor.specs.Instructions.{versionBy};
-ghost use Rattle.runner.specs.Checks.{allLess, marked, Placed, Placeable, Checkable, Ended, Listable, listOf, checkedOf, Exactly, headerCounts};
+ghost use Rattle.runner.specs.Checks.{allLess, marked, Checkable, Ended, Listable, listOf, checkedOf, Exactly, headerCounts};
 ghost use Rattle.runner.specs.Runs.{Answered, Refused18, Runnable, OutputsReady, memoryOf, outputsOf};
 use base::HEADER_LENGTH;
 use base::WORD_LIMIT;
-use ports::Ports;
 
 mod row;
 mod written;
@@ -74,45 +73,17 @@ fn outputs_less(s: &[u8], from: usize, count: usize, words: usize) -> bool
     true
 }
 
-// What follows an instruction whose operands stand before `high`; `next` is so where its result takes the next words.
-fn place_result(
-    s: &[u8],
-    addressed: bool,
-    at: usize,
-    row: Ports,
-    high: usize,
-    next: Cursor,
-    marks: &mut [bool],
-) -> Progress
-    requires { ⌜ Placeable addressed (now s) at row high next ⌝ }
-    ensures { λ r. ⌜ Placed addressed (now (s .entry)) at row high next (now (marks .entry)) (now (marks .exit)) r ⌝ }
-{
-    if addressed {
-        written::write_result(s, at, row, next.result - high, high, next.at, marks)
-    } else {
-        Progress::Passed(next)
-    }
-}
-
-// All instructions, from behind the header on, where the arguments take the first `first` words: what stands behind them.
-// One loop for both versions, so that `check_instruction` has one caller and is inlined into it.
-fn check_instructions(
-    s: &[u8],
-    addressed: bool,
-    count: usize,
-    first: usize,
-    marks: &mut [bool],
-) -> Progress
-    requires { ⌜ Checkable addressed (now s) count first (now marks) ⌝ }
-    ensures { λ r. ⌜ Ended addressed (readInstructions (versionBy addressed) count (now (s .entry)) headerLength (argumentWords first)) (now (marks .exit)) r ⌝ }
+// The instructions of version 1, from behind the header and the word `first` on: what stands behind them.
+fn check_sequence(s: &[u8], count: usize, first: usize) -> Progress
+    requires { ⌜ Checkable false (now s) count first [] ⌝ }
+    ensures { λ r. ⌜ Ended false (readInstructions V1 count (now (s .entry)) headerLength (argumentWords first)) [] r ⌝ }
 {
     let rows = ports::PORTS;
-    let head = 2 + executor::result_bytes(addressed);
     let mut at = HEADER_LENGTH;
-    let mut high = first;
+    let mut result = first;
     let mut left = count;
     while 0 < left {
-        if s.len() - at < head {
+        if s.len() - at < 2 {
             return Progress::Refused;
         }
         let k = base::byte_at(s, at);
@@ -120,10 +91,38 @@ fn check_instructions(
             return Progress::Refused;
         }
         let row = rows[k];
-        let Progress::Passed(below) = row::check_instruction(s, at, at + head, high, row) else {
+        let Progress::Passed(next) = row::check_instruction(s, at, at + 2, result, row) else {
             return Progress::Refused;
         };
-        let Progress::Passed(next) = place_result(s, addressed, at, row, high, below, marks) else {
+        at = next.at;
+        result = next.result;
+        left -= 1;
+    }
+    if WORD_LIMIT < result {
+        return Progress::Refused;
+    }
+    Progress::Passed(Cursor { at, result })
+}
+
+// Those of version 2, with the marks of the arguments.
+fn check_writes(s: &[u8], count: usize, first: usize, marks: &mut [bool]) -> Progress
+    requires { ⌜ Checkable true (now s) count first (now marks) ⌝ }
+    ensures { λ r. ⌜ Ended true (readInstructions V2 count (now (s .entry)) headerLength (argumentWords first)) (now (marks .exit)) r ⌝ }
+{
+    let rows = ports::PORTS;
+    let mut at = HEADER_LENGTH;
+    let mut high = first;
+    let mut left = count;
+    while 0 < left {
+        if s.len() - at < 2 + 2 {
+            return Progress::Refused;
+        }
+        let k = base::byte_at(s, at);
+        if rows.len() <= k {
+            return Progress::Refused;
+        }
+        let row = rows[k];
+        let Progress::Passed(next) = written::check_written(s, at, row, high, marks) else {
             return Progress::Refused;
         };
         at = next.at;
@@ -134,6 +133,23 @@ fn check_instructions(
         return Progress::Refused;
     }
     Progress::Passed(Cursor { at, result: high })
+}
+
+fn check_instructions(
+    s: &[u8],
+    addressed: bool,
+    count: usize,
+    first: usize,
+    marks: &mut [bool],
+) -> Progress
+    requires { ⌜ Checkable addressed (now s) count first (now marks) ⌝ }
+    ensures { λ r. ⌜ Ended addressed (readInstructions (versionBy addressed) count (now (s .entry)) headerLength (argumentWords first)) (now (marks .exit)) r ⌝ }
+{
+    if addressed {
+        check_writes(s, count, first, marks)
+    } else {
+        check_sequence(s, count, first)
+    }
 }
 
 // Outputs of words that are written.

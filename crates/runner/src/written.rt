@@ -1,12 +1,15 @@
 // Version 2's record of the words that are written: a mark for each.
 ghost use mathlib.Core.Path.{_≡_};
-ghost use Prim.Native.Nat.{_+_, _*_, _≤_, max};
+ghost use mathlib.Core.Bool.{true};
+ghost use Prim.Native.Nat.{_+_, _*_, _≤_, _<_, max};
 ghost use lib.ListN.{length};
-ghost use Rattle.ports.specs.Ports.{width, types};
+ghost use Rattle.ports.specs.Kinds.{kindOf};
+ghost use Rattle.ports.specs.Ports.{width, types, portsOf};
+ghost use Rattle.base.specs.Bytes.{byte, u16};
 ghost use Rattle.base.specs.Lists.{span, every};
 ghost use Rattle.bytecode.specs.Run.{spans};
 ghost use Rattle.bytecode.specs.Code.{addresses};
-ghost use Rattle.runner.specs.Checks.{marked, Extended, Wrote, Writable};
+ghost use Rattle.runner.specs.Checks.{marked, Extended, legalRow, Stored, Wrote};
 use super::Cursor;
 use super::Progress;
 use ports::Ports;
@@ -111,28 +114,41 @@ fn higher(a: usize, b: usize) -> usize
     if a < b { b } else { a }
 }
 
-// All that an instruction reads was written, and the words of its result are written now. More words than a code may have
-// are refused at once: its word count cannot be theirs.
-pub fn write_result(
+// Two operands, as most kinds have.
+fn both_written(s: &[u8], from: usize, first: u8, second: u8, marks: &[bool]) -> bool
+    requires { ⌜ from + 4 ≤ length (now s) ⌝ }
+    ensures { λ r. ⌜ r ≡ every (marked (now (marks .entry))) (spans (types 2 first second) (addresses 2 (now (s .entry)) from)) ⌝ }
+{
+    if !value_written(marks, base::u16_at(s, from), first) {
+        return false;
+    }
+    value_written(marks, base::u16_at(s, from + 2), second)
+}
+
+fn is_legal(row: Ports, t: u8) -> bool
+    ensures { λ r. ⌜ r ≡ legalRow row t ⌝ }
+{
+    let form = row.form;
+    if ports::executable(form) {
+        ports::type_fits(row, t)
+    } else {
+        false
+    }
+}
+
+// The words of a result are written now. More words than a code may have are refused at once: its word count cannot be theirs.
+fn write_result(
     s: &[u8],
     at: usize,
-    row: Ports,
     words: usize,
-    high: usize,
     next: usize,
+    high: usize,
     marks: &mut [bool],
 ) -> Progress
-    requires { ⌜ Writable (now s) at row words high ⌝ }
-    ensures { λ r. ⌜ Wrote (now (s .entry)) at row words high next (now (marks .entry)) (now (marks .exit)) r ⌝ }
+    requires { ⌜ (at + 2 ≤ length (now s)) × (words < 256) ⌝ }
+    ensures { λ r. ⌜ Stored (u16 (now (s .entry)) at) words next high (now (marks .entry)) (now (marks .exit)) r ⌝ }
 {
-    let t = s[at + 1];
-    let p = at + 2;
-    let first = ports::own(t, row.first);
-    let rest = ports::own(t, row.rest);
-    if !operands_written(s, p + 2, row.operands as usize, first, rest, marks) {
-        return Progress::Refused;
-    }
-    let result = base::u16_at(s, p);
+    let result = base::u16_at(s, at);
     let end = result + words;
     if marks.len() < end {
         return Progress::Refused;
@@ -142,4 +158,60 @@ pub fn write_result(
         at: next,
         result: higher(high, end),
     })
+}
+
+// Any number of operands, or a constant.
+fn check_several(
+    s: &[u8],
+    at: usize,
+    row: Ports,
+    t: u8,
+    high: usize,
+    marks: &mut [bool],
+) -> Progress
+    requires { ⌜ (at + 2 + 2 ≤ length (now s)) × (t ≡ byte (now s) (at + 1)) × (legalRow row t ≡ true) ⌝ }
+    ensures { λ r. ⌜ Wrote (now (s .entry)) at row high (now (marks .entry)) (now (marks .exit)) r ⌝ }
+{
+    let from = at + 2 + 2;
+    let n = base::wide(row.operands);
+    let constants = ports::constant_words(row);
+    let size = 2 * n + 8 * constants;
+    if s.len() - from < size {
+        return Progress::Refused;
+    }
+    let first = ports::own(t, row.first);
+    let rest = ports::own(t, row.rest);
+    if !operands_written(s, from, n, first, rest, marks) {
+        return Progress::Refused;
+    }
+    if !value::constants_allowed(s, from + 2 * n, constants) {
+        return Progress::Refused;
+    }
+    let words = ports::result_words(row, t);
+    write_result(s, at + 2, words, from + size, high, marks)
+}
+
+// One instruction, its kind byte at `at`. With two operands the place behind it does not wait for the row.
+pub fn check_written(s: &[u8], at: usize, row: Ports, high: usize, marks: &mut [bool]) -> Progress
+    requires { ⌜ (at + 2 + 2 ≤ length (now s)) × (row ≡ portsOf (kindOf (byte (now s) at))) ⌝ }
+    ensures { λ r. ⌜ Wrote (now (s .entry)) at row high (now (marks .entry)) (now (marks .exit)) r ⌝ }
+{
+    let t = s[at + 1];
+    if !is_legal(row, t) {
+        return Progress::Refused;
+    }
+    if row.operands != 2 {
+        return check_several(s, at, row, t, high, marks);
+    }
+    let from = at + 2 + 2;
+    if s.len() - from < 4 {
+        return Progress::Refused;
+    }
+    let first = ports::own(t, row.first);
+    let second = ports::own(t, row.rest);
+    if !both_written(s, from, first, second, marks) {
+        return Progress::Refused;
+    }
+    let words = ports::result_words(row, t);
+    write_result(s, at + 2, words, from + 4, high, marks)
 }
