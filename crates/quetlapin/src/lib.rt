@@ -3,11 +3,9 @@
 // and its place.
 ghost use mathlib.Core.Path.{_≡_};
 ghost use mathlib.Core.Option.{none};
-ghost use Prim.Native.Nat.{ℕ, _<_, _≤_};
-ghost use Rattle.base.specs.Limits.{functionLimit, portWordLimit};
-ghost use Rattle.base.specs.Outcome.{ok, fault};
+ghost use Prim.Native.Nat.{ℕ, _<_};
+ghost use Rattle.base.specs.Outcome.{fault};
 ghost use Rattle.bytecode.specs.Version.{versionOf};
-ghost use Rattle.sums.specs.Capped.{byteCap, operationCap};
 ghost use lib.ListN.{length};
 ghost use Rattle.graph.specs.Judge.{verdict};
 ghost use Rattle.lowering.specs.Answers.{compilable, compiled, evaluated};
@@ -16,24 +14,21 @@ ghost use Rattle.bytecode.specs.Answers.{ran};
 ghost use Rattle.points.specs.Points.{ranPoints};
 ghost use Rattle.points.specs.Demand3.{Demand3Points};
 ghost use Rattle.quetlapin.specs.Compiling as compiling;
-ghost use Rattle.quetlapin.specs.Compiling.{codeAfter, placedLength};
-ghost use Rattle.quetlapin.specs.Measures.{named, Finds, Readies, measuredOf, upTo, countOf, operationCount, wordCount, codeCount};
+ghost use Rattle.quetlapin.specs.Compiling.{codeAfter};
+ghost use Rattle.quetlapin.specs.Measures.{named, measuredOf, upTo, countOf, operationCount, wordCount, codeCount};
 ghost use Rattle.quetlapin.specs.declared.Evaluated.the-variants.{Done};
 ghost use Rattle.quetlapin.specs.Answers.{fromRun, Answered};
 ghost use Rattle.quetlapin.specs.Numbers.{refusalNumber, numberOf, Bounded, Told, codeLength, ofVerdict, ofCompiled, ofRan, ofEvaluated, RunAnswered, EvaluationAnswered};
 use base::FUNCTION_LIMIT;
-use base::HEADER_LENGTH;
 use base::OPERATION_LIMIT;
-use base::PLACED_LIMIT;
-use base::PORT_LIMIT;
-use base::REFERENCE_LIMIT;
 use base::WORD_LIMIT;
 use checker::Verdict;
-use compiler::ORDER_LIMIT;
-use compiler::OUTPUT_LIMIT;
-use placement::Extent;
 use runner::Ran;
 use sums::Sizes;
+
+mod lookup;
+mod reusing;
+mod sequential;
 
 // ---- the function of an id: checked, found and measured once
 
@@ -41,71 +36,6 @@ use sums::Sizes;
 pub enum Found {
     At(usize, Sizes),
     Refused(u8, usize),
-}
-
-// In a table that is accepted: 14 where there is no function of that id. The places of the functions, and the words
-// and instructions of those up to it, are left in the arrays, for the compiler.
-fn find_accepted(
-    table: &[u8],
-    count: usize,
-    id: u16,
-    starts: &mut [usize; FUNCTION_LIMIT],
-    words: &mut [u32; FUNCTION_LIMIT],
-    counts: &mut [u32; FUNCTION_LIMIT],
-) -> Found
-    requires { ⌜ (verdict (now table) ≡ ok count) × (length (now starts) ≡ functionLimit) × (length (now words) ≡ functionLimit) × (length (now counts) ≡ functionLimit) ⌝ }
-    ensures { λ r. ⌜ Finds (now (table .entry)) id (now (starts .exit)) (now (words .exit)) (now (counts .exit)) r ⌝ }
-{
-    sums::find_starts(table, count, starts);
-    let k = sums::position_of(table, starts, count, base::wide16(id));
-    if count <= k {
-        return Found::Refused(14, 0);
-    }
-    Found::At(k, sums::measure(table, starts, k, words, counts))
-}
-
-// The table's refusals, then 14.
-fn find(
-    table: &[u8],
-    id: u16,
-    starts: &mut [usize; FUNCTION_LIMIT],
-    words: &mut [u32; FUNCTION_LIMIT],
-    counts: &mut [u32; FUNCTION_LIMIT],
-) -> Found
-    requires { ⌜ (length (now starts) ≡ functionLimit) × (length (now words) ≡ functionLimit) × (length (now counts) ≡ functionLimit) ⌝ }
-    ensures { λ r. ⌜ Finds (now (table .entry)) id (now (starts .exit)) (now (words .exit)) (now (counts .exit)) r ⌝ }
-{
-    let answer = checker::check(table);
-    match answer {
-        Verdict::Accepted(count) => find_accepted(table, count, id, starts, words, counts),
-        Verdict::Refused(number, place) => Found::Refused(number, place),
-    }
-}
-
-// The table's refusals, then 14, and 15 and 16 of version 1.
-fn find_compilable(
-    table: &[u8],
-    id: u16,
-    starts: &mut [usize; FUNCTION_LIMIT],
-    words: &mut [u32; FUNCTION_LIMIT],
-    counts: &mut [u32; FUNCTION_LIMIT],
-) -> Found
-    requires { ⌜ (length (now starts) ≡ functionLimit) × (length (now words) ≡ functionLimit) × (length (now counts) ≡ functionLimit) ⌝ }
-    ensures { λ r. ⌜ Readies (now (table .entry)) id (now (starts .exit)) (now (words .exit)) (now (counts .exit)) r ⌝ }
-{
-    let found = find(table, id, starts, words, counts);
-    match found {
-        Found::At(k, sizes) => {
-            if OPERATION_LIMIT < sizes.operations {
-                return Found::Refused(15, 0);
-            }
-            if WORD_LIMIT < sizes.words {
-                return Found::Refused(16, 0);
-            }
-            Found::At(k, sizes)
-        }
-        Found::Refused(number, place) => Found::Refused(number, place),
-    }
 }
 
 // ---- measures
@@ -123,7 +53,7 @@ pub fn measure(table: &[u8], id: u16) -> Measured
     let mut starts = [0usize; FUNCTION_LIMIT];
     let mut words = [0u32; FUNCTION_LIMIT];
     let mut counts = [0u32; FUNCTION_LIMIT];
-    let found = find_compilable(table, id, &mut starts, &mut words, &mut counts);
+    let found = lookup::find_compilable(table, id, &mut starts, &mut words, &mut counts);
     match found {
         Found::At(_, sizes) => Measured::Is(sizes),
         Found::Refused(number, place) => Measured::Refused(number, place),
@@ -154,7 +84,7 @@ pub fn operations(table: &[u8], id: u16) -> Count
     let mut starts = [0usize; FUNCTION_LIMIT];
     let mut words = [0u32; FUNCTION_LIMIT];
     let mut counts = [0u32; FUNCTION_LIMIT];
-    let found = find(table, id, &mut starts, &mut words, &mut counts);
+    let found = lookup::find(table, id, &mut starts, &mut words, &mut counts);
     match found {
         Found::At(_, sizes) => up_to(OPERATION_LIMIT, sizes.operations),
         Found::Refused(number, place) => Count::Refused(number, place),
@@ -168,7 +98,7 @@ pub fn words(table: &[u8], id: u16) -> Count
     let mut starts = [0usize; FUNCTION_LIMIT];
     let mut words = [0u32; FUNCTION_LIMIT];
     let mut counts = [0u32; FUNCTION_LIMIT];
-    let found = find(table, id, &mut starts, &mut words, &mut counts);
+    let found = lookup::find(table, id, &mut starts, &mut words, &mut counts);
     match found {
         Found::At(_, sizes) => up_to(WORD_LIMIT, sizes.words),
         Found::Refused(number, place) => Count::Refused(number, place),
@@ -182,7 +112,7 @@ pub fn code_length(table: &[u8], id: u16) -> Count
     let mut starts = [0usize; FUNCTION_LIMIT];
     let mut words = [0u32; FUNCTION_LIMIT];
     let mut counts = [0u32; FUNCTION_LIMIT];
-    let found = find(table, id, &mut starts, &mut words, &mut counts);
+    let found = lookup::find(table, id, &mut starts, &mut words, &mut counts);
     match found {
         Found::At(_, sizes) => {
             if base::within_limits(sizes.operations, sizes.words) {
@@ -209,98 +139,6 @@ pub struct Fault {
     pub place: usize,
 }
 
-// The length of the code of version 2: each instruction has an address more.
-fn placed_length(sizes: Sizes) -> usize
-    requires { ⌜ (sizes .bytes ≤ byteCap) × (sizes .instructions ≤ operationCap) × (sizes .outputs ≤ portWordLimit) ⌝ }
-    ensures { λ r. ⌜ r ≡ placedLength sizes ⌝ }
-{
-    HEADER_LENGTH + sizes.bytes + 2 * sizes.instructions + 2 * sizes.outputs
-}
-
-// The list of version 1.
-fn compile_sequential(table: &[u8], id: u16, code: &mut [u8]) -> Compiled
-    ensures { λ r. ⌜ r ≡ compiling.answerOf (compiled (now (table .entry)) id 1 (now (code .entry))) ⌝ }
-    ensures { λ r. ⌜ now (code .exit) ≡ compiling.codeAfter (now (code .entry)) (compiled (now (table .entry)) id 1 (now (code .entry))) ⌝ }
-{
-    let mut starts = [0usize; FUNCTION_LIMIT];
-    let mut words = [0u32; FUNCTION_LIMIT];
-    let mut counts = [0u32; FUNCTION_LIMIT];
-    let found = find_compilable(table, id, &mut starts, &mut words, &mut counts);
-    match found {
-        Found::At(k, sizes) => {
-            let size = sizes.code;
-            if code.len() < size {
-                return Compiled::Refused(17, 0);
-            }
-            compiler::compile(table, &starts, &words, k, sizes, code);
-            Compiled::Length(size)
-        }
-        Found::Refused(number, place) => Compiled::Refused(number, place),
-    }
-}
-
-// The list of version 2. Its words are placed before anything is written: only then is it known whether they pass the limit.
-fn compile_reusing(table: &[u8], id: u16, code: &mut [u8]) -> Compiled
-    ensures { λ r. ⌜ r ≡ compiling.answerOf (compiled (now (table .entry)) id 2 (now (code .entry))) ⌝ }
-    ensures { λ r. ⌜ now (code .exit) ≡ compiling.codeAfter (now (code .entry)) (compiled (now (table .entry)) id 2 (now (code .entry))) ⌝ }
-{
-    let mut starts = [0usize; FUNCTION_LIMIT];
-    let mut words = [0u32; FUNCTION_LIMIT];
-    let mut counts = [0u32; FUNCTION_LIMIT];
-    let found = find(table, id, &mut starts, &mut words, &mut counts);
-    match found {
-        Found::At(k, sizes) => {
-            if OPERATION_LIMIT < sizes.operations {
-                return Compiled::Refused(15, 0);
-            }
-            let mut outs = [0u16; OUTPUT_LIMIT];
-            let mut order = [0u16; ORDER_LIMIT];
-            let mut locations = [0u16; REFERENCE_LIMIT];
-            let mut begins = [0u16; FUNCTION_LIMIT];
-            let mut ins = [0u16; PORT_LIMIT];
-            let mut places = [0u16; PLACED_LIMIT];
-            let extent = compiler::lay_out(
-                table,
-                &starts,
-                &counts,
-                k,
-                sizes,
-                &mut outs,
-                &mut order,
-                &mut locations,
-                &mut begins,
-                &mut ins,
-                &mut places,
-            );
-            match extent {
-                Extent::Words(all) => {
-                    let length = placed_length(sizes);
-                    if code.len() < length {
-                        return Compiled::Refused(17, 0);
-                    }
-                    compiler::compile_placed(
-                        table,
-                        &starts,
-                        k,
-                        sizes,
-                        all,
-                        &outs,
-                        &order,
-                        &locations,
-                        &begins,
-                        &ins,
-                        &mut places,
-                        code,
-                    );
-                    Compiled::Length(length)
-                }
-                Extent::Over => Compiled::Refused(16, 0),
-            }
-        }
-        Found::Refused(number, place) => Compiled::Refused(number, place),
-    }
-}
-
 // A version that there is not: the table's refusals and 14 come first.
 fn unknown_version(table: &[u8], id: u16) -> Fault
     ensures { λ r. ⌜ ((n : ℕ) → versionOf n ≡ none → compilable (now (table .entry)) id n ≡ fault (r .number) (r .place)) ⌝ }
@@ -308,7 +146,7 @@ fn unknown_version(table: &[u8], id: u16) -> Fault
     let mut starts = [0usize; FUNCTION_LIMIT];
     let mut words = [0u32; FUNCTION_LIMIT];
     let mut counts = [0u32; FUNCTION_LIMIT];
-    let found = find(table, id, &mut starts, &mut words, &mut counts);
+    let found = lookup::find(table, id, &mut starts, &mut words, &mut counts);
     match found {
         Found::At(_, _) => Fault {
             number: 31,
@@ -324,10 +162,10 @@ pub fn compile(table: &[u8], id: u16, version: u16, code: &mut [u8]) -> Compiled
     ensures { λ r. ⌜ now (code .exit) ≡ compiling.codeAfter (now (code .entry)) (compiled (now (table .entry)) id version (now (code .entry))) ⌝ }
 {
     if version == 1 {
-        return compile_sequential(table, id, code);
+        return sequential::compile_sequential(table, id, code);
     }
     if version == 2 {
-        return compile_reusing(table, id, code);
+        return reusing::compile_reusing(table, id, code);
     }
     let fault = unknown_version(table, id);
     Compiled::Refused(fault.number, fault.place)
@@ -350,133 +188,6 @@ fn from_run(a: Ran) -> Evaluated
     }
 }
 
-// Compiles a function in version 1 and runs its code on arguments. Every refusal is judged before any byte or word is
-// written, so that neither the compiler nor the runner refuses then.
-fn evaluate_sequential(
-    table: &[u8],
-    id: u16,
-    arguments: &[u64],
-    code: &mut [u8],
-    work: &mut [u64],
-    out: &mut [u64],
-) -> Evaluated
-    ensures { λ r. ⌜ Answered (evaluated (now (table .entry)) id 1 (now (arguments .entry)) (now (code .entry)) (now (work .entry)) (now (out .entry)))
-        (now (code .entry)) (now (work .entry)) (now (out .entry)) (now (code .exit)) (now (work .exit)) (now (out .exit)) r ⌝ }
-    ensures { λ r. ⌜ Demand3 (λ n. r ≡ Done n) (now (table .entry)) id 1 (now (arguments .entry)) (now (code .entry)) (now (work .entry)) (now (out .entry))
-        (now (code .exit)) (now (work .exit)) (now (out .exit)) ⌝ }
-{
-    let mut starts = [0usize; FUNCTION_LIMIT];
-    let mut words = [0u32; FUNCTION_LIMIT];
-    let mut counts = [0u32; FUNCTION_LIMIT];
-    let found = find_compilable(table, id, &mut starts, &mut words, &mut counts);
-    match found {
-        Found::At(k, sizes) => {
-            let length = sizes.code;
-            if code.len() < length {
-                return Evaluated::Refused(17, 0);
-            }
-            if arguments.len() != sizes.arguments {
-                return Evaluated::Refused(19, 0);
-            }
-            if !runner::arguments_allowed(arguments) {
-                return Evaluated::Refused(20, 0);
-            }
-            if work.len() < sizes.words {
-                return Evaluated::Refused(21, 0);
-            }
-            if out.len() < sizes.outputs {
-                return Evaluated::Refused(21, 0);
-            }
-            compiler::compile(table, &starts, &words, k, sizes, code);
-            from_run(runner::run(&code[..length], arguments, work, out))
-        }
-        Found::Refused(number, place) => Evaluated::Refused(number, place),
-    }
-}
-
-// In version 2.
-fn evaluate_reusing(
-    table: &[u8],
-    id: u16,
-    arguments: &[u64],
-    code: &mut [u8],
-    work: &mut [u64],
-    out: &mut [u64],
-) -> Evaluated
-    ensures { λ r. ⌜ Answered (evaluated (now (table .entry)) id 2 (now (arguments .entry)) (now (code .entry)) (now (work .entry)) (now (out .entry)))
-        (now (code .entry)) (now (work .entry)) (now (out .entry)) (now (code .exit)) (now (work .exit)) (now (out .exit)) r ⌝ }
-    ensures { λ r. ⌜ Demand3 (λ n. r ≡ Done n) (now (table .entry)) id 2 (now (arguments .entry)) (now (code .entry)) (now (work .entry)) (now (out .entry))
-        (now (code .exit)) (now (work .exit)) (now (out .exit)) ⌝ }
-{
-    let mut starts = [0usize; FUNCTION_LIMIT];
-    let mut words = [0u32; FUNCTION_LIMIT];
-    let mut counts = [0u32; FUNCTION_LIMIT];
-    let found = find(table, id, &mut starts, &mut words, &mut counts);
-    match found {
-        Found::At(k, sizes) => {
-            if OPERATION_LIMIT < sizes.operations {
-                return Evaluated::Refused(15, 0);
-            }
-            let mut outs = [0u16; OUTPUT_LIMIT];
-            let mut order = [0u16; ORDER_LIMIT];
-            let mut locations = [0u16; REFERENCE_LIMIT];
-            let mut begins = [0u16; FUNCTION_LIMIT];
-            let mut ins = [0u16; PORT_LIMIT];
-            let mut places = [0u16; PLACED_LIMIT];
-            let extent = compiler::lay_out(
-                table,
-                &starts,
-                &counts,
-                k,
-                sizes,
-                &mut outs,
-                &mut order,
-                &mut locations,
-                &mut begins,
-                &mut ins,
-                &mut places,
-            );
-            match extent {
-                Extent::Words(all) => {
-                    let length = placed_length(sizes);
-                    if code.len() < length {
-                        return Evaluated::Refused(17, 0);
-                    }
-                    if arguments.len() != sizes.arguments {
-                        return Evaluated::Refused(19, 0);
-                    }
-                    if !runner::arguments_allowed(arguments) {
-                        return Evaluated::Refused(20, 0);
-                    }
-                    if work.len() < all {
-                        return Evaluated::Refused(21, 0);
-                    }
-                    if out.len() < sizes.outputs {
-                        return Evaluated::Refused(21, 0);
-                    }
-                    compiler::compile_placed(
-                        table,
-                        &starts,
-                        k,
-                        sizes,
-                        all,
-                        &outs,
-                        &order,
-                        &locations,
-                        &begins,
-                        &ins,
-                        &mut places,
-                        code,
-                    );
-                    from_run(runner::run(&code[..length], arguments, work, out))
-                }
-                Extent::Over => Evaluated::Refused(16, 0),
-            }
-        }
-        Found::Refused(number, place) => Evaluated::Refused(number, place),
-    }
-}
-
 // Compiles a function in a version and runs its code on arguments.
 pub fn evaluate(
     table: &[u8],
@@ -493,10 +204,10 @@ pub fn evaluate(
         (now (code .exit)) (now (work .exit)) (now (out .exit)) ⌝ }
 {
     if version == 1 {
-        return evaluate_sequential(table, id, arguments, code, work, out);
+        return sequential::evaluate_sequential(table, id, arguments, code, work, out);
     }
     if version == 2 {
-        return evaluate_reusing(table, id, arguments, code, work, out);
+        return reusing::evaluate_reusing(table, id, arguments, code, work, out);
     }
     let fault = unknown_version(table, id);
     Evaluated::Refused(fault.number, fault.place)

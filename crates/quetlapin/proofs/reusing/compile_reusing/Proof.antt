@@ -16,8 +16,8 @@ use Rattle.quetlapin.specs.Compiling.{answerOf, codeAfter}
 use Rattle.quetlapin.specs.Measures.{chosenAt, jobAt, FoundAt, Finds}
 use Rattle.quetlapin.proofs.Choosing.{compilable-refused, over-operations, over-placed, within-placed}
 use Rattle.quetlapin.proofs.Compiling.{refused, too-long, written, extent-over, sizes-low, placed-length, measured-placed}
-use Rattle.quetlapin.proofs.compile_reusing.Statement.{statement}
-use Rattle.quetlapin.proofs.compile_reusing.Tie as tie
+use Rattle.quetlapin.proofs.reusing.compile_reusing.Statement.{statement}
+use Rattle.quetlapin.proofs.reusing.compile_reusing.Tie as tie
 
 -- ---- places: the function is found, its words are placed, the code fits, it is written
 

@@ -8,8 +8,8 @@ use Rattle.sums.specs.Position.{positionOf, Accepted, Started}
 use Rattle.sums.proofs.Accepted.{few-functions, all-read}
 use Rattle.sums.proofs.Tabulate.{fewer-starts}
 use Rattle.quetlapin.proofs.Choosing.{named-at, named-none}
-use Rattle.quetlapin.proofs.find_accepted.Statement.{statement}
-use Rattle.quetlapin.proofs.find_accepted.Tie as tie
+use Rattle.quetlapin.proofs.lookup.find_accepted.Statement.{statement}
+use Rattle.quetlapin.proofs.lookup.find_accepted.Tie as tie
 
 -- ---- places: the starts are found, then the position
 

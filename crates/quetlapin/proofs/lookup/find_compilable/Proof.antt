@@ -3,8 +3,8 @@ use mathlib.Core.Path.{refl, subst}
 use Rattle.bytecode.specs.declared.Version.the-variants.{V1}
 use Rattle.quetlapin.specs.Measures.{FoundAt, Finds}
 use Rattle.quetlapin.proofs.Choosing.{compilable-refused, over-operations, over-words, within-limits, exact}
-use Rattle.quetlapin.proofs.find_compilable.Statement.{statement}
-use Rattle.quetlapin.proofs.find_compilable.Tie as tie
+use Rattle.quetlapin.proofs.lookup.find_compilable.Statement.{statement}
+use Rattle.quetlapin.proofs.lookup.find_compilable.Tie as tie
 
 -- ---- places: the function is found, then each sum is within its limit
 

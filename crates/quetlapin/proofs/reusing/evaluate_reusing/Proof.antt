@@ -21,8 +21,8 @@ use Rattle.quetlapin.specs.Measures.{chosenAt, FoundAt, Finds}
 use Rattle.quetlapin.proofs.Choosing.{compilable-refused, over-operations, over-placed}
 use Rattle.quetlapin.proofs.Compiling.{extent-over, sizes-low, placed-length, measured-placed}
 use Rattle.quetlapin.proofs.Evaluating.{Sized, sized-placed, refused-table, refused-17, refused-19, refused-20, refused-work, refused-out, completed}
-use Rattle.quetlapin.proofs.evaluate_reusing.Statement.{statement}
-use Rattle.quetlapin.proofs.evaluate_reusing.Tie as tie
+use Rattle.quetlapin.proofs.reusing.evaluate_reusing.Statement.{statement}
+use Rattle.quetlapin.proofs.reusing.evaluate_reusing.Tie as tie
 
 -- ---- the places: lent, found, placed, after each test, compiled, run
 

@@ -2,8 +2,8 @@ use borrow.Author.Needs.{needs}
 use mathlib.Core.Path.{sym, _∙_}
 use Rattle.graph.specs.Judge.{verdict}
 use Rattle.quetlapin.proofs.Choosing.{is-accepted, is-refused, named-refused}
-use Rattle.quetlapin.proofs.find.Statement.{statement}
-use Rattle.quetlapin.proofs.find.Tie as tie
+use Rattle.quetlapin.proofs.lookup.find.Statement.{statement}
+use Rattle.quetlapin.proofs.lookup.find.Tie as tie
 
 abbrev start : tie.After-check → tie.Start
 start c = c .before .before

@@ -9,8 +9,8 @@ use Rattle.quetlapin.specs.declared.Compiled.{Compiled}
 use Rattle.quetlapin.specs.Compiling.{answerOf, codeAfter}
 use Rattle.quetlapin.specs.Measures.{chosenAt, ReadyAt, Readies}
 use Rattle.quetlapin.proofs.Compiling.{refused, too-long, written, code-is, words-are, measured}
-use Rattle.quetlapin.proofs.compile_sequential.Statement.{statement}
-use Rattle.quetlapin.proofs.compile_sequential.Tie as tie
+use Rattle.quetlapin.proofs.sequential.compile_sequential.Statement.{statement}
+use Rattle.quetlapin.proofs.sequential.compile_sequential.Tie as tie
 
 -- ---- places: the arrays are made, the function is found
 
