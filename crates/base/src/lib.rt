@@ -1,6 +1,6 @@
 // Limits, and numbers in bytes, the lowest byte first.
 ghost use mathlib.Core.Path.{_≡_};
-ghost use Prim.Native.Nat.{_+_, _<_, _≤_, _^_};
+ghost use Prim.Native.Nat.{_+_, _<_, _≤_, _^_, max};
 ghost use lib.ListN.{length};
 ghost use lib.Seq.{sets};
 ghost use Rattle.base.specs.Limits.{withinLimits};
@@ -57,6 +57,12 @@ pub fn within_limits(operations: usize, words: usize) -> bool
     } else {
         false
     }
+}
+
+pub fn higher(a: usize, b: usize) -> usize
+    ensures { λ r. ⌜ r ≡ max a b ⌝ }
+{
+    if a < b { b } else { a }
 }
 
 // ---- wider numbers: a cast inside a larger expression asks for a proof that it fits, a call does not

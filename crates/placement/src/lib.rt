@@ -182,12 +182,6 @@ fn place_one(
     at
 }
 
-fn higher(a: usize, b: usize) -> usize
-    ensures { λ r. ⌜ r ≡ max a b ⌝ }
-{
-    if a < b { b } else { a }
-}
-
 // The inputs take the first words; the answer is how many.
 fn place_inputs(
     widths: &[u8; PLACED_LIMIT],
@@ -231,7 +225,7 @@ pub fn place_all(
         let at = place_one(until, &mut low, k as u16, w, place[m + k], high);
         if at + w <= WORD_LIMIT {
             place[m + k] = at as u16;
-            high = higher(high, at + w);
+            high = base::higher(high, at + w);
             k += 1;
         } else {
             return Extent::Over;

@@ -1,7 +1,7 @@
 // Version 2's record of the words that are written: a mark for each.
 ghost use mathlib.Core.Path.{_≡_};
 ghost use mathlib.Core.Bool.{true};
-ghost use Prim.Native.Nat.{_+_, _*_, _≤_, _<_, max};
+ghost use Prim.Native.Nat.{_+_, _*_, _≤_, _<_};
 ghost use lib.ListN.{length};
 ghost use Rattle.ports.specs.Kinds.{kindOf};
 ghost use Rattle.ports.specs.Ports.{width, types, portsOf};
@@ -108,12 +108,6 @@ pub fn outputs_written(s: &[u8], from: usize, count: usize, marks: &[bool]) -> b
     true
 }
 
-fn higher(a: usize, b: usize) -> usize
-    ensures { λ r. ⌜ r ≡ max a b ⌝ }
-{
-    if a < b { b } else { a }
-}
-
 // Two operands, as most kinds have.
 fn both_written(s: &[u8], from: usize, first: u8, second: u8, marks: &[bool]) -> bool
     requires { ⌜ from + 4 ≤ length (now s) ⌝ }
@@ -156,7 +150,7 @@ fn write_result(
     mark_words(marks, result, words);
     Progress::Passed(Cursor {
         at: next,
-        result: higher(high, end),
+        result: base::higher(high, end),
     })
 }
 

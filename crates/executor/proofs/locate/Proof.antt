@@ -1,6 +1,5 @@
 -- `executor::locate`, by the version.
 use borrow.Author.Needs.{needs}
-use Prim.Native.Nat.{ℕ}
 use mathlib.Core.Path.{_≡_, refl, ap}
 use mathlib.Core.Bool.{Bool}
 use native.Mathlib.Omega.{arith}

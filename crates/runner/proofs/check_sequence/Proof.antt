@@ -1,17 +1,15 @@
 -- `runner::check_sequence`: what is left decides.
 use borrow.Author.Needs.{needs}
-use Prim.Native.Nat.{ℕ, _+_, _≤_}
-use mathlib.Core.Path.{_≡_, refl, sym, ap, _∙_}
-use mathlib.Core.Bool.{Bool, true, false}
-use mathlib.Core.List.{List, []}
+use Prim.Native.Nat.{ℕ}
+use mathlib.Core.Path.{_≡_, sym, ap, _∙_}
+use mathlib.Core.Bool.{false}
+use mathlib.Core.List.{[]}
 use mathlib.Core.Option.{none}
 use native.Mathlib.Omega.{arith}
 use denote.Ref.{now}
-use lib.ListN.{length}
 use Rattle.ports.specs.Kinds.{kindOf}
 use Rattle.ports.specs.Ports.{portsOf}
 use Rattle.ports.proofs.Laws.{row-of}
-use Rattle.base.specs.Bytes.{byte}
 use Rattle.bytecode.specs.declared.Version.the-variants.{V1}
 use Rattle.bytecode.specs.Code.{argumentWords, readInstruction, readInstructions}
 use Rattle.runner.specs.declared.Progress.the-variants.{Refused}
