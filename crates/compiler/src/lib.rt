@@ -37,9 +37,11 @@ use placement::Extent;
 use sums::Sizes;
 use walk::walk;
 
+mod addresses;
 mod allocate;
 mod assemble;
 mod constants;
+mod instruction;
 mod walk;
 
 // ---- sizes of arrays; `specs/Sizes.antt` has the same

@@ -32,7 +32,7 @@ use Rattle.compiler.proofs.walk.+walk+walk_node.Lts-walk as walk-lts
 use Rattle.compiler.proofs.walk.walk_node.Reads as walk-node
 use Rattle.compiler.proofs.walk.walk_node.Kinds as walk-node-kinds
 use Rattle.compiler.proofs.walk.+walk+walk_node.Lts-walk_node as walk-node-lts
-use Rattle.compiler.proofs.walk.arguments.Reads as arguments-reads
+use Rattle.compiler.proofs.addresses.arguments.Reads as arguments-reads
 use Rattle.compiler.proofs.walk.walk_constant.Reads as walk-constant-reads
 use Rattle.compiler.proofs.walk.walk_operation.Reads as walk-operation-reads
 use Rattle.sums.proofs.position_of.Reads as position-of-reads

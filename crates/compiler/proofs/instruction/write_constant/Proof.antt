@@ -1,4 +1,4 @@
--- `walk::write_constant`: the head, then the constant.
+-- `instruction::write_constant`: the head, then the constant.
 use borrow.Author.Needs.{needs}
 use mathlib.Core.Path.{refl, _∙_}
 use mathlib.Core.List.{[]}
@@ -8,8 +8,8 @@ use lib.ListN.{length, length-set}
 use Rattle.value.specs.Values.{wordsOf}
 use Rattle.compiler.specs.Units.{unitBound}
 use Rattle.compiler.proofs.Single.{single-fits, emitted, head-length}
-use Rattle.compiler.proofs.walk.write_constant.Statement.{statement}
-use Rattle.compiler.proofs.walk.write_constant.Tie as tie
+use Rattle.compiler.proofs.instruction.write_constant.Statement.{statement}
+use Rattle.compiler.proofs.instruction.write_constant.Tie as tie
 
 -- ---- places: from one back to another
 

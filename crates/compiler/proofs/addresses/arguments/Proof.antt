@@ -5,8 +5,8 @@ use native.Mathlib.Omega.{arith}
 use Rattle.base.proofs.Stores.{Run, run-start, run-step, run-done, none-left}
 use Rattle.compiler.specs.Emit.{addressOf, addressesIn}
 use Rattle.compiler.proofs.Filling.{addresses-next}
-use Rattle.compiler.proofs.walk.arguments.Statement.{statement}
-use Rattle.compiler.proofs.walk.arguments.Tie as tie
+use Rattle.compiler.proofs.addresses.arguments.Statement.{statement}
+use Rattle.compiler.proofs.addresses.arguments.Tie as tie
 
 abbrev Inv-loop : tie.InvT-loop
 Inv-loop locations cell n ins first args₀ j₀ args j = (j ≤ n) × Run (addressesIn locations ins first cell n) args₀ 0 args j (addressesIn locations ins first (cell + j) (n - j))

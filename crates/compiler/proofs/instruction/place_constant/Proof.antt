@@ -1,4 +1,4 @@
--- `walk::place_constant`: the head, then the constant.
+-- `instruction::place_constant`: the head, then the constant.
 use borrow.Author.Needs.{needs}
 use mathlib.Core.Path.{refl}
 use mathlib.Core.List.{[]}
@@ -9,8 +9,8 @@ use Rattle.value.specs.Values.{wordsOf}
 use Rattle.lowering.specs.Naming.{nameStep}
 use Rattle.compiler.specs.Units.{unitBound}
 use Rattle.compiler.proofs.Single.{placed-fits, placed}
-use Rattle.compiler.proofs.walk.place_constant.Statement.{statement}
-use Rattle.compiler.proofs.walk.place_constant.Tie as tie
+use Rattle.compiler.proofs.instruction.place_constant.Statement.{statement}
+use Rattle.compiler.proofs.instruction.place_constant.Tie as tie
 
 -- ---- places: from one back to another
 

@@ -7,8 +7,8 @@ use lib.Seq.{set-out}
 use Rattle.base.proofs.Stores.{none-left}
 use Rattle.compiler.specs.Emit.{addressOf, addressesIn}
 use Rattle.compiler.proofs.Filling.{addresses-next, Noting, note-more, note-done}
-use Rattle.compiler.proofs.walk.note_operands.Statement.{statement}
-use Rattle.compiler.proofs.walk.note_operands.Tie as tie
+use Rattle.compiler.proofs.addresses.note_operands.Statement.{statement}
+use Rattle.compiler.proofs.addresses.note_operands.Tie as tie
 
 abbrev Inv-loop : tie.InvT-loop
 Inv-loop locations cell n ins first place₀ x j₀ place j =

@@ -1,4 +1,4 @@
--- `walk::write_operation`: the head, then the addresses of the operands.
+-- `instruction::write_operation`: the head, then the addresses of the operands.
 use borrow.Author.Needs.{needs}
 use mathlib.Core.Path.{_≡_, refl, sym, ap, _∙_}
 use mathlib.Core.List.{List, [], append-nil}
@@ -10,8 +10,8 @@ use Rattle.base.specs.Bytes.{allBytes}
 use Rattle.compiler.specs.Units.{unitBound}
 use Rattle.compiler.specs.Emit.{addressesIn}
 use Rattle.compiler.proofs.Single.{addresses-length, single-fits, emitted, head-length}
-use Rattle.compiler.proofs.walk.write_operation.Statement.{statement}
-use Rattle.compiler.proofs.walk.write_operation.Tie as tie
+use Rattle.compiler.proofs.instruction.write_operation.Statement.{statement}
+use Rattle.compiler.proofs.instruction.write_operation.Tie as tie
 
 -- ---- places: from one back to another
 

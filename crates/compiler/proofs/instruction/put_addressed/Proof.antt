@@ -4,8 +4,8 @@ use native.Mathlib.Omega.{arith}
 use native.Mathlib.Numerals.{add-one, add-two}
 use lib.ListN.{length-set}
 use Rattle.compiler.proofs.Single.{head-length}
-use Rattle.compiler.proofs.walk.put_addressed.Statement.{statement}
-use Rattle.compiler.proofs.walk.put_addressed.Tie as tie
+use Rattle.compiler.proofs.instruction.put_addressed.Statement.{statement}
+use Rattle.compiler.proofs.instruction.put_addressed.Tie as tie
 
 -- ---- places: from one back to another
 

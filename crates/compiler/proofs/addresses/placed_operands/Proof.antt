@@ -7,8 +7,8 @@ use Rattle.base.proofs.Stores.{Run, run-start, run-more, run-done, none-left}
 use Rattle.base.specs.Bytes.{allBytes, bytesOf}
 use Rattle.compiler.specs.Emit.{addressOf, addressesIn, relocate}
 use Rattle.compiler.proofs.Filling.{places-next}
-use Rattle.compiler.proofs.walk.placed_operands.Statement.{statement}
-use Rattle.compiler.proofs.walk.placed_operands.Tie as tie
+use Rattle.compiler.proofs.addresses.placed_operands.Statement.{statement}
+use Rattle.compiler.proofs.addresses.placed_operands.Tie as tie
 
 abbrev Inv-loop : tie.InvT-loop
 Inv-loop locations cell n ins first place code₀ at j₀ code j =

@@ -1,4 +1,4 @@
--- `walk::place_operation`: the head, then the places of the operands.
+-- `instruction::place_operation`: the head, then the places of the operands.
 use borrow.Author.Needs.{needs}
 use mathlib.Core.Path.{_≡_, refl, sym, ap, _∙_}
 use mathlib.Core.List.{List, [], map, append-nil}
@@ -11,8 +11,8 @@ use Rattle.lowering.specs.Naming.{nameStep}
 use Rattle.compiler.specs.Units.{unitBound}
 use Rattle.compiler.specs.Emit.{addressesIn, relocate}
 use Rattle.compiler.proofs.Single.{addresses-length, placed-fits, placed}
-use Rattle.compiler.proofs.walk.place_operation.Statement.{statement}
-use Rattle.compiler.proofs.walk.place_operation.Tie as tie
+use Rattle.compiler.proofs.instruction.place_operation.Statement.{statement}
+use Rattle.compiler.proofs.instruction.place_operation.Tie as tie
 
 -- ---- places: from one back to another
 

@@ -1,7 +1,7 @@
 use borrow.Author.Needs.{needs}
 use borrow.Author.Tests.{lt-ltb, le-ltb}
-use Rattle.compiler.proofs.walk.address.Statement.{statement}
-use Rattle.compiler.proofs.walk.address.Tie as tie
+use Rattle.compiler.proofs.addresses.address.Statement.{statement}
+use Rattle.compiler.proofs.addresses.address.Tie as tie
 
 returns : tie.Need-returns
 returns c = rw (lt-ltb (c .before .before .args .e) 8 (c .before .if1 .taken))

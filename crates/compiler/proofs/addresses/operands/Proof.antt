@@ -6,8 +6,8 @@ use Rattle.base.proofs.Stores.{Run, run-start, run-more, run-done, none-left}
 use Rattle.base.specs.Bytes.{allBytes, bytesOf}
 use Rattle.compiler.specs.Emit.{addressOf, addressesIn}
 use Rattle.compiler.proofs.Filling.{addresses-next}
-use Rattle.compiler.proofs.walk.operands.Statement.{statement}
-use Rattle.compiler.proofs.walk.operands.Tie as tie
+use Rattle.compiler.proofs.addresses.operands.Statement.{statement}
+use Rattle.compiler.proofs.addresses.operands.Tie as tie
 
 abbrev Inv-loop : tie.InvT-loop
 Inv-loop locations cell n ins first code₀ at j₀ code j =

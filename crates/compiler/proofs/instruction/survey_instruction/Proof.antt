@@ -1,10 +1,10 @@
--- `walk::survey_instruction`: the operands, then the result.
+-- `instruction::survey_instruction`: the operands, then the result.
 use borrow.Author.Needs.{needs}
 use mathlib.Core.Path.{refl}
 use Rattle.compiler.specs.Emit.{addressesIn}
 use Rattle.compiler.proofs.Single.{surveyed}
-use Rattle.compiler.proofs.walk.survey_instruction.Statement.{statement}
-use Rattle.compiler.proofs.walk.survey_instruction.Tie as tie
+use Rattle.compiler.proofs.instruction.survey_instruction.Statement.{statement}
+use Rattle.compiler.proofs.instruction.survey_instruction.Tie as tie
 
 -- ---- places: from one back to another
 

@@ -1,7 +1,7 @@
 use borrow.Author.Needs.{needs}
 use Rattle.compiler.proofs.Filling.{unplaced}
-use Rattle.compiler.proofs.walk.relocate.Statement.{statement}
-use Rattle.compiler.proofs.walk.relocate.Tie as tie
+use Rattle.compiler.proofs.addresses.relocate.Statement.{statement}
+use Rattle.compiler.proofs.addresses.relocate.Tie as tie
 
 returns-2 : tie.Need-returns-2
 returns-2 c = let a = c .before .before .args in unplaced (a .place .now) (a .a) (c .if1 .left)
