@@ -1,7 +1,7 @@
 use borrow.Author.Needs.{needs}
 use borrow.Author.Tests.{lt-ltb, le-ltb}
-use Rattle.compiler.proofs.allocate.rebase.Statement.{statement}
-use Rattle.compiler.proofs.allocate.rebase.Tie as tie
+use Rattle.compiler.proofs.location.rebase.Statement.{statement}
+use Rattle.compiler.proofs.location.rebase.Tie as tie
 
 returns : tie.Need-returns
 returns c = rw (lt-ltb (c .before .before .before .args .e) 8 (c .before .before .if1 .taken), lt-ltb (c .before .before .before .args .e) (c .before .before .before .args .n) (c .before .if2 .taken))

@@ -1,7 +1,7 @@
 use borrow.Author.Needs.{needs}
 use borrow.Author.Tests.{le-leb, lt-leb, lt-ltb, le-ltb}
-use Rattle.compiler.proofs.allocate.location_of.Statement.{statement}
-use Rattle.compiler.proofs.allocate.location_of.Tie as tie
+use Rattle.compiler.proofs.location.location_of.Statement.{statement}
+use Rattle.compiler.proofs.location.location_of.Tie as tie
 
 returns : tie.Need-returns
 returns c = rw (le-leb 8 (c .before .args .port) (c .if1 .taken))

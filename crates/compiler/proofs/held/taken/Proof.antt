@@ -1,7 +1,7 @@
 use borrow.Author.Needs.{needs}
 use native.Mathlib.Omega.{arith}
-use Rattle.compiler.proofs.allocate.taken.Statement.{statement}
-use Rattle.compiler.proofs.allocate.taken.Tie as tie
+use Rattle.compiler.proofs.held.taken.Statement.{statement}
+use Rattle.compiler.proofs.held.taken.Tie as tie
 
 returns : tie.Need-returns
 returns c = let w = c .result-words .ensures in (rw (c .before .enum-told .given .1) (w .0), omega arith)
