@@ -28,7 +28,7 @@ use base::PORT_LIMIT;
 use base::REFERENCE_LIMIT;
 use base::wide;
 use bytecode::Version;
-use layout::place;
+use placed::place;
 use placement::Extent;
 use sums::Sizes;
 use walk::walk;
@@ -39,8 +39,8 @@ mod assemble;
 mod constants;
 mod held;
 mod instruction;
-mod layout;
 mod location;
+mod placed;
 mod walk;
 
 // ---- sizes of arrays; `specs/Sizes.antt` has the same

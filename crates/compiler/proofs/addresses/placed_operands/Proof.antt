@@ -21,8 +21,11 @@ abbrev μ-loop : tie.MeasureT-loop
 
 -- ---- places: from one back to another
 
+abbrev entry-of-head : tie.At-loop Inv-loop μ-loop → tie.Start Inv-loop μ-loop
+entry-of-head c = c .before .before .before
+
 abbrev entry-of-loop : tie.In-loop Inv-loop μ-loop → tie.Start Inv-loop μ-loop
-entry-of-loop c = c .before .before .before .before
+entry-of-loop c = entry-of-head (c .before)
 
 abbrev loop-of-address : tie.After-address Inv-loop μ-loop → tie.In-loop Inv-loop μ-loop
 loop-of-address c = c .before .before .before
@@ -54,7 +57,7 @@ loop-again c =
 returns : tie.Need-returns Inv-loop μ-loop
 unfolding addressesIn
 returns c =
-    let a = c .before .before .before .before .args in
+    let a = entry-of-head (c .before) .args in
     let l = c .before .loop in
     run-done (l .inv .1)
     (none-left (λ m. allBytes 2 (map (relocate (a .place .now)) (addressesIn (a .locations .now) (a .ins .now) (a .first) (a .cell + l .j) m))) (c .loop-test .left) refl)

@@ -15,7 +15,7 @@ use Rattle.compiler.proofs.instruction.place_constant.Tie as tie
 -- ---- places: from one back to another
 
 abbrev entry-of-place : tie.After-relocate → tie.Start
-entry-of-place c = c .before .before .before .before
+entry-of-place c = let d = c .before .before .before in d .before
 
 abbrev head-of-constant : tie.After-put-constant-arg → tie.After-put-addressed
 head-of-constant c = c .before .before .before

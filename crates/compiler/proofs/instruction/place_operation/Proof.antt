@@ -17,7 +17,7 @@ use Rattle.compiler.proofs.instruction.place_operation.Tie as tie
 -- ---- places: from one back to another
 
 abbrev entry-of-place : tie.After-relocate → tie.Start
-entry-of-place c = c .before .before .before .before
+entry-of-place c = let d = c .before .before .before in d .before
 
 abbrev head-of-operands : tie.After-placed-operands-arg → tie.After-put-addressed
 head-of-operands c = c .before .before .before

@@ -12,13 +12,13 @@ abbrev width-of-end : tie.After-slice-known4 → tie.After-note-width
 width-of-end c = c .before .before
 
 abbrev operands-of-width : tie.After-note-width → tie.After-note-operands
-operands-of-width c = c .before .before .before .before
+operands-of-width c = let d = c .before .before .before in d .before
 
 abbrev words-of-number : tie.After-reader-number → tie.After-result-words
 words-of-number c = c .before .before
 
 abbrev entry-of-words : tie.After-result-words → tie.Start
-entry-of-words c = c .before .before .before .before
+entry-of-words c = let d = c .before .before .before in d .before
 
 returns : tie.Need-returns
 returns c =

@@ -11,8 +11,8 @@ use Rattle.sums.specs.Position.{placeOf, functionIn}
 use Rattle.sums.proofs.Accepted.{few, few-ports}
 use Rattle.compiler.proofs.Assembly.{inputs-counted}
 use Rattle.compiler.proofs.Texts.{wide-enough, placed-texts}
-use Rattle.compiler.proofs.layout.place.Statement.{statement}
-use Rattle.compiler.proofs.layout.place.Tie as tie
+use Rattle.compiler.proofs.placed.place.Statement.{statement}
+use Rattle.compiler.proofs.placed.place.Tie as tie
 
 -- ---- places: from each stage back to the one before it
 

@@ -22,8 +22,8 @@ use Rattle.compiler.specs.Emit.{functionInlined, CodeRoom}
 use Rattle.compiler.specs.Whole.{firstBy}
 use Rattle.compiler.proofs.Assembly.{inputs-counted, survey-room, first-low}
 use Rattle.compiler.proofs.Texts.{surveyed}
-use Rattle.compiler.proofs.layout.survey.Statement.{statement}
-use Rattle.compiler.proofs.layout.survey.Tie as tie
+use Rattle.compiler.proofs.placed.survey.Statement.{statement}
+use Rattle.compiler.proofs.placed.survey.Tie as tie
 
 -- ---- places: from each stage back to the one before it
 

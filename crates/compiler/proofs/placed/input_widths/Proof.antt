@@ -7,8 +7,8 @@ use Rattle.base.proofs.Stores.{Run, run-start, run-step, run-done, none-left}
 use Rattle.ports.specs.Ports.{width}
 use Rattle.sums.specs.Answers.{typesBy}
 use Rattle.compiler.proofs.Filling.{types-next}
-use Rattle.compiler.proofs.layout.input_widths.Statement.{statement}
-use Rattle.compiler.proofs.layout.input_widths.Tie as tie
+use Rattle.compiler.proofs.placed.input_widths.Statement.{statement}
+use Rattle.compiler.proofs.placed.input_widths.Tie as tie
 
 abbrev Inv-loop : tie.InvT-loop
 Inv-loop table at n widths₀ j₀ widths j = (j ≤ n) × Run (map width (typesBy 1 n table at)) widths₀ 0 widths j (map width (typesBy 1 (n - j) table (at + j)))
