@@ -1,10 +1,10 @@
 // Where each value of a function lies: an input, or an offset from where its results begin.
 ghost use mathlib.Core.Path.{_≡_};
 ghost use mathlib.Core.Option.{some};
-ghost use Prim.Native.Nat.{suc, _+_, _*_, _<_, _≤_, _^_};
+ghost use Prim.Native.Nat.{suc, _+_, _*_, _<_, _≤_};
 ghost use lib.ListN.{length, replicate};
 ghost use lib.Seq.{sets};
-ghost use Rattle.base.specs.Limits.{functionLimit, nodeLimit, operandLimit, portLimit, referenceLimit, valueLimit, addressLimit};
+ghost use Rattle.base.specs.Limits.{functionLimit, nodeLimit, operandLimit, portLimit, referenceLimit, valueLimit};
 ghost use Rattle.compiler.specs.Sizes.{orderLimit, nodePortLimit, outputLimit};
 ghost use Rattle.graph.specs.Look.{reads};
 ghost use Rattle.graph.specs.Read.{reference};
@@ -12,65 +12,31 @@ ghost use Rattle.order.specs.Resolve as Resolve;
 ghost use Rattle.reader.specs.Find.{ReadsNode, ReadsNodes, ReadsFunction};
 ghost use Rattle.order.specs.Indices.{indexOrder};
 ghost use Rattle.resolver.specs.Slots.{PlacesAre};
-ghost use Rattle.compiler.specs.Locating.{NodesAllocated, FunctionAllocated, AllocatedTo, readCount, outputCodes, Slots, portCode, readCodes, rebasedCode, rebasedCodes, resultCodes, nodeCodes, AllOuts};
+ghost use Rattle.compiler.specs.Locating.{NodesAllocated, FunctionAllocated, AllocatedTo, readCount, outputCodes, Slots, readCodes, rebasedCodes, resultCodes, nodeCodes, AllOuts};
 ghost use Rattle.reader.specs.Layout.{outputCount, outputsPlace, nodeAt, nodesAt, nodesPlace, nodeCount};
 ghost use Rattle.sums.specs.Position.{placeOf, Accepted, Started};
-ghost use Rattle.sums.specs.Capped.{plainSums};
-ghost use Rattle.compiler.specs.Units as Units;
-ghost use Rattle.compiler.specs.Units.{unitsIn, unitsAt, addsUnits, unitLimit, unitBound, heldLimit, AllHeld};
-use super::NAME_STEP;
+ghost use Rattle.compiler.specs.Units.{unitsAt, addsUnits, unitLimit, unitBound, AllHeld};
 use super::NODE_PORT_LIMIT;
 use super::ORDER_LIMIT;
 use super::OUTPUT_LIMIT;
-use base::ADDRESS_LIMIT;
+use super::held::held_limit;
+use super::held::scaled;
+use super::held::taken;
+use super::location::location_of;
+use super::location::rebase;
 use base::FUNCTION_LIMIT;
 use base::NO_NODE;
 use base::NODE_LIMIT;
 use base::OPERAND_LIMIT;
-use base::OPERATION_LIMIT;
 use base::PORT_LIMIT;
 use base::REFERENCE_LIMIT;
 use base::SLOT_LIMIT;
-use base::WORD_LIMIT;
 use base::u16_at;
 use base::wide;
 use base::wide16;
 use base::wide32;
 use bytecode::Version;
-use ports::Ports;
 use reader::Found;
-
-// The most that is held for a function that can be compiled: words, or instructions.
-fn held_limit(version: Version) -> usize
-    ensures { λ r. ⌜ r ≡ heldLimit version ⌝ }
-{
-    match version {
-        Version::V1 => WORD_LIMIT,
-        Version::V2 => OPERATION_LIMIT,
-    }
-}
-
-// What is held, as words or as names.
-fn scaled(version: Version, n: usize) -> usize
-    requires { ⌜ n < 2 ^ 32 ⌝ }
-    ensures { λ r. ⌜ r ≡ Units.scaled version n ⌝ }
-{
-    match version {
-        Version::V1 => n,
-        Version::V2 => NAME_STEP * n,
-    }
-}
-
-// What the results of a node that is no call take, by its kind's row.
-fn taken(version: Version, row: Ports, ty: u8) -> usize
-    ensures { λ r. ⌜ r ≡ unitsIn version (plainSums row ty) ⌝ }
-    ensures bounded { λ r. ⌜ r < 2 ^ 32 ⌝ }
-{
-    match version {
-        Version::V1 => ports::result_words(row, ty),
-        Version::V2 => NAME_STEP,
-    }
-}
 
 // The index of the node that the reference at q reads, or `NO_NODE`.
 fn target(table: &[u8], at: usize, n: usize, q: usize) -> u16
@@ -85,20 +51,6 @@ fn target(table: &[u8], at: usize, n: usize, q: usize) -> u16
     match found {
         Found::At(i, _) => i as u16,
         Found::Nothing => NO_NODE,
-    }
-}
-
-// The location of a port of the node with the index v, or of the inputs.
-fn location_of(allocated: &[u16; NODE_PORT_LIMIT], v: usize, port: usize) -> u16
-    ensures { λ r. ⌜ r ≡ portCode (now (allocated .entry)) v port ⌝ }
-{
-    if PORT_LIMIT <= port {
-        return 0;
-    }
-    if v < NODE_LIMIT {
-        allocated[PORT_LIMIT * v + port]
-    } else {
-        port as u16
     }
 }
 
@@ -125,18 +77,6 @@ fn allocate_reads(
         locations[cell + j] = location_of(allocated, v, port);
         q += 3;
         j += 1;
-    }
-}
-
-// A callee's location seen from its caller.
-fn rebase(locations: &[u16; REFERENCE_LIMIT], cell: usize, n: usize, d: usize, e: usize) -> u16
-    requires { ⌜ (cell + n ≤ referenceLimit) × (d ≤ unitBound) × (e < addressLimit) ⌝ }
-    ensures { λ r. ⌜ r ≡ rebasedCode (now (locations .entry)) cell n d e ⌝ }
-{
-    if e < PORT_LIMIT {
-        if e < n { locations[cell + e] } else { 0 }
-    } else {
-        ((e + d) % ADDRESS_LIMIT) as u16
     }
 }
 

@@ -16,7 +16,7 @@ use Rattle.compiler.proofs.compile.Tie as tie
 -- ---- places: from one back to another
 
 abbrev entry-of-arrays : tie.After-ins → tie.Start
-entry-of-arrays c = let d = c .before .before .before in d .before .before .before .before
+entry-of-arrays c = let d = c .before .before .before in let e = d .before .before .before in e .before
 
 abbrev prepare-of-arrays : tie.After-ins2 → tie.After-prepare
 prepare-of-arrays c = let d = c .before .before .before in d .before .before
@@ -25,7 +25,7 @@ abbrev prepare-of-write : tie.After-write-arg → tie.After-prepare
 prepare-of-write c = prepare-of-arrays (c .before .before .before)
 
 abbrev write-of-end : tie.After-slice-known2 → tie.After-write
-write-of-end c = c .before .before .before .before
+write-of-end c = let d = c .before .before .before in d .before
 
 prepare-requires : tie.Need-prepare-requires
 prepare-requires c κs =

@@ -24,10 +24,10 @@ abbrev entry-of-inputs : tie.After-wide → tie.Start
 entry-of-inputs c = entry-of-place (c .before .before)
 
 abbrev inputs-of-functions : tie.After-allocate-functions-arg4 → tie.After-wide
-inputs-of-functions c = c .before .before .before .before
+inputs-of-functions c = let d = c .before .before .before in d .before
 
 abbrev functions-of-next : tie.After-allocate-next-arg4 → tie.After-allocate-functions
-functions-of-next c = c .before .before .before .before
+functions-of-next c = let d = c .before .before .before in d .before
 
 abbrev inputs-of-next : tie.After-allocate-next → tie.After-wide
 inputs-of-next c = inputs-of-functions (functions-of-next (c .before) .before)

@@ -23,8 +23,11 @@ use Rattle.compiler.proofs.write.Tie as tie
 
 -- ---- places: from each stage back to the one before it
 
+abbrev entry-of-slices : tie.After-slice-known3 → tie.Start
+entry-of-slices c = let d = c .before .before .before in d .before
+
 abbrev entry-of-place : tie.After-p → tie.Start
-entry-of-place c = c .before .before .before .before .before
+entry-of-place c = entry-of-slices (c .before)
 
 abbrev entry-of-inputs : tie.After-wide → tie.Start
 entry-of-inputs c = entry-of-place (c .before .before)
@@ -35,11 +38,20 @@ inputs-of-outputs c = c .before .before
 abbrev entry-of-outputs : tie.After-wide2 → tie.Start
 entry-of-outputs c = entry-of-inputs (inputs-of-outputs c)
 
+abbrev outputs-of-version : tie.After-version-number → tie.After-wide2
+outputs-of-version c = c .before .before .before
+
+abbrev version-of-header : tie.After-put-header → tie.After-version-number
+version-of-header c = let d = c .before .before .before in d .before
+
 abbrev first-of-header : tie.After-put-header → tie.After-first-behind
-first-of-header c = let d = c .before .before .before in d .before .before .before
+first-of-header c = version-of-header c .before .before
+
+abbrev header-of-call : tie.After-walk-arg3 → tie.After-put-header
+header-of-call c = let d = c .before .before .before in d .before .before
 
 abbrev header-of-walk : tie.After-walk → tie.After-put-header
-header-of-walk c = let d = c .before .before .before .before in d .before .before
+header-of-walk c = header-of-call (c .before)
 
 abbrev walk-of-code : tie.After-slice-known7 → tie.After-walk
 walk-of-code c = let d = c .before .before .before in d .before .before .before
@@ -106,7 +118,7 @@ header : (c : tie.After-put-header) →
 header c =
     let a = entry-of-outputs (first-of-header c .before) .args in
     c .put-header .ensures
-    ∙ ap (λ (v : ℕ). sets (a .code .now) 0 (headerCode v (a .sizes .arguments) (a .sizes .outputs) (a .sizes .instructions) (a .words))) (c .before .before .before .before .version-number .ensures)
+    ∙ ap (λ (v : ℕ). sets (a .code .now) 0 (headerCode v (a .sizes .arguments) (a .sizes .outputs) (a .sizes .instructions) (a .words))) (version-of-header c .version-number .ensures)
 
 room : (b : tie.Start) → 12 ≤ length (b .args .code .now)
 room b =
@@ -116,7 +128,7 @@ room b =
 
 walk-requires : tie.Need-walk-requires
 walk-requires c κs =
-    let h = c .before .before .before .before .before in
+    let h = header-of-call c in
     let f = first-of-header h in
     let b = entry-of-outputs (f .before) in
     let e = h .put-header .kept .0 in
@@ -166,15 +178,15 @@ returns c =
 pub write-spec : {M : Type 1} → statement M
 write-spec =
     tie.close
-    (tie.spec (λ c. let l = low (c .before .before .before .before) in omega arith) (λ c. let l = low (c .before .before .before .before) in omega arith)
+    (tie.spec (λ c. let l = low (entry-of-slices c) in omega arith) (λ c. let l = low (entry-of-slices c) in omega arith)
     (λ c. let b = entry-of-place c in omega (arith, place b, holds b .head)) (λ c. let b = entry-of-place (c .before) in omega (arith, place b, holds b .head)) (λ c κs. search needs)
     (λ c. let b = entry-of-inputs c in omega (arith, place b, holds b .head)) (λ c. let b = entry-of-inputs (c .before) in omega (arith, place b, holds b .head)) (λ c κs. search needs)
     (λ c κs. input-count (inputs-of-outputs c) .1) (λ c κs. search needs)
-    (λ c. let (x, y) = entry-of-outputs (c .before .before .before .before) .pre .1 .0 .narrow in omega arith)
-    (λ c. let (x, y) = entry-of-outputs (c .before .before .before .before .before) .pre .1 .0 .narrow in omega arith)
-    (λ c. let x = entry-of-outputs (let d = c .before .before .before in d .before .before .before) .pre .1 .0 .few in omega arith)
-    (λ c. let x = entry-of-outputs (let d = c .before .before .before in d .before .before .before) .pre .1 .1 in omega arith)
-    (λ c κs. room (entry-of-outputs (let d = c .before .before .before in d .before .before .before))) walk-requires
+    (λ c. let (x, y) = entry-of-outputs (outputs-of-version (c .before)) .pre .1 .0 .narrow in omega arith)
+    (λ c. let (x, y) = entry-of-outputs (outputs-of-version (c .before .before)) .pre .1 .0 .narrow in omega arith)
+    (λ c. let x = entry-of-outputs (outputs-of-version (c .before .before .before)) .pre .1 .0 .few in omega arith)
+    (λ c. let x = entry-of-outputs (outputs-of-version (c .before .before .before)) .pre .1 .1 in omega arith)
+    (λ c κs. room (entry-of-outputs (outputs-of-version (c .before .before .before)))) walk-requires
     (λ c. let b = entry-of-walk (walk-of-code c) in omega (arith, place b, holds b .head))
     (λ c. let i = inputs-of-outputs (outputs-of-walk (walk-of-code c)) in omega (arith, entries i, holds (entry-of-inputs i) .inputs))
     put-outputs-requires (λ c. search needs) (λ c. search needs) (λ c. search needs) returns)

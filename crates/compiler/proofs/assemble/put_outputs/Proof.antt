@@ -22,7 +22,7 @@ abbrev μ-loop : tie.MeasureT-loop
 -- ---- places: from one back to another
 
 abbrev entry-of-head : tie.At-loop Inv-loop μ-loop → tie.Start Inv-loop μ-loop
-entry-of-head c = c .before .before .before .before
+entry-of-head c = let d = c .before .before .before in d .before
 
 abbrev loop-of-location : tie.After-wide16 Inv-loop μ-loop → tie.In-loop Inv-loop μ-loop
 loop-of-location c = c .before .before

@@ -32,7 +32,7 @@ use Rattle.compiler.proofs.walk.+walk+walk_node.Lts-walk as walk-lts
 use Rattle.compiler.proofs.walk.walk_node.Reads as walk-node
 use Rattle.compiler.proofs.walk.walk_node.Kinds as walk-node-kinds
 use Rattle.compiler.proofs.walk.+walk+walk_node.Lts-walk_node as walk-node-lts
-use Rattle.compiler.proofs.walk.arguments.Reads as arguments-reads
+use Rattle.compiler.proofs.addresses.arguments.Reads as arguments-reads
 use Rattle.compiler.proofs.walk.walk_constant.Reads as walk-constant-reads
 use Rattle.compiler.proofs.walk.walk_operation.Reads as walk-operation-reads
 use Rattle.sums.proofs.position_of.Reads as position-of-reads
@@ -93,7 +93,7 @@ module _ (t : ℕ) where
   AtNode = walk-lts.After-wide162 (KW t) (walk-at t) walk.Post walk-Inv-loop walk-μ-loop
 
   abbrev entry-of-element : walk-lts.After-u16-at-arg (KW t) (walk-at t) walk.Post walk-Inv-loop walk-μ-loop → Entry
-  entry-of-element c = c .before .before .before .before .before
+  entry-of-element c = let d = c .before .before .before in d .before .before
 
   abbrev entry-of-count : Counted → Entry
   entry-of-count c = entry-of-element (c .before)
@@ -111,7 +111,7 @@ module _ (t : ℕ) where
   at-of-call c = c .before .before .before
 
   abbrev call-of-end : walk-lts.After-slice-known6 (KW t) (walk-at t) walk.Post walk-Inv-loop walk-μ-loop → walk-lts.After-walk-node (KW t) (walk-at t) walk.Post walk-Inv-loop walk-μ-loop
-  call-of-end c = c .before .before .before .before .before .before
+  call-of-end c = let d = c .before .before .before in d .before .before .before
 
   -- where the function stands
   place : (e : Entry) → getD (e .args .starts .now) (e .args .k) 0 ≡ placeOf (e .args .table .now) (e .args .k)
@@ -202,8 +202,14 @@ module _ (t : ℕ) where
   abbrev Called : Type 0
   Called = walk-node-lts.After-walk-arg3 (KN t) (walk-node-at t) walk-node.Post
 
+  abbrev entry-of-slices : walk-node-lts.After-slice-known3 (KN t) (walk-node-at t) walk-node.Post → NodeEntry
+  entry-of-slices c = let d = c .before .before .before in d .before
+
+  abbrev table-of-node : NodeRead → walk-node-lts.After-shared-slice-known (KN t) (walk-node-at t) walk-node.Post
+  table-of-node c = let d = c .before .before .before in d .before
+
   abbrev entry-of-node : NodeRead → NodeEntry
-  entry-of-node c = c .before .before .before .before .before
+  entry-of-node c = entry-of-slices (c .before)
 
   abbrev node-of-call : Call → NodeRead
   node-of-call c = c .before .before .before
@@ -217,11 +223,14 @@ module _ (t : ℕ) where
   abbrev entry-of-position : Found → NodeEntry
   entry-of-position c = entry-of-call (call-of-position c)
 
+  abbrev test-of-walk : Called → walk-node-lts.Then1 (KN t) (walk-node-at t) walk-node.Post
+  test-of-walk c = let d = c .before .before .before in d .before
+
   abbrev position-of-walk : Called → Found
-  position-of-walk c = c .before .before .before .before .before
+  position-of-walk c = test-of-walk c .before
 
   abbrev walk-of-return : walk-node-lts.After-slice-known12 (KN t) (walk-node-at t) walk-node.Post → walk-node-lts.After-walk (KN t) (walk-node-at t) walk-node.Post
-  walk-of-return c = c .before .before .before .before .before .before
+  walk-of-return c = let d = c .before .before .before in d .before .before .before
 
   -- ---- a constant
 
@@ -235,7 +244,7 @@ module _ (t : ℕ) where
   constant-of-call c = c .before .before .before
 
   abbrev call-of-constant : walk-node-lts.After-slice-known6 (KN t) (walk-node-at t) walk-node.Post → walk-node-lts.After-walk-constant (KN t) (walk-node-at t) walk-node.Post
-  call-of-constant c = c .before .before .before .before .before .before
+  call-of-constant c = let d = c .before .before .before in d .before .before .before
 
   constant : (c : Constant) →
       let r = node-of-constant c in
@@ -249,7 +258,7 @@ module _ (t : ℕ) where
       let e = entry-of-node r in
       let a = e .args in
       constant-inlined (namingOf (a .pass)) (a .table .now) (a .locations .now) (a .k) (a .p) (a .cell) (a .ins .now) (a .first) (a .next) (r .node-at .result) (r .node-at .ensures)
-      (λ q. omega (arith, r .before .before .before .before .shared-slice-known .given q)) (e .pre .1 .0 .2) _ (c .before .payload .given .1)
+      (λ q. omega (arith, table-of-node r .shared-slice-known .given q)) (e .pre .1 .0 .2) _ (c .before .payload .given .1)
 
   walk-node-walk-constant-requires : walk-node-lts.Need-walk-constant-requires (KN t) (walk-node-at t) walk-node.Post
   walk-node-walk-constant-requires c κs =
@@ -278,7 +287,7 @@ module _ (t : ℕ) where
   operation-of-call c = c .before .before .before
 
   abbrev call-of-operation : walk-node-lts.After-slice-known9 (KN t) (walk-node-at t) walk-node.Post → walk-node-lts.After-walk-operation (KN t) (walk-node-at t) walk-node.Post
-  call-of-operation c = c .before .before .before .before .before .before
+  call-of-operation c = let d = c .before .before .before in d .before .before .before
 
   operation : (c : Operation) →
       let r = node-of-operation c in
@@ -358,7 +367,7 @@ module _ (t : ℕ) where
       let e = entry-of-position d in
       let (k16, starts, read) = e .pre .1 .0 in
       let m = e .pre .0 in
-      let g : d .position-of .result < e .args .k = c .before .before .before .before .if1 .taken in (
+      let g : d .position-of .result < e .args .k = test-of-walk c .if1 .taken in (
         omega arith,
         (
           (omega arith, fewer-starts _ _ _ _ starts (omega arith)),
@@ -378,7 +387,7 @@ module _ (t : ℕ) where
       let w = walk-of-return c in
       let r = w .before in
       let d = position-of-walk r in
-      let x = same-walks (callee d .0 (r .before .before .before .before .if1 .taken)) (w .walk .ensures) in
+      let x = same-walks (callee d .0 (test-of-walk r .if1 .taken)) (w .walk .ensures) in
       (record { written = x .written; noted = x .noted; measured = x .measured; end = x .end; next = x .next }, cell-is (call-of-position d))
 
   walk-node-returns-4 : walk-node-lts.Need-returns-4 (KN t) (walk-node-at t) walk-node.Post
@@ -390,7 +399,7 @@ pub +walk+walk-node-spec : {M : Type 1} → statement M
     (λ t. walk-lts.spec (KW t) (walk-at t) walk.Post walk-Inv-loop walk-μ-loop (λ c. search needs) (λ c. search needs) (λ c. omega (arith, count-there t (entry-of-element t c))) (λ c κs. omega (arith, count-there t (entry-of-element t c)))
     (λ c. search needs) (λ c. search needs) (λ c κs. search needs) (walk-loop-holds t) (λ c. search needs) (λ c. let l = next-node t c in omega arith) (λ c. search needs) (λ c. let l = next-node t c in omega arith)
     (λ c κs. search needs) (walk-walk-node-requires t) (walk-add-i t) (λ c. search needs) (walk-loop-again t) (λ c. same-size (c .before .loop .inv .0)) (λ c. c .before .loop .inv .1) (λ c. c .before .loop .inv .2) (λ c. finished (c .before .loop .inv .0) (c .loop-test .left)))
-    (λ t. walk-node-lts.spec (KN t) (walk-node-at t) walk-node.Post (λ c κs. c .before .before .before .before .pre .1 .0 .2) (λ c. search needs) (walk-node-walk-constant-requires t) (λ c. search needs) (walk-node-walk-operation-requires t)
+    (λ t. walk-node-lts.spec (KN t) (walk-node-at t) walk-node.Post (λ c κs. entry-of-slices t c .pre .1 .0 .2) (λ c. search needs) (walk-node-walk-constant-requires t) (λ c. search needs) (walk-node-walk-operation-requires t)
     (λ c. search needs) (walk-node-arguments-requires t) (walk-node-position-of-requires t) (walk-node-walk-requires t)
     (λ c. let l = cell-fits t (call-of-position t (position-of-walk t (walk-of-return t c .before))) in omega arith) (λ c. let l = cell-fits t (call-of-position t (c .before)) in omega arith)
     (λ c. search needs) (λ c. search needs) (λ c. search needs) (walk-node-returns t)

@@ -16,7 +16,7 @@ abbrev survey-of-call : tie.After-survey-instruction-arg2 → tie.After-enum-tol
 survey-of-call c = c .before .before
 
 abbrev call-of-survey : tie.After-slice-known5 → tie.After-survey-instruction
-call-of-survey c = c .before .before .before .before
+call-of-survey c = let d = c .before .before .before in d .before
 
 abbrev sequential-of-call : tie.After-write-operation-arg → tie.After-enum-told2
 sequential-of-call c = c .before
