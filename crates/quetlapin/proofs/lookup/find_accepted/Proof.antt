@@ -67,7 +67,8 @@ measure-requires c κs = let e = c .before .before .before in let b = start (pla
 
 returns-2 : tie.Need-returns-2
 returns-2 c =
-    let e = c .before .before .before .before in
+    let d = c .before .before .before in
+    let e = d .before in
     let g = e .before in
     let f = placed g in
     let b = start f in

@@ -31,13 +31,13 @@ abbrev told : tie.Else1 → tie.After-known-told
 told c = c .before .before
 
 abbrev few : tie.After-places → tie.Else1
-few c = let x = c .before .before .before .before in x .before .before .before .before
+few c = let x = c .before .before .before in let y = x .before .before .before in y .before .before
 
 abbrev laid : tie.After-known-told2 → tie.After-lay-out
 laid k = k .before .before .before
 
 abbrev fitting : tie.After-compile-placed-arg → tie.Else2
-fitting c = let x = c .before .before .before .before in x .before .before .before .before
+fitting c = let x = c .before .before .before in let y = x .before .before .before in y .before .before
 
 -- ---- what is known there
 

@@ -39,7 +39,7 @@ abbrev told : tie.Else1 → tie.After-known-told
 told c = c .before .before
 
 abbrev few : tie.After-places → tie.Else1
-few c = let x = c .before .before .before .before in x .before .before .before .before
+few c = let x = c .before .before .before in let y = x .before .before .before in y .before .before
 
 abbrev laid : tie.After-known-told2 → tie.After-lay-out
 laid k = k .before .before .before
@@ -54,7 +54,7 @@ abbrev roomy : tie.Else6 → tie.Else5
 roomy c = c .before .before
 
 abbrev judged : tie.After-compile-placed-arg → tie.Else6
-judged c = let x = c .before .before .before .before in x .before .before .before .before
+judged c = let x = c .before .before .before in let y = x .before .before .before in y .before .before
 
 abbrev compiled : tie.After-run-arg → tie.After-compile-placed
 compiled c = c .before .before .before
