@@ -274,7 +274,7 @@ pub extern "C" fn ifg_compile(table: &[u8], id: u16, code: &mut [u8]) -> u64
     ensures { λ r. ⌜ Told (codeLength (compiled (now (table .entry)) id 1 (now (code .entry)))) r ⌝ }
     ensures { λ r. ⌜ now (code .exit) ≡ codeAfter (now (code .entry)) (compiled (now (table .entry)) id 1 (now (code .entry))) ⌝ }
 {
-    ifg_compile_version(table, id, 1, code)
+    compiled_number(sequential::compile_sequential(table, id, code))
 }
 
 // In the version that is named.
@@ -326,7 +326,7 @@ pub extern "C" fn ifg_evaluate(
     ensures { λ r. ⌜ Demand3 (λ n. r ≡ n) (now (table .entry)) id 1 (now (arguments .entry)) (now (code .entry)) (now (work .entry)) (now (out .entry))
         (now (code .exit)) (now (work .exit)) (now (out .exit)) ⌝ }
 {
-    ifg_evaluate_version(table, id, 1, arguments, code, work, out)
+    evaluated_number(sequential::evaluate_sequential(table, id, arguments, code, work, out))
 }
 
 // In the version that is named.

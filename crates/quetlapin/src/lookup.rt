@@ -6,11 +6,11 @@ ghost use Rattle.base.specs.Outcome.{ok};
 ghost use lib.ListN.{length};
 ghost use Rattle.graph.specs.Judge.{verdict};
 ghost use Rattle.quetlapin.specs.Measures.{Finds, Readies};
+use super::Found;
 use base::FUNCTION_LIMIT;
 use base::OPERATION_LIMIT;
 use base::WORD_LIMIT;
 use checker::Verdict;
-use super::Found;
 
 // In a table that is accepted: 14 where there is no function of that id. The places of the functions, and the words
 // and instructions of those up to it, are left in the arrays, for the compiler.

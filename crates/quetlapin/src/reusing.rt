@@ -10,6 +10,11 @@ ghost use Rattle.quetlapin.specs.Compiling as compiling;
 ghost use Rattle.quetlapin.specs.Compiling.{placedLength};
 ghost use Rattle.quetlapin.specs.declared.Evaluated.the-variants.{Done};
 ghost use Rattle.quetlapin.specs.Answers.{Answered};
+use super::Compiled;
+use super::Evaluated;
+use super::Found;
+use super::from_run;
+use super::lookup;
 use base::FUNCTION_LIMIT;
 use base::HEADER_LENGTH;
 use base::OPERATION_LIMIT;
@@ -20,11 +25,6 @@ use compiler::ORDER_LIMIT;
 use compiler::OUTPUT_LIMIT;
 use placement::Extent;
 use sums::Sizes;
-use super::Compiled;
-use super::Evaluated;
-use super::Found;
-use super::from_run;
-use super::lookup;
 
 // The length of the code of version 2: each instruction has an address more.
 fn placed_length(sizes: Sizes) -> usize

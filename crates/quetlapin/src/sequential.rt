@@ -7,12 +7,12 @@ ghost use Rattle.lowering.specs.Demand3.{Demand3};
 ghost use Rattle.quetlapin.specs.Compiling as compiling;
 ghost use Rattle.quetlapin.specs.declared.Evaluated.the-variants.{Done};
 ghost use Rattle.quetlapin.specs.Answers.{Answered};
-use base::FUNCTION_LIMIT;
 use super::Compiled;
 use super::Evaluated;
 use super::Found;
 use super::from_run;
 use super::lookup;
+use base::FUNCTION_LIMIT;
 
 // The list of version 1.
 pub fn compile_sequential(table: &[u8], id: u16, code: &mut [u8]) -> Compiled
