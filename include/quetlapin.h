@@ -15,7 +15,7 @@
  * program linked with -ffast-math changes it at its start: 1e-310 times 1 was then 0. And
  * the stack must have room: ifg_compile_version and ifg_evaluate_version need a thread of
  * 256 KB, ifg_compile and ifg_evaluate 68 KB, ifg_check 16 KB, ifr_run and ifr_run_points
- * 4 KB, beside what the caller uses.
+ * 12 KB (4 KB before lists of version 2), beside what the caller uses.
  *
  * Words are the bits of IEEE 754 binary64 values. A scalar is 1 word, a vector 3
  * (x, y, z), a matrix 16 (row by row). A NaN that a step gives is always

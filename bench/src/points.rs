@@ -26,7 +26,7 @@ pub fn points() {
     println!(
         "Nanoseconds for one instruction and point: library / independent. The check of the code is a share of the library's call.\n"
     );
-    println!("| list | points | whole call | ratio | target | check | stack (at most 4,096) |");
+    println!("| list | points | whole call | ratio | target | check | stack (at most 12,288) |");
     println!("|---|--:|--:|--:|--:|--:|--:|");
     let (mut work, mut own_work) = (vec![0; 8192], vec![0; 8192]);
     for list in layer_lists() {

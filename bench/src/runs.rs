@@ -15,7 +15,7 @@ pub fn run() {
     println!("\n## Run\n");
     println!("Nanoseconds for one instruction: library / independent.\n");
     println!(
-        "| list | check | ratio | run | ratio | whole call | ratio | target | stack (at most 4,096) |"
+        "| list | check | ratio | run | ratio | whole call | ratio | target | stack (at most 12,288) |"
     );
     println!("|---|--:|--:|--:|--:|--:|--:|--:|--:|");
     let (mut work, mut out) = (vec![0; 8192], vec![0; 128]);

@@ -180,7 +180,7 @@ fn pairs() -> Vec<Pair> {
 fn run() {
     println!("\n### Run\n");
     println!("Nanoseconds for one instruction: version 2 / version 1.\n");
-    println!("| list | check | ratio | whole call | ratio | stack (at most 4,096) |");
+    println!("| list | check | ratio | whole call | ratio | stack (at most 12,288) |");
     println!("|---|--:|--:|--:|--:|--:|");
     let (mut work, mut out) = (vec![0; 8192], vec![0; 128]);
     let (mut other_work, mut other_out) = (vec![0; 8192], vec![0; 128]);
@@ -243,7 +243,7 @@ fn points() {
     println!(
         "1,024 points in one call, nanoseconds for one instruction and point: version 2 / version 1.\n"
     );
-    println!("| list | whole call | ratio | stack (at most 4,096) |");
+    println!("| list | whole call | ratio | stack (at most 12,288) |");
     println!("|---|--:|--:|--:|");
     const COUNT: usize = 1024;
     let (mut work, mut other_work) = (vec![0; 8192], vec![0; 8192]);
