@@ -63,7 +63,7 @@ fn locate(code: &[u8], at: usize, addressed: bool, next: usize) -> Place
 }
 
 // All instructions, from behind the header on, where the arguments take the first `first` words. One loop for both versions:
-// with a loop for each, `execute` would have two callers and be inlined into neither.
+// with a loop for each, `execute` would have two callers, and a function of two callers is seldom inlined.
 pub fn execute_all(code: &[u8], addressed: bool, count: usize, first: usize, work: &mut [u64])
     requires { ⌜ Instructions (versionBy addressed) (now code) count first (now work) ⌝ }
     ensures { λ _. ⌜ now (work .exit) ≡ afterAll (readInstructions (versionBy addressed) count (now (code .entry)) headerLength (argumentWords first)) (now (work .entry)) ⌝ }
