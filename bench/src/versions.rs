@@ -165,7 +165,7 @@ fn pairs() -> Vec<Pair> {
         let instructions = u16::from_le_bytes([codes[0][8], codes[0][9]]) as usize;
         let words = [&codes[0], &codes[1]].map(|code| word_count(code));
         pairs.push(Pair {
-            name: format!("{}, {} words for {}", case.name, words[0], words[1]),
+            name: format!("{}, {} {} for {}", case.name, words[0], if words[0] == 1 { "word" } else { "words" }, words[1]),
             instructions,
             arguments: (0..codes[0][5])
                 .map(|k| (0.5 + f64::from(k) / 64.0).to_bits())
