@@ -17,8 +17,8 @@ use Rattle.base.specs.Lists.{Each, Is}
 use Rattle.base.proofs.Lists.{each-in, each-on}
 use Rattle.bytecode.specs.Run.{Instruction, BoardList}
 use Rattle.bytecode.specs.Sequential.{nextWord, AllFit}
-use Rattle.bytecode.specs.Ranges.{Range, end, inside}
-use Rattle.bytecode.specs.Origin.{Origin, Known, originAt, resultWidth, start, readings, final, finalOf, Roomy}
+use Rattle.bytecode.specs.Ranges.{any, Range, end, inside}
+use Rattle.bytecode.specs.Origin.{Origin, Known, originAt, resultWidth, start, readings, final, Numbered, finalOf, Carries, Roomy}
 use Rattle.bytecode.proofs.Origins.{start-argument, start-length, Follows}
 use Rattle.bytecode.proofs.Sequential.{below-length, fit-up, fit-roomy, AllKnown, fit-known, all-known}
 use Rattle.placement.specs.Live.{keep, inputValues, live}
@@ -127,6 +127,70 @@ pub map-same : (f : ℕ → Origin) (g : ℕ → ℕ) (F : ℕ → Origin) (xs :
 map-same f g F [] h = refl
 map-same f g F (x ∷ xs) h = ap₂ (λ (u : Origin) (us : List Origin). u ∷ us) (h x (inl refl)) (map-same f g F xs (λ a i. h a (inr i)))
 
+each-of : {A : Type 0} (P : A → Type 0) (xs : List A) → ((x : A) → Is x xs → P x) → Each P xs
+each-of P [] h = tt
+each-of P (x ∷ xs) h = (h x (inl refl), each-of P xs (λ y i. h y (inr i)))
+
+-- ---- beside the list that it was placed from
+
+module _ (inputs : List ℕ) (b : BoardList) (t : Placeable inputs b) where
+  abbrev firstOrigins : List Origin
+  firstOrigins = start (b .arguments) (b .words)
+
+  -- where the words of version 1 come from
+  abbrev pub ownOrigins : ℕ → Origin
+  ownOrigins = originAt (final 0 (b .instructions) firstOrigins)
+
+  pub arguments-within : b .arguments ≤ b .words
+  arguments-within = fit-up (b .instructions) (b .arguments) (b .words) (t .fit)
+
+  -- arguments stand where they stood
+  pub inputs-kept : (w : ℕ) (p : Placed) → Is p (inputsOf inputs) → Keeps ownOrigins (start (b .arguments) w) p
+  inputs-kept w p i j lt =
+      let n = b .arguments in
+      let e = t .arguments in
+      let l : end (p .value) ≤ widths inputs = each-in (λ q. end (q .value) ≤ widths inputs) (inputsOf inputs) (inputs-along inputs .below) p i in
+      ap (λ (m : ℕ). originAt (start n w) (m + j)) (stays (inputValues 0 inputs) p i)
+      ∙ start-argument n w (p .value .first + j) (omega arith)
+      ∙ sym
+      (final-keeps (b .instructions) 0 n (b .words) firstOrigins (p .value .first + j) (t .fit) (omega arith)
+      ∙ start-argument n (b .words) (p .value .first + j) (omega arith))
+
+  -- instructions that carry out those of the list, with its outputs at their values' places
+  pub follows-placed :
+      (H : List Placed) → Along (b .words) H → b .arguments ≤ top H → (is : List Instruction) (xs : List Numbered) → is ≡ map (λ x. x .instruction) xs
+      → Each (λ x. Roomy (top H) (x .instruction)) xs → Carries (readings 0 (b .instructions) firstOrigins) (start (b .arguments) (top H)) xs
+      → ((p : Placed) → Is p H → any (inside (p .value)) (b .outputs) ≡ true → Keeps ownOrigins (finalOf xs (start (b .arguments) (top H))) p)
+      → Follows b (record { arguments = b .arguments; instructions = is; words = top H; outputs = map (rename H) (b .outputs) }) xs
+  follows-placed H all within is xs listed rooms carries kept =
+      let n = b .arguments in
+      let outs = b .outputs in
+      let up = arguments-within in
+      let argument-known : AllKnown firstOrigins n = λ a l. subst Known (sym (start-argument n (b .words) a l)) tt in
+      let (known, last) =
+      fit-known (b .instructions) n (b .words) 0 firstOrigins (t .fit) argument-known (le-of-eq (sym (start-length n (b .words) up))) in
+      let end = originAt (finalOf xs (start n (top H))) in
+      record {
+        arguments = refl;
+        within = up;
+        within′ = within;
+        rooms = fit-roomy (b .instructions) n (b .words) (b .words) (t .fit) (le-refl (b .words));
+        known = known;
+        listed = listed;
+        rooms′ = rooms;
+        carries = carries;
+        out-known = all-known (final 0 (b .instructions) firstOrigins) (b .words) last outs (t .below);
+        outputs =
+            map-same end (rename H) ownOrigins outs
+            (λ a i.
+            let (p, j, s) = all .covers a (each-in (λ x. x < b .words) outs (t .below) a i) in
+            let (lo, hi) = inside-inv (p .value) a s in
+            let z : a ≡ p .value .first + (a - p .value .first) = omega arith in
+            ap ownOrigins z
+            ∙ sym (kept p j (any-is (inside (p .value)) outs a i s) (a - p .value .first) (omega arith))
+            ∙ ap end (sym (rename-is H p a (all .distinct) j s)));
+      }
+
 pub routed : (inputs : List ℕ) (b : BoardList) → Placeable inputs b → Follows b (reusing inputs b) (numbered 0 (reusing inputs b .instructions))
 routed inputs b t =
     let n = b .arguments in
@@ -136,51 +200,20 @@ routed inputs b t =
     let H = placeAll outs ins is in
     let o = start n (b .words) in
     let o′ = start n (top H) in
-    let F = originAt (final 0 is o) in
+    let F = ownOrigins inputs b t in
     let e : n ≡ widths inputs = t .arguments in
-    let up : n ≤ b .words = fit-up is n (b .words) (t .fit) in
+    let up : n ≤ b .words = arguments-within inputs b t in
     let high : top ins ≤ top H = place-top outs is ins in
     let tin = top-inputs inputs in
     let within : n ≤ top H = omega arith in
     let along : Along n ins = subst (λ (m : ℕ). Along m ins) (sym e) (inputs-along inputs) in
-    let first : Each (Keeps F o′) ins =
-    each-on (λ p. (end (p .value) ≤ n) × (p .place ≡ p .value .first)) (Keeps F o′)
-    (λ p (l, s) j lt.
-    ap (λ (m : ℕ). originAt o′ (m + j)) s
-    ∙ start-argument n (top H) (p .value .first + j) (omega arith)
-    ∙ sym (final-keeps is 0 n (b .words) o (p .value .first + j) (t .fit) (omega arith) ∙ start-argument n (b .words) (p .value .first + j) (omega arith)))
-    ins (both (inputValues 0 inputs) (along .below)) in
     let whole : AllInOne (map (λ p. p .value) ins) is = subst (λ (rs : List Range). AllInOne rs is) (sym (values-stay (inputValues 0 inputs))) (t .whole) in
     let zero-add : (j : ℕ) → 0 + j ≡ j = λ j. omega arith in
     let ends =
     carried outs (readings 0 is o) (b .words) is 0 n ins o o′ (t .fit) whole along (omega (arith, start-length n (b .words) up))
-    (omega (arith, start-length n (top H) within)) (each-keep (Keeps F o′) (λ p. live is outs (p .value)) ins first)
+    (omega (arith, start-length n (top H) within)) (each-keep (Keeps F o′) (λ p. live is outs (p .value)) ins (each-of (Keeps F o′) ins (inputs-kept inputs b t (top H))))
     (λ j. ap (getElem? (readings 0 is o)) (zero-add j)) in
-    let all : Along (b .words) H = place-along outs is n (b .words) ins (t .fit) along in
-    let argument-known : AllKnown o n = λ a l. subst Known (sym (start-argument n (b .words) a l)) tt in
-    let (known, last) = fit-known is n (b .words) 0 o (t .fit) argument-known (le-of-eq (sym (start-length n (b .words) up))) in
     let xs = numbered 0 (map (renamed H) is) in
-    record {
-      arguments = refl;
-      within = up;
-      within′ = within;
-      rooms = fit-roomy is n (b .words) (b .words) (t .fit) (le-refl (b .words));
-      known = known;
-      listed = numbered-instructions 0 (map (renamed H) is);
-      rooms′ = place-rooms outs is 0 n (b .words) ins (t .fit);
-      carries = ends .carries;
-      out-known = all-known (final 0 is o) (b .words) last outs (t .below);
-      outputs =
-          map-same (originAt (finalOf xs o′)) (rename H) F outs
-          (λ a i.
-          let (p, j, s) = all .covers a (each-in (λ x. x < b .words) outs (t .below) a i) in
-          let (lo, hi) = inside-inv (p .value) a s in
-          let kept = each-in (Keeps F (finalOf xs o′)) (heldAt [] outs H) (ends .kept) p
-          (is-keep (λ y. live [] outs (y .value)) H p j (live-output [] outs (p .value) (any-is (inside (p .value)) outs a i s))) in
-          let z : a ≡ p .value .first + (a - p .value .first) = omega arith in
-          ap F z ∙ sym (kept (a - p .value .first) (omega arith)) ∙ ap (originAt (finalOf xs o′)) (sym (rename-is H p a (all .distinct) j s)));
-    }
-  where
-    both : (rs : List Range) → Each (λ p. end (p .value) ≤ b .arguments) (map stay rs) → Each (λ p. (end (p .value) ≤ b .arguments) × (p .place ≡ p .value .first)) (map stay rs)
-    both [] h = tt
-    both (r ∷ rs) (l, h) = ((l, refl), both rs h)
+    follows-placed inputs b t H (place-along outs is n (b .words) ins (t .fit) along) within (map (renamed H) is) xs (numbered-instructions 0 (map (renamed H) is))
+    (place-rooms outs is 0 n (b .words) ins (t .fit)) (ends .carries)
+    (λ p i s. each-in (Keeps F (finalOf xs o′)) (heldAt [] outs H) (ends .kept) p (is-keep (λ y. live [] outs (y .value)) H p i (live-output [] outs (p .value) s)))

@@ -1,0 +1,5 @@
+pub mod Numbers
+pub mod Places
+pub mod Ready
+pub mod Carried
+pub mod Formed

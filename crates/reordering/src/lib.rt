@@ -1,0 +1,1 @@
+// Any order that respects the reads: definitions and laws.
