@@ -2,23 +2,18 @@
 use Prim.Native.Nat.{ℕ, _≤_}
 use mathlib.Core.Path.{_≡_, refl, _∙_}
 use mathlib.Core.List.{List, _∷_}
-use mathlib.Core.Option.{some}
 use native.Mathlib.Omega.{arith}
 use lib.ListN.{length, replicate, length-replicate, length-map}
 use Rattle.ports.specs.Ports.{widths}
 use Rattle.base.specs.Limits.{operationLimit, wordLimit}
-use Rattle.value.specs.declared.Value.{Value}
-use Rattle.value.specs.Values.{allWords}
-use Rattle.value.specs.Typed.{Typed}
 use Rattle.graph.specs.Graph.{Function}
 use Rattle.graph.specs.Types.{outputTypes}
 use Rattle.graph.specs.Sums.{functionOperations, operationsOf}
 use Rattle.graph.specs.Sound.{AllSound}
-use Rattle.graph.specs.Meaning.{functionMeans, meaningOf}
 use Rattle.graph.specs.Table.{Chosen}
 use Rattle.bytecode.specs.declared.Version.{Version}
 use Rattle.bytecode.specs.declared.Version.the-variants.{V1, V2}
-use Rattle.bytecode.specs.Run.{BoardList, run}
+use Rattle.bytecode.specs.Run.{run}
 use Rattle.bytecode.specs.WellFormed.{FormedList}
 use Rattle.placement.specs.Place.{placesOf, rename, reusing, numbered}
 use Rattle.placement.specs.OneValue.{Placeable}
@@ -30,13 +25,7 @@ use Rattle.lowering.proofs.Limits.{count-of, words-of, laid, output-wor
 use Rattle.lowering.proofs.Naming.{one-value}
 use Rattle.lowering.proofs.Routed.{follows-means}
 use Rattle.lowering.proofs.Fits.{reusing-formed}
-
--- on any arguments of the right types and in any memory long enough, the list's output words are those of what the function means
-abbrev pub ListMeans : Chosen → BoardList → Type 0
-ListMeans x b =
-    (args : List Value) → Typed (x .function .inputs) args → (m : List ℕ) → b .words ≤ length m
-    → (vs : List Value) × (functionMeans (meaningOf (x .early)) (x .function) args ≡ some vs) × Typed (outputTypes (x .function .outputs)) vs
-    × (run b (allWords args) m .outputs ≡ allWords vs)
+use Rattle.lowering.proofs.Taken.{ListMeans, Serves}
 
 -- the list of a function in a version has a code within the limits, the counts that the function says, and the function's meaning
 pub record Lawful (v : Version) (x : Chosen) : Type 0 where
@@ -51,6 +40,11 @@ pub placeable : (early : List Function) (f : Function) → AllSound (f ∷ early
 placeable early f sound =
     let (fit, below, size) = laid early f sound in
     record { arguments = refl; fit = fit; below = below; whole = one-value early f sound }
+
+-- within the limits it serves the function
+pub lawful-serves : (v : Version) (x : Chosen) → Lawful v x → functionOperations (operationsOf (x .early)) (x .function) ≤ operationLimit → wordsOf v x ≤ wordLimit
+    → Serves v x (listOf v x)
+lawful-serves v x l operations words = record { formed = l .formed operations words; arguments = l .arguments; outputs = l .outputs; means = l .means }
 
 pub lawful : (v : Version) (x : Chosen) → AllSound (x .function ∷ x .early) → Lawful v x
 lawful V1 x sound =

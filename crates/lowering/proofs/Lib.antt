@@ -4,6 +4,7 @@ pub mod Limits
 pub mod Naming
 pub mod Routed
 pub mod Fits
+pub mod Taken
 pub mod Lawful
 pub mod Whole
 pub mod Witness

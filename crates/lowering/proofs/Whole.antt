@@ -5,44 +5,40 @@ use Prim.Native.Nat.{ℕ, _+_, _*_, _≤_}
 use mathlib.Core.Path.{_≡_, refl, ap, sym, _∙_, subst}
 use mathlib.Core.Bool.{_&&_}
 use mathlib.Core.List.{List, _∷_, reverse}
-use mathlib.Core.Option.{some}
 use native.Mathlib.Omega.{arith}
 use lib.Dec.{leb, eqb}
 use lib.ListN.{length}
 use lib.Seq.{sets}
-use borrow.Author.Tests.{leb-true, le-leb, eq-eqb}
+use borrow.Author.Tests.{leb-true, le-leb}
 use Rattle.ports.specs.Ports.{widths}
 use Rattle.base.specs.Bytes.{Bytes}
 use Rattle.base.specs.Limits.{operationLimit, wordLimit, portWordLimit}
 use Rattle.base.specs.Lists.{wordAt, every}
 use Rattle.base.specs.Outcome.{Outcome, ok, _>>=_, _>>_, need, orElse}
-use Rattle.base.proofs.Bools.{and-both}
 use Rattle.base.proofs.Outcomes.{took, passed, takes, passes, ok-is, some-else, else-some}
 use Rattle.base.proofs.Stores.{front}
-use Rattle.value.specs.Values.{allWords, valuesOf, argumentWord}
-use Rattle.value.proofs.Laws.{values-typed, words-of-values, typed-widths, all-finite}
+use Rattle.value.specs.Values.{argumentWord}
 use Rattle.graph.specs.Graph.{Function}
 use Rattle.graph.specs.Types.{outputTypes}
 use Rattle.graph.specs.Judge.{table}
 use Rattle.graph.specs.Sums.{functionOperations, operationsOf}
 use Rattle.graph.specs.Sound.{AllSound}
-use Rattle.graph.specs.Meaning.{meaningOf}
 use Rattle.graph.specs.Table.{Chosen, chosen}
 use Rattle.graph.proofs.Formed.{accepted}
 use Rattle.graph.proofs.Exactly.{table-back, table-there}
-use Rattle.graph.proofs.Table.{chosen-sound, chosen-means}
+use Rattle.graph.proofs.Table.{chosen-sound}
 use Rattle.bytecode.specs.declared.Version.{Version}
 use Rattle.bytecode.specs.Version.{versionOf}
 use Rattle.bytecode.specs.Run.{run}
-use Rattle.bytecode.specs.Code.{resultBytes, decode}
+use Rattle.bytecode.specs.Code.{resultBytes}
 use Rattle.bytecode.specs.WellFormed.{FormedList}
 use Rattle.bytecode.specs.Answers.{Buffers, ran}
-use Rattle.bytecode.proofs.Back.{decode-encode}
 use Rattle.bytecode.proofs.Length.{encode-length}
-use Rattle.bytecode.proofs.Unwritten.{run-length, above-stays}
+use Rattle.bytecode.proofs.Unwritten.{run-length}
 use Rattle.lowering.specs.Answers.{listOf, wordsOf, codeOf, Job, within, compilable, compiled, Evaluated, evaluated}
 use Rattle.lowering.specs.Demand3.{Within, Lent, Meant, Demand3}
-use Rattle.lowering.proofs.Lawful.{Lawful, lawful}
+use Rattle.lowering.proofs.Taken.{Serves, leftBy, judged, taken, rest-stays, given}
+use Rattle.lowering.proofs.Lawful.{Lawful, lawful, lawful-serves}
 
 -- what the compiler takes is within the limits
 pub compilable-within : (s : List ℕ) (c n : ℕ) (j : Job) → Bytes s → compilable s c n ≡ ok j
@@ -69,12 +65,7 @@ compilable-within s c n j small e =
 
 -- what a run of the list leaves, and with the code what an evaluation does
 abbrev pub leaves : Version → Chosen → List ℕ → List ℕ → List ℕ → Buffers
-leaves v x arguments work out =
-    record {
-      count = widths (outputTypes (x .function .outputs));
-      work = run (listOf v x) arguments work .memory;
-      out = sets out 0 (run (listOf v x) arguments work .outputs);
-    }
+leaves v x = leftBy x (listOf v x)
 
 abbrev pub withCode : Version → Chosen → List ℕ → Buffers → Evaluated
 withCode v x code b = record { count = b .count; code = sets code 0 (codeOf v x); work = b .work; out = b .out }
@@ -89,8 +80,11 @@ module _ (s : List ℕ) (c n : ℕ) (functions : List Function) (v : Version) (x
   pub laws : Lawful v x
   laws = lawful v x sound
 
+  pub list-serves : Serves v x (listOf v x)
+  list-serves = lawful-serves v x laws (w .operations) (w .words)
+
   pub fits : FormedList v (listOf v x)
-  fits = laws .formed (w .operations) (w .words)
+  fits = list-serves .formed
 
   pub code-length : length (codeOf v x) ≤ 12 + (130 + resultBytes v) * operationLimit + 2 * portWordLimit
   code-length = encode-length v (listOf v x) fits
@@ -123,19 +117,15 @@ module _ (s : List ℕ) (c n : ℕ) (functions : List Function) (v : Version) (x
       ok (leaves v x arguments work out)
 
     pub list-runs : ran (codeOf v x) arguments work out ≡ runOrRefusal
-    unfolding ran
     list-runs =
-        takes (orElse (decode (codeOf v x)) _ _) _ (listOf v x) (some-else _ _ (decode-encode v (listOf v x) fits))
-        ∙ ap (λ (a : ℕ). judged a (length (listOf v x .outputs)) (listOf v x .words)) (laws .arguments)
-        ∙ ap (judged (widths (x .function .inputs)) (length (listOf v x .outputs))) (laws .words)
-        ∙ ap (λ (o : ℕ). judged (widths (x .function .inputs)) o (wordsOf v x)) (laws .outputs)
-      where
-        judged : ℕ → ℕ → ℕ → Outcome Buffers
-        judged inputs outputs words = do
-          need (eqb (length arguments) inputs) 19 0
+        judged v x (listOf v x) list-serves arguments work out
+        ∙ ap
+        (λ (words : ℕ). do
+          need (eqb (length arguments) (widths (x .function .inputs))) 19 0
           need (every argumentWord arguments) 20 0
-          need (leb words (length work) && leb outputs (length out)) 21 0
-          ok (record { count = outputs; work = run (listOf v x) arguments work .memory; out = sets out 0 (run (listOf v x) arguments work .outputs) })
+          need (leb words (length work) && leb (widths (outputTypes (x .function .outputs))) (length out)) 21 0
+          ok (leaves v x arguments work out))
+        (laws .words)
 
     -- so an evaluation is the runner's judging, once the code fits
     pub evaluated-is : length (codeOf v x) ≤ length code → evaluated s c n arguments code work out ≡ (runOrRefusal >>= λ b. ok (withCode v x code b))
@@ -146,13 +136,11 @@ module _ (s : List ℕ) (c n : ℕ) (functions : List Function) (v : Version) (x
         ∙ ap (λ (g : Outcome Buffers). g >>= λ b. ok (withCode v x code b)) list-runs
 
     module _ (l : Lent v x arguments code work out) where
+      room : listOf v x .words ≤ length work
+      room = let a = l .work-fits in let size = laws .words in omega arith
+
       pub list-ok : ran (codeOf v x) arguments work out ≡ ok (leaves v x arguments work out)
-      list-ok =
-          list-runs
-          ∙ passes (eqb (length arguments) (widths (x .function .inputs))) _ _ _ (eq-eqb _ _ (l .count))
-          ∙ passes (every argumentWord arguments) _ _ _ (all-finite arguments (l .finite))
-          ∙ passes (leb (wordsOf v x) (length work) && leb (widths (outputTypes (x .function .outputs))) (length out)) _ _ _
-          (and-both _ _ (le-leb _ _ (l .work-fits)) (le-leb _ _ (l .out-fits)))
+      list-ok = taken v x (listOf v x) list-serves arguments work out (l .finite) (l .count) room (l .out-fits)
 
       pub evaluated-ok : evaluated s c n arguments code work out ≡ ok (withCode v x code (leaves v x arguments work out))
       evaluated-ok = evaluated-is (l .code-fits) ∙ takes runOrRefusal _ (leaves v x arguments work out) (sym list-runs ∙ list-ok)
@@ -162,24 +150,18 @@ module _ (s : List ℕ) (c n : ℕ) (functions : List Function) (v : Version) (x
       pub means : Meant (λ n. widths (outputTypes (x .function .outputs)) ≡ n) functions c v x arguments code work out (sets code 0 (codeOf v x))
           (leaves v x arguments work out .work) (leaves v x arguments work out .out)
       means =
-          let f = x .function in
           let b = listOf v x in
-          let args = valuesOf (f .inputs) arguments in
-          let same : allWords args ≡ arguments = words-of-values (f .inputs) arguments (l .finite) (l .count) in
           let size : b .words ≡ wordsOf v x = laws .words in
-          let room : b .words ≤ length work = let a = l .work-fits in omega arith in
-          let (vs, meant, typed, outputs) = laws .means args (values-typed (f .inputs) arguments (sound .0 .resolved .formed .inputTypes)) work room in
-          let m : meaningOf (reverse functions) c args ≡ some vs = chosen-means c (reverse functions) x args (w .chosen) ∙ meant in
-          let count : length (allWords vs) ≡ widths (outputTypes (f .outputs)) = typed-widths (outputTypes (f .outputs)) vs typed in
+          let (answer, meant, count, outputs) = given v x b list-serves arguments work out (l .finite) (l .count) room (reverse functions) c (w .chosen) sound in
           record {
-            answer = allWords vs;
-            meant = rw (w .chosen, m) refl;
+            answer = answer;
+            meant = meant;
             size = count;
             count = sym count;
-            given = ap (sets out 0) (subst (λ (ws : List ℕ). run b ws work .outputs ≡ allWords vs) same outputs);
+            given = ap (sets out 0) outputs;
             list = refl;
             same = run-length b arguments work;
-            rest = λ i h. above-stays v b fits arguments work (l .count ∙ sym (laws .arguments)) i (omega arith);
+            rest = λ i h. rest-stays v x b list-serves arguments work out (l .finite) (l .count) room i (omega arith);
           }
 
 -- ---- demand 3

@@ -36,7 +36,7 @@ use Rattle.lowering.specs.Demand3.{Within, Lent, Demand3}
 use Rattle.lowering.specs.Cases.{tableA, codeA, codeA2, functionA, chosenA, three, half, threeHalves}
 use Rattle.lowering.proofs.Whole.{demand3, evaluated-ok}
 
-all-bytes : (s : List ℕ) → every (λ b. ltb b 256) s ≡ true → Bytes s
+pub all-bytes : (s : List ℕ) → every (λ b. ltb b 256) s ≡ true → Bytes s
 all-bytes [] e i = omega arith
 all-bytes (b ∷ s) e zero = let (p, q) = and-inv (ltb b 256) (every (λ b. ltb b 256) s) e in ltb-true b 256 p
 all-bytes (b ∷ s) e (suc i) = let (p, q) = and-inv (ltb b 256) (every (λ b. ltb b 256) s) e in all-bytes s q i

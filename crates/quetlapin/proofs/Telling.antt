@@ -34,6 +34,8 @@ use Rattle.bytecode.proofs.Length.{result-most}
 use Rattle.lowering.specs.Answers.{wordsOf, within, compilable, codeOf, compiled, evaluated}
 use Rattle.lowering.specs.Demand3.{Within}
 use Rattle.lowering.proofs.Whole.{compilable-within, code-length, output-count, evaluated-is, runOrRefusal, withCode}
+use Rattle.reordering.specs.AnyOrder.{AnyOrder}
+use Rattle.reordering.proofs.Whole.{any-order}
 use Rattle.points.specs.Points.{ranPoints}
 use Rattle.points.specs.Demand3.{Demand3Points}
 use Rattle.points.proofs.Judged.{Late, points-fault, points-count}
@@ -214,14 +216,22 @@ pub run-told : {g : Outcome Buffers} {work out work′ out′ : List ℕ} {a : R
     → r ≡ numberOf (ofRan a) → RunAnswered g work out work′ out′ r
 run-told b h e = record { answer = told b (ap ofRan (h .answer) ∙ of-ran _) e; work-after = h .work-after; out-after = h .out-after }
 
+-- the number and the buffers of a run that is told
+told-is : {g : Outcome Buffers} {work out work′ out′ : List ℕ} {r : ℕ} → RunAnswered g work out work′ out′ r → (b : Buffers) → g ≡ ok b
+    → (r ≡ b .count) × (work′ ≡ b .work) × (out′ ≡ b .out)
+unfolding runner.workAfter runner.outAfter
+told-is {work = work} {out = out} a b g = (
+  a .answer .number ∙ ap (λ (o : Outcome Buffers). numberOf (runCount o)) g,
+  a .work-after ∙ ap (λ (o : Outcome Buffers). runner.workAfter o work) g,
+  a .out-after ∙ ap (λ (o : Outcome Buffers). runner.outAfter o out) g,
+)
+
+-- what is told of a run holds of every order that respects the reads
+pub told-order : (code arguments work out : List ℕ) {work′ out′ : List ℕ} {r : ℕ}
+    → RunAnswered (ran code arguments work out) work out work′ out′ r → AnyOrder (λ n. r ≡ n) code arguments work out work′ out′
+told-order code arguments work out a = any-order code arguments work out (told-is a)
+
 -- what is told of a run at many points meets demand 3 at each
 pub told-points : (code : List ℕ) (points : ℕ) (arguments work out : List ℕ) {work′ out′ : List ℕ} {r : ℕ}
     → RunAnswered (ranPoints code points arguments work out) work out work′ out′ r → Demand3Points (λ n. r ≡ n) code points arguments work out work′ out′
-unfolding runner.workAfter runner.outAfter
-told-points code points arguments work out a =
-    demand3-points code points arguments work out
-    (λ b g. (
-      a .answer .number ∙ ap (λ (o : Outcome Buffers). numberOf (runCount o)) g,
-      a .work-after ∙ ap (λ (o : Outcome Buffers). runner.workAfter o work) g,
-      a .out-after ∙ ap (λ (o : Outcome Buffers). runner.outAfter o out) g,
-    ))
+told-points code points arguments work out a = demand3-points code points arguments work out (told-is a)

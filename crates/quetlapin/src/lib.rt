@@ -11,6 +11,7 @@ ghost use Rattle.graph.specs.Judge.{verdict};
 ghost use Rattle.lowering.specs.Answers.{compilable, compiled, evaluated};
 ghost use Rattle.lowering.specs.Demand3.{Demand3};
 ghost use Rattle.bytecode.specs.Answers.{ran};
+ghost use Rattle.reordering.specs.AnyOrder.{AnyOrder};
 ghost use Rattle.points.specs.Points.{ranPoints};
 ghost use Rattle.points.specs.Demand3.{Demand3Points};
 ghost use Rattle.quetlapin.specs.Compiling as compiling;
@@ -290,6 +291,7 @@ pub extern "C" fn ifg_compile_version(table: &[u8], id: u16, version: u16, code:
 #[no_mangle]
 pub extern "C" fn ifr_run(code: &[u8], arguments: &[u64], work: &mut [u64], out: &mut [u64]) -> u64
     ensures { λ r. ⌜ RunAnswered (ran (now (code .entry)) (now (arguments .entry)) (now (work .entry)) (now (out .entry))) (now (work .entry)) (now (out .entry)) (now (work .exit)) (now (out .exit)) r ⌝ }
+    ensures { λ r. ⌜ AnyOrder (λ n. r ≡ n) (now (code .entry)) (now (arguments .entry)) (now (work .entry)) (now (out .entry)) (now (work .exit)) (now (out .exit)) ⌝ }
 {
     ran_number(runner::run(code, arguments, work, out))
 }

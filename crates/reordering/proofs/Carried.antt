@@ -9,21 +9,20 @@ use lib.ListN.{length, getD, getElem?}
 use lib.Seq.{sets, length-sets}
 use Rattle.ports.specs.Kinds.{kindOf}
 use Rattle.ports.specs.Ports.{takes}
-use Rattle.base.specs.Lists.{Each, Is}
-use Rattle.base.proofs.Lists.{each-in}
+use Rattle.base.specs.Lists.{Each}
 use Rattle.bytecode.specs.Run.{Instruction, BoardList}
 use Rattle.bytecode.specs.Sequential.{nextWord, AllFit}
 use Rattle.bytecode.specs.Ranges.{Range, end}
 use Rattle.bytecode.specs.Origin.{Origin, result, originAt, operandPlaces, resultWidth, made, origins, after, start, Reading, readings, final, Numbered, finalOf, Carries, Roomy}
 use Rattle.bytecode.proofs.Origins.{start-length, Follows}
 use Rattle.bytecode.proofs.Sequential.{fit-up}
-use Rattle.placement.specs.Place.{Placed, words, top, inputsOf, renamed}
+use Rattle.placement.specs.Place.{Placed, words, top, renamed}
 use Rattle.placement.specs.OneValue.{Placeable}
 use Rattle.placement.specs.Balance.{blank, instructionAt}
 use Rattle.placement.proofs.Carried.{final-keeps, stored-made, Keeps, keeps-store, same-reads, own-reads}
 use Rattle.placement.proofs.Following.{ownOrigins, arguments-within, inputs-kept, follows-placed}
 use Rattle.reordering.specs.Reorder.{Routing, reordered, Respects}
-use Rattle.reordering.proofs.Ready.{H, all-along, arguments-in, below-top, Moved, some-words, moved, operand-count, Ready, none-ready, read-ready, all-ready, Holding, holding-next}
+use Rattle.reordering.proofs.Ready.{H, all-along, arguments-in, below-top, some-words, moved, operand-count, none-ready, read-ready, all-ready, Holding, holding-next}
 
 -- ---- version 1, by the numbers of its instructions
 

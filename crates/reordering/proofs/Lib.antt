@@ -3,3 +3,5 @@ pub mod Places
 pub mod Ready
 pub mod Carried
 pub mod Formed
+pub mod Whole
+pub mod Witness

@@ -9,11 +9,11 @@ use native.Mathlib.Omega.{arith}
 use lib.ListN.{length, getD}
 use Rattle.ports.specs.Kinds.{kindOf}
 use Rattle.ports.specs.Ports.{width, takes}
-use Rattle.base.specs.Lists.{Each, Is}
+use Rattle.base.specs.Lists.{Is}
 use Rattle.base.proofs.Lists.{each-in}
 use Rattle.bytecode.specs.Run.{Instruction}
 use Rattle.bytecode.specs.Sequential.{nextWord, Fit, AllFit}
-use Rattle.bytecode.specs.Ranges.{Range, end, resultValue}
+use Rattle.bytecode.specs.Ranges.{Range, resultValue}
 use Rattle.bytecode.specs.Origin.{resultWidth}
 use Rattle.placement.specs.Live.{inputValues}
 use Rattle.placement.specs.Place.{Placed, words, top, apart, stay}

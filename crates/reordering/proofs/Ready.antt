@@ -1,30 +1,30 @@
 -- While the instructions are carried out in their new order: the values that are there, and that whatever an instruction reads is among them. A
 -- result is placed apart from all other values, so that those stay as they are.
 use Prim.Native.Nat.{ℕ, _+_, _-_, _≤_, _<_}
-use mathlib.Core.Path.{_≡_, refl, ap, sym, _∙_, subst}
+use mathlib.Core.Path.{_≡_, ap, sym, _∙_, subst}
 use mathlib.Core.Bool.{true}
 use mathlib.Core.List.{List, [], _∷_, _++_, map}
 use mathlib.Core.Logic.{_⊎_, inl, inr, ⊎-elim}
 use native.Mathlib.Omega.{arith}
 use lib.ListN.{length, length-map}
 use Rattle.ports.specs.Kinds.{kindOf}
-use Rattle.ports.specs.Ports.{widths, takes}
+use Rattle.ports.specs.Ports.{takes}
 use Rattle.base.specs.Lists.{Is}
 use Rattle.base.proofs.Lists.{each-in}
-use Rattle.bytecode.specs.Run.{Instruction, BoardList}
+use Rattle.bytecode.specs.Run.{BoardList}
 use Rattle.bytecode.specs.Sequential.{Fit}
-use Rattle.bytecode.specs.Ranges.{Range, end, inside, resultValue}
+use Rattle.bytecode.specs.Ranges.{Range, end, resultValue}
 use Rattle.bytecode.specs.Origin.{resultWidth}
 use Rattle.bytecode.proofs.Sequential.{below-length}
 use Rattle.placement.specs.Live.{inputValues, readBy}
-use Rattle.placement.specs.Place.{Placed, words, top, apart, inputsOf, rename, renamed}
+use Rattle.placement.specs.Place.{Placed, words, top, apart, inputsOf, rename}
 use Rattle.placement.specs.OneValue.{AllInOne, Placeable}
 use Rattle.placement.specs.Balance.{instructionAt}
 use Rattle.placement.proofs.Ranges.{inside-is, apart-inv}
 use Rattle.placement.proofs.Balanced.{tops}
 use Rattle.placement.proofs.Carried.{legal-wide, Along, rename-is}
 use Rattle.placement.proofs.Following.{inputs-along, values-stay, top-inputs}
-use Rattle.reordering.specs.Reorder.{Routing, routedPlaces, Reads, Respects}
+use Rattle.reordering.specs.Reorder.{Routing, routedPlaces, Respects}
 use Rattle.reordering.proofs.Places.{one-or-apart, results-along, results-top, result-there, result-from, fit-at, Operands, operands-at, inputs-wide}
 
 module _ {A : Type 0} where

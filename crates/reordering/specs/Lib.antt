@@ -1,2 +1,3 @@
 pub mod Reorder
 pub mod AnyOrder
+pub mod Cases

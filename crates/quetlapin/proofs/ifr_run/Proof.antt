@@ -5,7 +5,7 @@ use native.Mathlib.Omega.{arith}
 use denote.Ref.{now}
 use Rattle.bytecode.specs.Answers.{ran}
 use Rattle.quetlapin.specs.Numbers.{Bounded, runCount, ofRan}
-use Rattle.quetlapin.proofs.Telling.{ran-bounded, of-ran, may-tell, run-told}
+use Rattle.quetlapin.proofs.Telling.{ran-bounded, of-ran, may-tell, run-told, told-order}
 use Rattle.quetlapin.proofs.ifr_run.Statement.{statement}
 use Rattle.quetlapin.proofs.ifr_run.Tie as tie
 
@@ -30,7 +30,10 @@ same : (m : tie.After-run) → ofRan (m .run .result)
 same m = ap ofRan (m .run .ensures .0 .answer) ∙ of-ran _
 
 returns : tie.Need-returns
-returns c = let m = at-run (c .before) in run-told (bounds m) (m .run .ensures .0) (c .ran-number .ensures)
+returns c =
+    let m = at-run (c .before) in
+    let h = run-told (bounds m) (m .run .ensures .0) (c .ran-number .ensures) in
+    (h, told-order _ _ _ _ h)
 
 pub ifr-run-spec : {M : Type 1} → statement M
 ifr-run-spec =
