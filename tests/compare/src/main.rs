@@ -13,6 +13,8 @@ mod marked;
 mod options;
 #[cfg(feature = "points")]
 mod points;
+#[cfg(feature = "evaluate_version")]
+mod reorder;
 mod report;
 #[cfg(feature = "evaluate_version")]
 mod reuse;
@@ -33,6 +35,10 @@ use crate::report::{Part, Report};
 
 /// With fewer tables than this, a refusal may stay unmet.
 const ENOUGH_TABLES: usize = 20_000;
+
+/// Of 100 random tables, those whose lists are also written in other orders.
+#[cfg(feature = "evaluate_version")]
+const REORDERED: usize = 30;
 
 /// Random and damaged inputs for the lister.
 const LISTINGS: usize = 400;
@@ -71,6 +77,7 @@ fn compare(options: &Options) -> bool {
     {
         versions::fixed(&mut report, &mut random);
         reuse::fixed(&mut report, &mut random);
+        reorder::fixed(&mut report, &mut random);
         points::fixed_2(&mut report);
     }
     for _ in 0..options.tables {
@@ -87,6 +94,8 @@ fn compare(options: &Options) -> bool {
     let (seed, tables) = (options.seed, options.tables);
     println!("seed {seed}, {tables} random tables and as many damaged ones");
     report.print();
+    #[cfg(feature = "evaluate_version")]
+    reorder::print(&report);
     let complete = tables < ENOUGH_TABLES || all_met(&report);
     println!("{:.1} seconds", start.elapsed().as_secs_f64());
     println!("{} differences", report.differences);
@@ -152,6 +161,9 @@ fn random_table(report: &mut Report, random: &mut Random) {
             versions::random(report, random, &damaged, id_damaged);
         }
         reuse::random(report, random, &table, id);
+        if random.chance(REORDERED) {
+            reorder::random(report, random, &table, id);
+        }
     }
 }
 
@@ -180,6 +192,13 @@ fn all_met(report: &Report) -> bool {
                 println!("{part:?} never met refusal {number}");
                 complete = false;
             }
+        }
+    }
+    #[cfg(feature = "evaluate_version")]
+    for name in reorder::COUNTED {
+        if report.counted(name) == 0 {
+            println!("{name}: never met");
+            complete = false;
         }
     }
     complete

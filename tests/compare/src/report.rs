@@ -1,5 +1,7 @@
 //! What was compared, how often each refusal was met, and every difference.
 
+#[cfg(feature = "evaluate_version")]
+use std::collections::BTreeMap;
 use std::fmt::Debug;
 #[cfg(any(feature = "compile", feature = "run"))]
 use std::fmt::LowerHex;
@@ -67,6 +69,9 @@ const PRINTED: usize = 5;
 pub struct Report {
     /// For each part, how often each refusal was met; at 0, how often none.
     met: [[u64; NUMBERS]; PARTS.len()],
+    /// What else a whole run must have met, by name.
+    #[cfg(feature = "evaluate_version")]
+    counts: BTreeMap<&'static str, u64>,
     pub differences: usize,
 }
 
@@ -86,6 +91,18 @@ impl Report {
     pub fn met<T>(&mut self, part: Part, answer: &Result<T, Refusal>) {
         let number = answer.as_ref().err().map_or(0, |refusal| refusal.number);
         self.met[part as usize][number as usize] += 1;
+    }
+
+    /// Counts something by its name.
+    #[cfg(feature = "evaluate_version")]
+    pub fn add(&mut self, name: &'static str) {
+        *self.counts.entry(name).or_default() += 1;
+    }
+
+    /// How often this was counted.
+    #[cfg(feature = "evaluate_version")]
+    pub fn counted(&self, name: &str) -> u64 {
+        self.counts.get(name).copied().unwrap_or(0)
     }
 
     /// Counts an answer and holds another to it.

@@ -4,7 +4,7 @@ use generate::codes::{self, Code};
 use generate::graph::Graph;
 use generate::random::Random;
 use generate::{kinds, shapes};
-use independent::Meaning;
+use independent::{Meaning, Refusal};
 
 use crate::check::as_independent;
 use crate::marked::Marked;
@@ -17,6 +17,19 @@ pub struct Room {
     pub out: usize,
 }
 
+/// What the library's run gave.
+#[cfg_attr(not(feature = "evaluate_version"), allow(dead_code))]
+pub struct Ran {
+    pub answer: Result<usize, Refusal>,
+    pub out: Marked<u64>,
+}
+
+/// What a run is given, for people.
+pub fn inputs(code: &[u8], arguments: &[u64], room: Room) -> String {
+    let arguments = hex_words(arguments);
+    format!("  {room:?}, arguments {arguments}\n  code {}", hex(code))
+}
+
 /// Holds a run: the answer, both buffers, and the meaning where there is one.
 pub fn compare(
     report: &mut Report,
@@ -24,7 +37,7 @@ pub fn compare(
     arguments: &[u64],
     room: Room,
     meaning: Option<&Meaning>,
-) {
+) -> Ran {
     let (mut work, mut out) = (Marked::words(room.work), Marked::words(room.out));
     let wanted = independent::run(code, arguments, work.lent(), out.lent());
     let (mut got_work, mut got_out) = (Marked::words(room.work), Marked::words(room.out));
@@ -34,10 +47,7 @@ pub fn compare(
         got_work.lent(),
         got_out.lent(),
     ));
-    let inputs = || {
-        let arguments = hex_words(arguments);
-        format!("  {room:?}, arguments {arguments}\n  code {}", hex(code))
-    };
+    let inputs = || inputs(code, arguments, room);
     report.same_buffer("run: the work buffer", &work, &got_work, inputs);
     report.same_buffer("run: the output buffer", &out, &got_out, inputs);
     if wanted.is_ok() && Part::run(code) == Part::RunVersion2 {
@@ -66,6 +76,10 @@ pub fn compare(
         );
     }
     report.hold(Part::run(code), wanted, got, inputs);
+    Ran {
+        answer: got,
+        out: got_out,
+    }
 }
 
 /// The work words that a well-formed list of version 2 never writes and that no longer have their marks.
@@ -110,18 +124,22 @@ pub fn some_arguments(random: &mut Random, count: usize) -> Vec<u64> {
         2 => random.below(140),
         _ => count,
     };
-    let calm = random.chance(40);
-    let mut arguments: Vec<u64> = (0..count)
-        .map(|_| match calm {
-            true => (random.range(0, 2000) as f64 / 64.0 - 15.0).to_bits(),
-            false => random.finite(),
-        })
-        .collect();
+    let mut arguments = finite_arguments(random, count);
     if count > 0 && random.chance(3) {
         let at = random.below(count);
         arguments[at] = random.not_finite();
     }
     arguments
+}
+
+/// Arguments that are all finite: from all of binary64, or close to zero.
+pub fn finite_arguments(random: &mut Random, count: usize) -> Vec<u64> {
+    let calm = random.chance(40);
+    let word = |_| match calm {
+        true => (random.range(0, 2000) as f64 / 64.0 - 15.0).to_bits(),
+        false => random.finite(),
+    };
+    (0..count).map(word).collect()
 }
 
 pub fn argument_words(code: &[u8]) -> usize {

@@ -376,11 +376,13 @@ fn evaluate_faults(report: &mut Report, graph: &Graph, beside: &[fn(&mut Call)])
     }
 }
 
-/// The output words of both versions' codes on the same arguments, in the library alone, and what both mean.
+/// The output words of both versions' codes on the same arguments, in the library alone, and what both mean. The
+/// second runs on the work buffer as the first left it.
 pub fn both(report: &mut Report, meaning: &Meaning, codes: [&[u8]; 2], arguments: &[u64]) {
+    let [words_1, words_2] = codes.map(|code| exact_room(code).work);
+    let mut work = Marked::words(words_1.max(words_2));
     let [(first, out_1), (second, out_2)] = codes.map(|code| {
-        let room = exact_room(code);
-        let (mut work, mut out) = (Marked::words(room.work), Marked::words(room.out));
+        let mut out = Marked::words(exact_room(code).out);
         let got = quetlapin::run(code, arguments, work.lent(), out.lent());
         (as_independent(got), out)
     });

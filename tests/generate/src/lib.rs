@@ -1,10 +1,12 @@
 //! Graph tables and board lists: at random, damaged, and built by hand.
 
 pub mod codes;
+pub mod full;
 pub mod graph;
 pub mod heat_exchanger;
 pub mod kinds;
 pub mod random;
+pub mod reorder;
 pub mod reuse;
 pub mod shapes;
 pub mod tables;

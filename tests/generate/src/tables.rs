@@ -2,7 +2,7 @@
 
 use std::collections::HashSet;
 
-use crate::graph::{Function, Graph, Node, Payload, Reference, mend_length};
+use crate::graph::{Function, Graph, Node, Payload, Reference, input, mend_length};
 use crate::kinds::*;
 use crate::random::Random;
 
@@ -64,18 +64,30 @@ impl Ids {
 
 /// The ports that a new node may read, by type.
 #[derive(Default)]
-struct Readable {
+pub(crate) struct Readable {
     ports: [Vec<Reference>; 3],
     /// Chance of reading one of the newest ports.
     newest: usize,
 }
 
 impl Readable {
-    fn add(&mut self, ty: u8, reference: Reference) {
+    /// A function's inputs.
+    pub(crate) fn inputs(random: &mut Random, types: &[u8]) -> Readable {
+        let mut readable = Readable {
+            newest: *random.pick(&[0, 40, 90]),
+            ..Readable::default()
+        };
+        for (n, &ty) in (0..).zip(types) {
+            readable.add(ty, input(n));
+        }
+        readable
+    }
+
+    pub(crate) fn add(&mut self, ty: u8, reference: Reference) {
         self.ports[ty as usize - 1].push(reference);
     }
 
-    fn pick(&self, random: &mut Random, ty: u8) -> Option<Reference> {
+    pub(crate) fn pick(&self, random: &mut Random, ty: u8) -> Option<Reference> {
         let ports = &self.ports[ty as usize - 1];
         if ports.is_empty() {
             return None;
@@ -87,7 +99,7 @@ impl Readable {
         Some(*random.pick(&ports[from..]))
     }
 
-    fn pick_all(&self, random: &mut Random, types: &[u8]) -> Option<Vec<Reference>> {
+    pub(crate) fn pick_all(&self, random: &mut Random, types: &[u8]) -> Option<Vec<Reference>> {
         types.iter().map(|&ty| self.pick(random, ty)).collect()
     }
 }
@@ -119,19 +131,7 @@ fn random_function(
     let types = TYPES[random.below(TYPES.len())];
     let inputs: Vec<u8> = (0..inputs).map(|_| *random.pick(types)).collect();
     let mut function = Function::new(id, &inputs);
-    let mut readable = Readable {
-        newest: *random.pick(&[0, 40, 90]),
-        ..Readable::default()
-    };
-    for (n, &ty) in inputs.iter().enumerate() {
-        readable.add(
-            ty,
-            Reference {
-                node: 0,
-                port: n as u8,
-            },
-        );
-    }
+    let mut readable = Readable::inputs(random, &inputs);
     let pairs = all();
     let mut ids = Ids::new(random);
     let mut room = room - 6 - inputs.len() - 4 * outputs;
