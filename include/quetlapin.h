@@ -102,7 +102,11 @@ uint64_t ifg_compile_version(const uint8_t *table, size_t table_length,
  * output words, which stand at the front of the output buffer; the front of the work
  * buffer holds all words of the list. The rest of both is unchanged, and so is a
  * word that a version 2 list never writes. 8,192 work words and 128 output words
- * are enough for every code. Refusals 18 to 21. */
+ * are enough for every code. Refusals 18 to 21.
+ * A list of version 2 need not be the compiler's: the instructions of version 1's
+ * list in any order that puts each after all it reads, with words of its own below
+ * 8,192 for each result and the arguments in their place, give the same output
+ * words. */
 uint64_t ifr_run(const uint8_t *code, size_t code_length,
                  const uint64_t *arguments, size_t arguments_length,
                  uint64_t *work, size_t work_length,

@@ -184,6 +184,42 @@ pub fn compile_version(
 /// The front of the work buffer holds all words of the list, the front of the
 /// output buffer the outputs; the rest of both is unchanged, and so is a word that a version 2
 /// list never writes.
+///
+/// A list of version 2 need not be the compiler's. The instructions of version 1's list in any order
+/// that puts each after all it reads, with words of its own below 8,192 for each result and the
+/// arguments in their place, give the same output words. Twice x less the square of y, the square
+/// first and on other words:
+///
+/// ```
+/// # #[cfg(feature = "compile")] {
+/// # let table = [
+/// #     0x49, 0x46, 0x47, 0x01, 0x00, 0x01, 0x32, 0x00, 0x01, 0x00, 0x02, 0x01, 0x03, 0x00, 0x01, 0x01,
+/// #     0x01, 0x03, 0x00, 0x00, 0x01, 0x00, 0x01, 0x01, 0x00, 0x00, 0x00, 0x00, 0x00, 0x00, 0x02, 0x00,
+/// #     0x03, 0x01, 0x00, 0x00, 0x01, 0x00, 0x00, 0x01, 0x03, 0x00, 0x02, 0x01, 0x01, 0x00, 0x00, 0x02,
+/// #     0x00, 0x00,
+/// # ];
+/// let mut code = [0; 100];
+/// let length = quetlapin::compile(&table, 1, &mut code).unwrap();
+/// let version_1 = &code[..length];
+/// // Two arguments, one output, 3 instructions, 5 words: the double of word 0 is word 2, the
+/// // square of word 1 is word 3, their difference word 4.
+/// assert_eq!(version_1[..12], *b"IFR\x01\x00\x02\x01\x00\x03\x00\x05\x00");
+/// assert_eq!(version_1[12..], [1, 1, 0, 0, 0, 0, 3, 1, 1, 0, 1, 0, 2, 1, 2, 0, 3, 0, 4, 0]);
+///
+/// // The square on word 3, the double on word 6, the difference on word 2.
+/// let mut other = b"IFR\x02\x00\x02\x01\x00\x03\x00\x07\x00".to_vec();
+/// other.extend([3, 1, 3, 0, 1, 0, 1, 0]);
+/// other.extend([1, 1, 6, 0, 0, 0, 0, 0]);
+/// other.extend([2, 1, 2, 0, 6, 0, 3, 0]);
+/// other.extend([2, 0]);
+/// let arguments = [3f64.to_bits(), 0.5f64.to_bits()];
+/// for list in [version_1, &other] {
+///     let (mut work, mut out) = ([0; 7], [0; 1]);
+///     assert_eq!(quetlapin::run(list, &arguments, &mut work, &mut out), Ok(1));
+///     assert_eq!(f64::from_bits(out[0]), 5.75);
+/// }
+/// # }
+/// ```
 #[cfg(feature = "run")]
 pub fn run(
     code: &[u8],
