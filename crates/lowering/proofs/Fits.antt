@@ -21,22 +21,25 @@ use Rattle.bytecode.specs.Ranges.{Range, end, inside, behind, resultValue}
 use Rattle.bytecode.specs.Sequential.{nextWord, AllFit}
 use Rattle.bytecode.specs.WellFormed.{writtenBy, AllFormed, FormedList}
 use Rattle.bytecode.proofs.Sequential.{below-length}
+use Rattle.bytecode.proofs.Readable.{inside-inv, is-inside}
 use Rattle.placement.specs.Live.{inputValues}
 use Rattle.placement.specs.Place.{Placed, words, top, inputsOf, placed, placeAll, placesOf, rename, renamed, reusing}
 use Rattle.placement.specs.OneValue.{AllInOne, Placeable}
-use Rattle.placement.proofs.Ranges.{inside-inv, inside-is}
 use Rattle.placement.proofs.Carried.{legal-wide, Along, along-next, place-top, place-is, place-along, place-result}
 use Rattle.placement.proofs.Following.{inputs-along, stays, values-stay, top-inputs}
 use Rattle.placement.proofs.Words.{all-along, word-place, word-below, operands-below, operands-each}
 
 -- every word of a placed value is written
+abbrev pub Written : List Range → Placed → Type 0
+Written written p = (j : ℕ) → j < p .value .width → readable V2 written (p .place + j) ≡ true
+
 abbrev Covers : List Range → List Placed → Type 0
-Covers written h = (p : Placed) → Is p h → (j : ℕ) → j < p .value .width → readable V2 written (p .place + j) ≡ true
+Covers written h = (p : Placed) → Is p h → Written written p
 
 covers-next : (written : List Range) (h : List Placed) (p : Placed) (r : Range) → r .first ≡ p .place → r .width ≡ p .value .width → Covers written h
     → Covers (r ∷ written) (p ∷ h)
 covers-next written h p r e w c q (inl s) j l =
-    or-left _ _ (inside-is r (q .place + j) (omega (arith, ap (λ (x : Placed). x .place) s)) (omega (arith, ap (λ (x : Placed). x .place) s, ap (λ (x : Placed). x .value .width) s)))
+    or-left _ _ (is-inside r (q .place + j) (omega (arith, ap (λ (x : Placed). x .place) s)) (omega (arith, ap (λ (x : Placed). x .place) s, ap (λ (x : Placed). x .value .width) s)))
 covers-next written h p r e w c q (inr i) j l = or-right (inside r (q .place + j)) _ (c q i j l)
 
 record Fitted (written : List Range) (is : List Instruction) (H : List Placed) : Type 0 where
@@ -80,49 +83,62 @@ fitted outputs stop (i ∷ is) next h written (x, f) (whole, w) r l c b =
       highest = rest .highest;
     }
 
+module _ (inputs : List ℕ) (b : BoardList) (t : Placeable inputs b) where
+  -- arguments are written before the first instruction
+  pub arguments-written : Covers (argumentWords (b .arguments)) (inputsOf inputs)
+  arguments-written p i j l =
+      let n = b .arguments in
+      let e = t .arguments in
+      let below : end (p .value) ≤ widths inputs = each-in (λ q. end (q .value) ≤ widths inputs) (inputsOf inputs) (inputs-along inputs .below) p i in
+      let same : p .place ≡ p .value .first = stays (inputValues 0 inputs) p i in
+      or-left _ _ (is-inside (record { first = 0; width = n }) (p .place + j) (omega arith) (omega arith))
+
+  -- instructions that are well formed and write all values, with the list's outputs at their values' places, within the limits
+  pub placed-formed :
+      (H : List Placed) → Along (b .words) H → (is : List Instruction) → AllFormed V2 (argumentWords (b .arguments)) is
+      → Covers (writtenBy (argumentWords (b .arguments)) is) H → behind (writtenBy (argumentWords (b .arguments)) is) ≡ top H → b .arguments ≤ portWordLimit
+      → 1 ≤ length (b .outputs) → length (b .outputs) ≤ portWordLimit → length is ≤ operationLimit → top H ≤ wordLimit
+      → FormedList V2 (record { arguments = b .arguments; instructions = is; words = top H; outputs = map (rename H) (b .outputs) })
+  placed-formed H all is formed covers highest la lo ho lc lw =
+      let outs = b .outputs in
+      let size : length (map (rename H) outs) ≡ length outs = length-map outs (rename H) in
+      let holder : (a : ℕ) → Is a outs → (p : Placed) × Is p H × (p .value .first ≤ a) × (a < end (p .value)) =
+      λ a i.
+      let (p, j, s) = all .covers a (each-in (λ x. x < b .words) outs (t .below) a i) in
+      let (u, v) = inside-inv (p .value) a s in
+      (p, j, u, v) in
+      record {
+        arguments = la;
+        some-output = omega arith;
+        outputs = omega arith;
+        count = lc;
+        words = lw;
+        instructions = formed;
+        highest = highest;
+        small = each-map (λ a. a < addressLimit) (rename H) outs
+            (λ a i.
+            let (p, j, u, v) = holder a i in
+            let k = word-below H p a (all .distinct) j u v in
+            omega arith);
+        reads = each-map (λ a. readable V2 (writtenBy (argumentWords (b .arguments)) is) a ≡ true) (rename H) outs
+            (λ a i.
+            let (p, j, u, v) = holder a i in
+            subst (λ (x : ℕ). readable V2 (writtenBy (argumentWords (b .arguments)) is) x ≡ true) (sym (word-place H p a (all .distinct) j u v))
+            (covers p j (a - p .value .first) (omega arith)));
+      }
+
 -- within the limits
 pub reusing-formed : (inputs : List ℕ) (b : BoardList) → Placeable inputs b → b .arguments ≤ portWordLimit → 1 ≤ length (b .outputs)
     → length (b .outputs) ≤ portWordLimit → length (b .instructions) ≤ operationLimit → reusing inputs b .words ≤ wordLimit → FormedList V2 (reusing inputs b)
 reusing-formed inputs b t la lo ho lc lw =
     let n = b .arguments in
     let is = b .instructions in
-    let outs = b .outputs in
     let ins = inputsOf inputs in
     let H = placesOf inputs b in
     let e : n ≡ widths inputs = t .arguments in
     let along : Along n ins = subst (λ (m : ℕ). Along m ins) (sym e) (inputs-along inputs) in
     let whole : AllInOne (map (λ p. p .value) ins) is = subst (λ (rs : List Range). AllInOne rs is) (sym (values-stay (inputValues 0 inputs))) (t .whole) in
     let tin = top-inputs inputs in
-    let first : Covers (argumentWords n) ins =
-    λ p i j l.
-    let below : end (p .value) ≤ n = each-in (λ q. end (q .value) ≤ n) ins (along .below) p i in
-    let same : p .place ≡ p .value .first = stays (inputValues 0 inputs) p i in
-    or-left _ _ (inside-is (record { first = 0; width = n }) (p .place + j) (omega arith) (omega arith)) in
-    let r = fitted outs (b .words) is n ins (argumentWords n) (t .fit) whole along lw first (omega arith) in
-    let all : Along (b .words) H = all-along inputs b t in
+    let r = fitted (b .outputs) (b .words) is n ins (argumentWords n) (t .fit) whole along lw (arguments-written inputs b t) (omega arith) in
     let size : length (map (renamed H) is) ≡ length is = length-map is (renamed H) in
-    let osize : length (map (rename H) outs) ≡ length outs = length-map outs (rename H) in
-    let holder : (a : ℕ) → Is a outs → (p : Placed) × Is p H × (p .value .first ≤ a) × (a < end (p .value)) =
-    λ a i.
-    let (p, j, s) = all .covers a (each-in (λ x. x < b .words) outs (t .below) a i) in
-    let (u, v) = inside-inv (p .value) a s in
-    (p, j, u, v) in
-    record {
-      arguments = la;
-      some-output = omega arith;
-      outputs = omega arith;
-      count = omega arith;
-      words = lw;
-      instructions = r .formed;
-      highest = r .highest;
-      small = each-map (λ a. a < addressLimit) (rename H) outs
-          (λ a i.
-          let (p, j, u, v) = holder a i in
-          let k = word-below H p a (all .distinct) j u v in
-          omega arith);
-      reads = each-map (λ a. readable V2 (writtenBy (argumentWords n) (map (renamed H) is)) a ≡ true) (rename H) outs
-          (λ a i.
-          let (p, j, u, v) = holder a i in
-          subst (λ (x : ℕ). readable V2 (writtenBy (argumentWords n) (map (renamed H) is)) x ≡ true) (sym (word-place H p a (all .distinct) j u v))
-          (r .covers p j (a - p .value .first) (omega arith)));
-    }
+    placed-formed inputs b t H (all-along inputs b t) (map (renamed H) is) (r .formed) (r .covers) (r .highest) la lo ho (omega arith) lw

@@ -1,9 +1,9 @@
 -- What demand 3 asks of a version of the list, and that both versions have it.
-use Prim.Native.Nat.{ℕ, _≤_}
+use Prim.Native.Nat.{_≤_}
 use mathlib.Core.Path.{_≡_, refl, _∙_}
 use mathlib.Core.List.{List, _∷_}
 use native.Mathlib.Omega.{arith}
-use lib.ListN.{length, replicate, length-replicate, length-map}
+use lib.ListN.{length, length-map}
 use Rattle.ports.specs.Ports.{widths}
 use Rattle.base.specs.Limits.{operationLimit, wordLimit}
 use Rattle.graph.specs.Graph.{Function}
@@ -13,19 +13,18 @@ use Rattle.graph.specs.Sound.{AllSound}
 use Rattle.graph.specs.Table.{Chosen}
 use Rattle.bytecode.specs.declared.Version.{Version}
 use Rattle.bytecode.specs.declared.Version.the-variants.{V1, V2}
-use Rattle.bytecode.specs.Run.{run}
 use Rattle.bytecode.specs.WellFormed.{FormedList}
 use Rattle.placement.specs.Place.{placesOf, rename, reusing, numbered}
 use Rattle.placement.specs.OneValue.{Placeable}
 use Rattle.placement.proofs.Following.{routed}
 use Rattle.lowering.specs.Compile.{boardListOf}
 use Rattle.lowering.specs.Answers.{listOf, wordsOf}
-use Rattle.lowering.proofs.Promise.{runs}
+use Rattle.lowering.proofs.Promise.{ListMeans, runs-mean}
 use Rattle.lowering.proofs.Limits.{count-of, words-of, laid, output-words, port-words, formed-list}
 use Rattle.lowering.proofs.Naming.{one-value}
 use Rattle.lowering.proofs.Routed.{follows-means}
 use Rattle.lowering.proofs.Fits.{reusing-formed}
-use Rattle.lowering.proofs.Taken.{ListMeans, Serves}
+use Rattle.lowering.proofs.Taken.{Serves}
 
 -- the list of a function in a version has a code within the limits, the counts that the function says, and the function's meaning
 pub record Lawful (v : Version) (x : Chosen) : Type 0 where
@@ -55,7 +54,7 @@ lawful V1 x sound =
       arguments = refl;
       words = words-of early f sound;
       outputs = output-words early f sound;
-      means = λ args typed m l. let r = runs early f sound args typed m l in (r .values, r .meant, r .typed, r .outputs);
+      means = runs-mean x sound;
     }
 lawful V2 x sound =
     let early = x .early in
@@ -69,9 +68,5 @@ lawful V2 x sound =
       arguments = refl;
       words = refl;
       outputs = length-map (b .outputs) (rename (placesOf (f .inputs) b)) ∙ output-words early f sound;
-      -- beside a run of version 1's list in a memory of its own
-      means = λ args typed m l.
-          let own : List ℕ = replicate (b .words) 0 in
-          let room : length own ≡ b .words = length-replicate (b .words) 0 in
-          follows-means early f sound b′ (numbered 0 (b′ .instructions)) (routed (f .inputs) b t) args typed own m (omega arith) l;
+      means = follows-means x sound b′ (numbered 0 (b′ .instructions)) (routed (f .inputs) b t);
     }

@@ -16,7 +16,8 @@ use Rattle.graph.specs.Graph.{Function}
 use Rattle.graph.specs.Types.{outputTypes}
 use Rattle.graph.specs.Sound.{AllSound}
 use Rattle.graph.specs.Meaning.{functionMeans, meaningOf}
-use Rattle.bytecode.specs.Run.{run, places, spans}
+use Rattle.graph.specs.Table.{Chosen}
+use Rattle.bytecode.specs.Run.{BoardList, run, places, spans}
 use Rattle.graph.specs.Schedule.{schedule}
 use Rattle.lowering.specs.Compile.{inlineFunction, inlined, boardListOf}
 use Rattle.bytecode.proofs.Memory.{Stand, stand-placed}
@@ -67,3 +68,15 @@ runs early f sound args typed m l =
       typed = r .typed;
       outputs = spans-words _ (o .next) (outputTypes (f .outputs)) (o .ports) (r .values) (r .typed) (r .stand);
     }
+
+-- ---- for any list of a function
+
+-- on any arguments of the right types and in any memory long enough, the list's output words are those of what the function means
+abbrev pub ListMeans : Chosen → BoardList → Type 0
+ListMeans x b =
+    (args : List Value) → Typed (x .function .inputs) args → (m : List ℕ) → b .words ≤ length m
+    → (vs : List Value) × (functionMeans (meaningOf (x .early)) (x .function) args ≡ some vs) × Typed (outputTypes (x .function .outputs)) vs
+    × (run b (allWords args) m .outputs ≡ allWords vs)
+
+pub runs-mean : (x : Chosen) → AllSound (x .function ∷ x .early) → ListMeans x (boardListOf (x .early) (x .function))
+runs-mean x sound args typed m l = let r = runs (x .early) (x .function) sound args typed m l in (r .values, r .meant, r .typed, r .outputs)

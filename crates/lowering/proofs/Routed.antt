@@ -2,26 +2,24 @@
 use Prim.Native.Nat.{ℕ, _≤_}
 use mathlib.Core.Path.{_≡_, _∙_}
 use mathlib.Core.List.{List, _∷_}
-use mathlib.Core.Option.{some}
-use lib.ListN.{length}
-use Rattle.value.specs.declared.Value.{Value}
+use native.Mathlib.Omega.{arith}
+use lib.ListN.{length, replicate, length-replicate}
 use Rattle.value.specs.Values.{allWords}
-use Rattle.value.specs.Typed.{Typed}
 use Rattle.value.proofs.Laws.{typed-widths}
-use Rattle.graph.specs.Graph.{Function}
-use Rattle.graph.specs.Types.{outputTypes}
 use Rattle.graph.specs.Sound.{AllSound}
-use Rattle.graph.specs.Meaning.{functionMeans, meaningOf}
-use Rattle.bytecode.specs.Run.{BoardList, run}
+use Rattle.graph.specs.Table.{Chosen}
+use Rattle.bytecode.specs.Run.{BoardList}
 use Rattle.bytecode.specs.Origin.{Numbered}
 use Rattle.bytecode.proofs.Origins.{Follows, same-outputs}
 use Rattle.lowering.specs.Compile.{boardListOf}
-use Rattle.lowering.proofs.Promise.{runs}
+use Rattle.lowering.proofs.Promise.{ListMeans, runs-mean}
 
-pub follows-means : (early : List Function) (f : Function) → AllSound (f ∷ early) → (b′ : BoardList) (xs : List Numbered) → Follows (boardListOf early f) b′ xs
-    → (args : List Value) → Typed (f .inputs) args → (m m′ : List ℕ) → boardListOf early f .words ≤ length m → b′ .words ≤ length m′
-    → (vs : List Value) × (functionMeans (meaningOf early) f args ≡ some vs) × Typed (outputTypes (f .outputs)) vs × (run b′ (allWords args) m′ .outputs ≡ allWords vs)
-follows-means early f sound b′ xs follows args typed m m′ l l′ =
-    let r = runs early f sound args typed m l in
-    let s = same-outputs (boardListOf early f) b′ xs follows (allWords args) m m′ (typed-widths (f .inputs) args typed) l l′ in
-    (r .values, r .meant, r .typed, s ∙ r .outputs)
+-- beside a run of version 1's list in a memory of its own
+pub follows-means : (x : Chosen) → AllSound (x .function ∷ x .early) → (b′ : BoardList) (xs : List Numbered) → Follows (boardListOf (x .early) (x .function)) b′ xs
+    → ListMeans x b′
+follows-means x sound b′ xs follows args typed m l =
+    let b = boardListOf (x .early) (x .function) in
+    let own : List ℕ = replicate (b .words) 0 in
+    let room : length own ≡ b .words = length-replicate (b .words) 0 in
+    let (vs, meant, of-types, outputs) = runs-mean x sound args typed own (omega arith) in
+    (vs, meant, of-types, same-outputs b b′ xs follows (allWords args) own m (typed-widths (x .function .inputs) args typed) (omega arith) l ∙ outputs)

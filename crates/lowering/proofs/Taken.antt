@@ -13,14 +13,13 @@ use Rattle.base.specs.Lists.{wordAt, every, Each}
 use Rattle.base.specs.Outcome.{Outcome, ok, _>>=_, _>>_, need, orElse}
 use Rattle.base.proofs.Bools.{and-both}
 use Rattle.base.proofs.Outcomes.{takes, passes, some-else}
-use Rattle.value.specs.declared.Value.{Value}
 use Rattle.value.specs.Values.{allWords, valuesOf, argumentWord}
-use Rattle.value.specs.Typed.{Typed, Finite}
+use Rattle.value.specs.Typed.{Finite}
 use Rattle.value.proofs.Laws.{values-typed, words-of-values, typed-widths, all-finite}
 use Rattle.graph.specs.Graph.{Function}
 use Rattle.graph.specs.Types.{outputTypes}
 use Rattle.graph.specs.Sound.{AllSound}
-use Rattle.graph.specs.Meaning.{functionMeans, meaningOf, graphMeans}
+use Rattle.graph.specs.Meaning.{meaningOf, graphMeans}
 use Rattle.graph.specs.Table.{Chosen, chosen}
 use Rattle.graph.proofs.Table.{chosen-means}
 use Rattle.bytecode.specs.declared.Version.{Version}
@@ -30,13 +29,7 @@ use Rattle.bytecode.specs.WellFormed.{FormedList}
 use Rattle.bytecode.specs.Answers.{Buffers, ran}
 use Rattle.bytecode.proofs.Back.{decode-encode}
 use Rattle.bytecode.proofs.Unwritten.{above-stays}
-
--- on any arguments of the right types and in any memory long enough, the list's output words are those of what the function means
-abbrev pub ListMeans : Chosen → BoardList → Type 0
-ListMeans x b =
-    (args : List Value) → Typed (x .function .inputs) args → (m : List ℕ) → b .words ≤ length m
-    → (vs : List Value) × (functionMeans (meaningOf (x .early)) (x .function) args ≡ some vs) × Typed (outputTypes (x .function .outputs)) vs
-    × (run b (allWords args) m .outputs ≡ allWords vs)
+use Rattle.lowering.proofs.Promise.{ListMeans}
 
 -- a list of a version for a function, however it was made
 pub record Serves (v : Version) (x : Chosen) (b : BoardList) : Type 0 where

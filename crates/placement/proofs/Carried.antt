@@ -23,10 +23,11 @@ use Rattle.bytecode.specs.Sequential.{nextWord, Below, AllFit}
 use Rattle.bytecode.specs.Ranges.{any, Range, end, inside, resultValue}
 use Rattle.bytecode.specs.Origin.{Origin, unwritten, result, originAt, resultWidth, made, origins, after, Reading, readings, final, Numbered, finalOf, Carries}
 use Rattle.bytecode.proofs.Sequential.{fit-up}
+use Rattle.bytecode.proofs.Readable.{is-inside}
 use Rattle.placement.specs.Live.{live}
 use Rattle.placement.specs.Place.{Placed, words, top, apart, heldAt, placed, placeAll, rename, renamed, numbered}
 use Rattle.placement.specs.OneValue.{InOneEach, AllInOne}
-use Rattle.placement.proofs.Ranges.{inside-is, inside-not, apart-inv, apart-is, apart-outside, each-fewer, is-keep, live-before, live-read, stored-outside, any-append-left, any-append-right, any-span}
+use Rattle.placement.proofs.Ranges.{inside-not, apart-inv, apart-is, apart-outside, each-fewer, is-keep, live-before, live-read, stored-outside, any-append-left, any-append-right, any-span}
 use Rattle.placement.proofs.Gaps.{gap-free}
 
 -- ---- every value has a word, and none more than a matrix
@@ -128,7 +129,7 @@ along-next next w h p e s r = record {
     pick a l true t = let (q, i, z) = r .covers a (ltb-true a next t) in (q, inr i, z)
     pick a l false t =
         let ge : next ≤ a = ltb-false a next t in
-        (p, inl refl, inside-is (p .value) a (omega arith) (omega arith))
+        (p, inl refl, is-inside (p .value) a (omega arith) (omega arith))
 
 -- the values to come are the last of the history, and the words so far keep their places
 pub place-rename : (outputs : List ℕ) (is : List Instruction) (next stop : ℕ) (h : List Placed) (a : ℕ) → AllFit next is stop → a < next
@@ -185,7 +186,7 @@ module _ (F : ℕ → Origin) where
       let one : 1 ≤ n = some-word t in
       let from : p .value .first ≤ a = subst (λ (r : Range). r .first ≤ a) (sym e) (x .from) in
       let to : a + n ≤ end (p .value) = subst (λ (r : Range). a + n ≤ end r) (sym e) (x .to) in
-      let in-p : inside (p .value) a ≡ true = inside-is (p .value) a from (omega arith) in
+      let in-p : inside (p .value) a ≡ true = is-inside (p .value) a from (omega arith) in
       let kept : Keeps o p = k p i (any-append-left (inside (p .value)) (span a n) (spans ts at) (any-span (inside (p .value)) n a one in-p)) in
       let place : rename H a ≡ p .place + (a - p .value .first) = rename-is H p a d (s p i) in-p in
       let word : (j : ℕ) → j < n → originAt o (rename H a + j) ≡ F (a + j) =
@@ -231,7 +232,7 @@ place-result outputs i is next stop h (x, f) =
     let e : i .result ≡ next = x .result in
     let w : 1 ≤ resultWidth i = legal-wide i (x .legal) in
     place-rename outputs is (nextWord next i) stop (p ∷ h) (i .result) f (omega arith)
-    ∙ rw (inside-is (resultValue i) (i .result) (omega arith) (omega arith)) (omega arith)
+    ∙ rw (is-inside (resultValue i) (i .result) (omega arith) (omega arith)) (omega arith)
 
 pub record Ends (F : ℕ → Origin) (rs : List Reading) (outputs : List ℕ) (H : List Placed) (xs : List Numbered) (o : List Origin) : Type 0 where
   pub carries : Carries rs o xs

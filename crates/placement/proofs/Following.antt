@@ -21,10 +21,11 @@ use Rattle.bytecode.specs.Ranges.{any, Range, end, inside}
 use Rattle.bytecode.specs.Origin.{Origin, Known, originAt, resultWidth, start, readings, final, Numbered, finalOf, Carries, Roomy}
 use Rattle.bytecode.proofs.Origins.{start-argument, start-length, Follows}
 use Rattle.bytecode.proofs.Sequential.{below-length, fit-up, fit-roomy, AllKnown, fit-known, all-known}
+use Rattle.bytecode.proofs.Readable.{inside-inv, is-inside}
 use Rattle.placement.specs.Live.{keep, inputValues, live}
 use Rattle.placement.specs.Place.{Placed, words, top, gap, stay, inputsOf, heldAt, placed, placeAll, rename, renamed, reusing, numbered}
 use Rattle.placement.specs.OneValue.{AllInOne, Placeable}
-use Rattle.placement.proofs.Ranges.{inside-inv, inside-is, apart-is, any-is, each-keep, is-keep, live-output}
+use Rattle.placement.proofs.Ranges.{apart-is, any-is, each-keep, is-keep, live-output}
 use Rattle.placement.proofs.Gaps.{gap-most}
 use Rattle.placement.proofs.Balanced.{inputs-top}
 use Rattle.placement.proofs.Carried.{final-keeps, Distinct, rename-is, Along, place-top, Keeps, place-along, place-result, carried}
@@ -54,7 +55,7 @@ inputs-cover (t ∷ ts) at a h l = pick (ltb a (at + width t)) refl (inputs-cove
     pick : (b : Bool) → ltb a (at + width t) ≡ b
         → (at + width t ≤ a → a < at + width t + widths ts → (p : Placed) × Is p (map stay (inputValues (at + width t) ts)) × (inside (p .value) a ≡ true))
         → (p : Placed) × Is p (map stay (inputValues at (t ∷ ts))) × (inside (p .value) a ≡ true)
-    pick true e g = (stay (record { first = at; width = width t }), inl refl, inside-is _ a h (ltb-true a (at + width t) e))
+    pick true e g = (stay (record { first = at; width = width t }), inl refl, is-inside _ a h (ltb-true a (at + width t) e))
     pick false e g = let (p, i, x) = g (ltb-false a (at + width t) e) (omega arith) in (p, inr i, x)
 
 pub inputs-along : (ts : List ℕ) → Along (widths ts) (map stay (inputValues 0 ts))

@@ -12,10 +12,11 @@ use Rattle.base.specs.Lists.{Each, Is}
 use Rattle.base.proofs.Bools.{never, and-both}
 use Rattle.base.proofs.Lists.{each-on}
 use Rattle.bytecode.specs.Ranges.{Range, end, inside}
+use Rattle.bytecode.proofs.Readable.{is-inside}
 use Rattle.placement.specs.Live.{keep}
 use Rattle.placement.specs.Place.{Placed, words, top, apart, isGap, gap}
 use Rattle.placement.specs.Record.{Lowest, covered}
-use Rattle.placement.proofs.Ranges.{inside-is, inside-not, apart-outside, any-none}
+use Rattle.placement.proofs.Ranges.{inside-not, apart-outside, any-none}
 use Rattle.placement.proofs.Gaps.{Free, gap-each, gap-is}
 
 -- ---- words of kept values
@@ -67,7 +68,7 @@ each-snoc P p (o ∷ ps) (x, (y, h)) = (y, each-snoc P p ps (x, h))
 gap-uncovered : (ps : List Placed) (n at : ℕ) → Free ps n at → (j : ℕ) → j < n → covered ps (at + j) ≡ false
 gap-uncovered ps n at f j l =
     let r : Range = record { first = at; width = n } in
-    let here : inside r (at + j) ≡ true = inside-is r (at + j) (omega arith) (omega arith) in
+    let here : inside r (at + j) ≡ true = is-inside r (at + j) (omega arith) (omega arith) in
     any-none (λ p. inside (words p) (at + j)) ps (each-on (λ p. apart r (words p) ≡ true) _ (λ p e. apart-outside r (words p) (at + j) e here) ps f)
 
 -- words that belong to none are a gap
@@ -93,7 +94,7 @@ uncovered-gap (p ∷ ps) n at l (w, ws) h =
         let b : at < end (words p) = leb-false (end (words p)) at f in
         let j = max at (p .place) - at in
         never
-        (sym (left (inside (words p) (at + j)) (covered ps (at + j)) (h j (omega arith))) ∙ inside-is (words p) (at + j) (omega arith) (omega arith))
+        (sym (left (inside (words p) (at + j)) (covered ps (at + j)) (h j (omega arith))) ∙ is-inside (words p) (at + j) (omega arith) (omega arith))
 
 -- the record has just the words of these values, and the words from `high` on are free
 pub lowest-is : (k : ℕ) (until : List ℕ) (high n at : ℕ) (ps : List Placed) → ((a : ℕ) → ltb k (getD until a 0) ≡ covered ps a)

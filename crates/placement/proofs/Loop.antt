@@ -15,9 +15,10 @@ use Rattle.placement.specs.Place.{Placed}
 use Rattle.placement.specs.Balance.{historyOf, Balanced}
 use Rattle.placement.specs.Arrays.{Wide, Widths, Lasting}
 use Rattle.placement.specs.Record.{Bounds, Placing, Rest, Kept, Begun, Placement, boundLimit}
+use Rattle.placement.proofs.Ranges.{all-zero}
 use Rattle.placement.proofs.Values.{firstInputs, inputs-all}
 use Rattle.placement.proofs.Scan.{bounds-start}
-use Rattle.placement.proofs.Steps.{rest-next, all-zero, inputs-start, inputs-step, result-step, result-balanced, result-over, results-end}
+use Rattle.placement.proofs.Steps.{rest-next, inputs-start, inputs-step, result-step, result-balanced, result-over, results-end}
 
 -- ---- the inputs
 

@@ -21,11 +21,12 @@ use Rattle.base.proofs.Lists.{span-each}
 use Rattle.bytecode.specs.Run.{Instruction, BoardList, spans}
 use Rattle.bytecode.specs.Sequential.{nextWord, AllFit}
 use Rattle.bytecode.specs.Ranges.{any, Range, end, inside, resultValue}
+use Rattle.bytecode.proofs.Readable.{is-inside}
 use Rattle.placement.specs.Live.{inputValues, readBy, lastRead}
 use Rattle.placement.specs.OneValue.{Placeable}
 use Rattle.placement.specs.Balance.{blank, instructionAt}
 use Rattle.placement.specs.Arrays.{nothing, valuesOf, valueAt, Named, among, Noted, Lasting, Stored}
-use Rattle.placement.proofs.Ranges.{inside-is, inside-not, any-append, any-span, any-none}
+use Rattle.placement.proofs.Ranges.{inside-not, any-append, any-span, any-none, all-zero}
 use Rattle.placement.proofs.LastRead.{live-last, last-next}
 use Rattle.placement.proofs.Carried.{some-word}
 use Rattle.placement.proofs.Values.{values-length}
@@ -104,7 +105,7 @@ module _ (value : ℕ → Range) (count : ℕ) (up : (u v : ℕ) → u < v → v
           let one = some-word t in
           let s : v ≡ u = eqb-true v u e in
           subst (λ (x : ℕ). any (inside (value x)) (span a (width t)) ≡ true) s
-          (any-span (inside (value v)) (width t) a one (inside-is (value v) a lo (omega arith)))
+          (any-span (inside (value v)) (width t) a one (is-inside (value v) a lo (omega arith)))
       pick false true e f =
           let h = up u v (ltb-true u v f) lv in
           any-none (inside (value u)) (span a (width t)) (span-each (λ x. inside (value u) x ≡ false) (width t) a (λ j l. inside-not (value u) (a + j) (inr (omega arith))))
@@ -126,12 +127,7 @@ module _ (value : ℕ → Range) (count : ℕ) (up : (u v : ℕ) → u < v → v
 -- ---- instruction by instruction
 
 pub noted-start : (size m : ℕ) (inputs : List ℕ) (b : BoardList) → Noted (replicate size 0) m inputs b 0
-noted-start size m inputs b v l = none v size
-  where
-    none : (a n : ℕ) → _≡_ {A = ℕ} (getD (replicate n 0) a 0) 0
-    none a zero = refl
-    none zero (suc n) = refl
-    none (suc a) (suc n) = none a n
+noted-start size m inputs b v l = all-zero v size
 
 module _ (m : ℕ) (inputs : List ℕ) (b : BoardList) (t : Placeable inputs b) (before : length inputs ≡ m) (few : m + length (b .instructions) ≤ placedLimit)
     (last last′ vs : List ℕ) (size : length last ≡ placedLimit) where

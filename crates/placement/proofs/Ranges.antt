@@ -8,22 +8,17 @@ use native.Mathlib.Omega.{arith}
 use lib.Dec.{leb, ltb}
 use lib.ListN.{length, getD, replicate, length-replicate, getD-replicate}
 use lib.Seq.{sets}
-use borrow.Author.Tests.{leb-true, ltb-true, ltb-false, le-leb, lt-ltb, lt-leb, le-ltb}
+use borrow.Author.Tests.{leb-true, ltb-true, ltb-false, le-leb, lt-leb, le-ltb}
 use Rattle.base.specs.Lists.{span, Each, Is}
-use Rattle.base.proofs.Bools.{never, or-inv, or-left, or-right, and-inv, and-both, and-false}
+use Rattle.base.proofs.Bools.{never, or-inv, or-left, or-right, and-false}
 use Rattle.base.proofs.Stores.{stored-below, stored-above, stored-in}
 use Rattle.bytecode.specs.Run.{Instruction}
 use Rattle.bytecode.specs.Ranges.{any, Range, end, inside}
+use Rattle.bytecode.proofs.Readable.{inside-inv, is-inside}
 use Rattle.placement.specs.Live.{keep, readBy, live}
 use Rattle.placement.specs.Place.{apart}
 
 -- ---- words of a range
-
-pub inside-inv : (r : Range) (a : ℕ) → inside r a ≡ true → (r .first ≤ a) × (a < end r)
-inside-inv r a e = let (p, q) = and-inv (leb (r .first) a) (ltb a (end r)) e in (leb-true _ _ p, ltb-true _ _ q)
-
-pub inside-is : (r : Range) (a : ℕ) → r .first ≤ a → a < end r → inside r a ≡ true
-inside-is r a p q = and-both _ _ (le-leb _ _ p) (lt-ltb _ _ q)
 
 pub inside-not : (r : Range) (a : ℕ) → (a < r .first) ⊎ (end r ≤ a) → inside r a ≡ false
 inside-not r a (inl p) = rw (lt-leb (r .first) a p) refl
@@ -160,7 +155,7 @@ module _ {A : Type 0} (d : A) where
           ap (λ (x : ℕ). getD (sets m (r .first) (replicate (r .width) b)) x d) e
           ∙ stored-in d (replicate (r .width) b) m (r .first) j (omega (arith, size)) (omega (arith, size))
           ∙ getD-replicate (r .width) j b d l
-          ∙ ap (λ (x : Bool). cond x b (getD m i d)) (sym (inside-is r i (omega arith) (omega arith)))
+          ∙ ap (λ (x : Bool). cond x b (getD m i d)) (sym (is-inside r i (omega arith) (omega arith)))
 
       pick : (x y : Bool) → ltb i (r .first) ≡ x → ltb i (end r) ≡ y → getD (sets m (r .first) (replicate (r .width) b)) i d ≡ cond (inside r i) b (getD m i d)
       pick true y p q = outside (inl (ltb-true _ _ p))
@@ -169,3 +164,9 @@ module _ {A : Type 0} (d : A) where
           let lt : i < end r = ltb-true _ _ q in
           within (i - r .first) (omega arith) (omega arith)
       pick false false p q = outside (inr (ltb-false _ _ q))
+
+-- a record that nothing was stored in
+pub all-zero : (a n : ℕ) → _≡_ {A = ℕ} (getD (replicate n 0) a 0) 0
+all-zero a zero = refl
+all-zero zero (suc n) = refl
+all-zero (suc a) (suc n) = all-zero a n

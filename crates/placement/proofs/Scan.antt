@@ -14,8 +14,9 @@ use lib.Seq.{sets, getD-set-same, getD-set-other}
 use borrow.Author.Tests.{ltb-true, ltb-false, eqb-true, eqb-false}
 use Rattle.base.specs.Limits.{wordLimit, valueLimit}
 use Rattle.bytecode.specs.Ranges.{inside}
+use Rattle.bytecode.proofs.Readable.{inside-inv}
 use Rattle.placement.specs.Record.{Stopped, Lowest, Bounds, blockWords, blocks, boundLimit}
-use Rattle.placement.proofs.Ranges.{inside-inv, inside-not, stored-run}
+use Rattle.placement.proofs.Ranges.{inside-not, stored-run, all-zero}
 
 -- ---- word by word
 
@@ -179,12 +180,7 @@ blocks-end until k n high block passed l =
     record { after = omega arith; most = omega arith; vacant = λ a p q r. absurd (omega arith); lower = λ c p q. passed c (omega arith) }
 
 pub bounds-start : (until : List ℕ) (high : ℕ) → ((a : ℕ) → high ≤ a → getD until a 0 ≡ 0) → Bounds until (replicate boundLimit 0) high
-bounds-start until high fresh = record { size = length-replicate {A = ℕ} boundLimit 0; fresh = fresh; none = λ i c li p q. (c, omega arith, omega arith, all-zero i boundLimit (getD until c 0)) }
-  where
-    all-zero : (i m x : ℕ) → getD (replicate m 0) i 0 ≤ x
-    all-zero i zero x = omega arith
-    all-zero zero (suc m) x = omega arith
-    all-zero (suc i) (suc m) x = all-zero i m x
+bounds-start until high fresh = record { size = length-replicate {A = ℕ} boundLimit 0; fresh = fresh; none = λ i c li p q. (c, omega arith, omega arith, let z = all-zero i boundLimit in omega arith) }
 
 -- ---- stores
 

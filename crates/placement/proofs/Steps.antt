@@ -1,6 +1,6 @@
 -- One more value placed: the record then has its words while it is held, and the values placed so far keep their words and places. For
 -- a result the place is the definition's gap, and the record is balanced at its instruction.
-use Prim.Native.Nat.{ℕ, zero, suc, _+_, _≤_, _<_, max}
+use Prim.Native.Nat.{ℕ, suc, _+_, _≤_, _<_, max}
 use mathlib.Core.Path.{_≡_, refl, ap, ap₂, sym, _∙_, subst}
 use mathlib.Core.Bool.{Bool, true, false, not, _||_, cond}
 use mathlib.Core.List.{List, [], _∷_, _++_}
@@ -17,13 +17,14 @@ use Rattle.base.specs.Lists.{Each, Is}
 use Rattle.base.proofs.Lists.{each-on}
 use Rattle.bytecode.specs.Run.{Instruction, BoardList}
 use Rattle.bytecode.specs.Ranges.{Range, end, inside, resultValue}
+use Rattle.bytecode.proofs.Readable.{inside-inv}
 use Rattle.placement.specs.declared.Extent.the-variants.{Words, Over}
 use Rattle.placement.specs.Live.{live}
 use Rattle.placement.specs.Place.{Placed, words, top, gap, heldAt, placed}
 use Rattle.placement.specs.Balance.{blank, instructionAt, historyOf, earlier, heldDuring, Apart, free, Balanced}
 use Rattle.placement.specs.Arrays.{valueAt, Widths, Lasting}
 use Rattle.placement.specs.Record.{Lowest, covered, Marked, PlacedAt, Kept, Rest, Placement}
-use Rattle.placement.proofs.Ranges.{inside-inv, each-keep, stored-run}
+use Rattle.placement.proofs.Ranges.{each-keep, stored-run, all-zero}
 use Rattle.placement.proofs.Carried.{some-word}
 use Rattle.placement.proofs.Balanced.{placed-apart, earlier-apart, inputs-top, tops, balanced-record}
 use Rattle.placement.proofs.Values.{value-input, firstInputs, inputs-next, value-result, history-next, history-up}
@@ -113,11 +114,6 @@ above-free inputs b until place high count from ps k n a l =
     (k .marks from a (omega arith) n ∙ covered-above (λ q. live (drop from (b .instructions)) (b .outputs) (q .value)) ps a (omega arith))
 
 -- ---- the inputs
-
-pub all-zero : (a n : ℕ) → _≡_ {A = ℕ} (getD (replicate n 0) a 0) 0
-all-zero a zero = refl
-all-zero zero (suc n) = refl
-all-zero (suc a) (suc n) = all-zero a n
 
 pub inputs-start : (inputs : List ℕ) (b : BoardList) (place : List ℕ) → Kept (replicate wordLimit 0) place 0 0 0 (firstInputs inputs 0) inputs b
 inputs-start inputs b place = record {

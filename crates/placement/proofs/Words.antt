@@ -15,13 +15,14 @@ use Rattle.base.proofs.Lists.{each-in, each-append, span-each}
 use Rattle.bytecode.specs.Run.{Instruction, BoardList, spans}
 use Rattle.bytecode.specs.Sequential.{nextWord, AllFit}
 use Rattle.bytecode.specs.Ranges.{any, Range, end, inside}
+use Rattle.bytecode.proofs.Readable.{is-inside}
 use Rattle.placement.specs.declared.Extent.{Extent}
 use Rattle.placement.specs.Place.{Placed, words, top, inputsOf, placesOf, rename, reusing}
 use Rattle.placement.specs.OneValue.{InOneEach, Placeable}
 use Rattle.placement.specs.Balance.{blank, instructionAt, historyOf}
 use Rattle.placement.specs.Arrays.{valueAt, Wide, Widths}
 use Rattle.placement.specs.Record.{extentOf, PlacedAt, Placement}
-use Rattle.placement.proofs.Ranges.{inside-is, any-append-left, any-append-right, any-span}
+use Rattle.placement.proofs.Ranges.{any-append-left, any-append-right, any-span}
 use Rattle.placement.proofs.Balanced.{tops}
 use Rattle.placement.proofs.Carried.{width-bounds, some-word, legal-bounds, Distinct, rename-is, Along, place-along, is-value}
 use Rattle.placement.proofs.Following.{inputs-along}
@@ -35,7 +36,7 @@ all-along inputs b t =
 
 pub word-place : (H : List Placed) (p : Placed) (a : ℕ) → Distinct H → Is p H → p .value .first ≤ a → a < end (p .value)
     → rename H a ≡ p .place + (a - p .value .first)
-word-place H p a d i lo hi = rename-is H p a d i (inside-is (p .value) a lo hi)
+word-place H p a d i lo hi = rename-is H p a d i (is-inside (p .value) a lo hi)
 
 -- it is a word below the highest
 pub word-below : (H : List Placed) (p : Placed) (a : ℕ) → Distinct H → Is p H → p .value .first ≤ a → a < end (p .value) → rename H a < top H
@@ -73,7 +74,7 @@ module _ (H : List Placed) (distinct : Distinct H) where
       let from : p .value .first ≤ a = subst (λ (r : Range). r .first ≤ a) (sym e) (x .from) in
       let to : a + n ≤ end (p .value) = subst (λ (r : Range). a + n ≤ end r) (sym e) (x .to) in
       let place : rename H a ≡ p .place + (a - p .value .first) = word-place H p a distinct (s p i) from (omega arith) in
-      let in-p : inside (p .value) a ≡ true = inside-is (p .value) a from (omega arith) in
+      let in-p : inside (p .value) a ≡ true = is-inside (p .value) a from (omega arith) in
       let all = c p i (any-append-left (inside (p .value)) (span a n) (spans ts at) (any-span (inside (p .value)) n a one in-p)) in
       each-append P (span (rename H a) n) (spans ts (map (rename H) at))
       (span-each P n (rename H a)

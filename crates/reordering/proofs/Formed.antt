@@ -8,24 +8,22 @@ use mathlib.Core.Logic.{inl, inr}
 use native.Mathlib.Omega.{arith}
 use lib.ListN.{length, length-map}
 use Rattle.ports.specs.Kinds.{kindOf}
-use Rattle.ports.specs.Ports.{widths, takes}
+use Rattle.ports.specs.Ports.{takes}
 use Rattle.base.specs.Limits.{operationLimit, wordLimit, portWordLimit, addressLimit}
 use Rattle.base.specs.Lists.{Each, Is}
 use Rattle.base.proofs.Bools.{or-left, or-right}
-use Rattle.base.proofs.Lists.{each-in, each-less, each-map}
+use Rattle.base.proofs.Lists.{each-in, each-less}
 use Rattle.bytecode.specs.declared.Version.the-variants.{V2}
 use Rattle.bytecode.specs.Run.{Instruction, BoardList}
 use Rattle.bytecode.specs.Code.{readable, argumentWords}
 use Rattle.bytecode.specs.Ranges.{Range, end, inside, behind, resultValue}
 use Rattle.bytecode.specs.WellFormed.{writtenBy, AllFormed, FormedList}
-use Rattle.bytecode.proofs.Readable.{readable-behind}
-use Rattle.placement.specs.Live.{inputValues}
-use Rattle.placement.specs.Place.{Placed, words, top, inputsOf, rename, renamed}
+use Rattle.bytecode.proofs.Readable.{readable-behind, is-inside}
+use Rattle.placement.specs.Place.{Placed, words, top, rename, renamed}
 use Rattle.placement.specs.OneValue.{Placeable}
 use Rattle.placement.specs.Balance.{instructionAt}
-use Rattle.placement.proofs.Ranges.{inside-inv, inside-is}
-use Rattle.placement.proofs.Following.{inputs-along, stays}
-use Rattle.placement.proofs.Words.{word-place, word-below, operands-below, operands-each}
+use Rattle.placement.proofs.Words.{operands-below, operands-each}
+use Rattle.lowering.proofs.Fits.{Written, arguments-written, placed-formed}
 use Rattle.reordering.specs.Reorder.{Routing, reordered, Respects}
 use Rattle.reordering.proofs.Numbers.{few}
 use Rattle.reordering.proofs.Ready.{H, all-along, arguments-in, below-top, some-words, moved, operand-count, all-wide, none-ready, read-ready, all-ready, Holding, holding-next}
@@ -36,10 +34,6 @@ top-most (p ∷ ps) n h =
     let a : end (words p) ≤ n = h p (inl refl) in
     let c : top ps ≤ n = top-most ps n (λ q i. h q (inr i)) in
     omega arith
-
--- every word of a value is written
-abbrev Written : List Range → Placed → Type 0
-Written written p = (j : ℕ) → j < p .value .width → readable V2 written (p .place + j) ≡ true
 
 module _ (inputs : List ℕ) (b : BoardList) (t : Placeable inputs b) (r : Routing) (s : Respects inputs b r) where
   abbrev places : List Placed
@@ -59,7 +53,7 @@ module _ (inputs : List ℕ) (b : BoardList) (t : Placeable inputs b) (r : Routi
       let place = m .place in
       holding-next inputs b t r s (Written written) (Written (resultValue (moved-to k) ∷ written)) before k m h
       (λ q a g j lt. or-right (inside (resultValue (moved-to k)) (q .place + j)) _ (g j lt))
-      (λ j lt. or-left _ _ (inside-is (resultValue (moved-to k)) (m .value .place + j) (omega arith) (omega arith)))
+      (λ j lt. or-left _ _ (is-inside (resultValue (moved-to k)) (m .value .place + j) (omega arith) (omega arith)))
 
   record Fitted (rest : List ℕ) (written : List Range) : Type 0 where
     formed : AllFormed V2 written (map moved-to rest)
@@ -101,23 +95,16 @@ module _ (inputs : List ℕ) (b : BoardList) (t : Placeable inputs b) (r : Routi
         most = more .most;
       }
 
-  -- arguments are written before the first instruction
-  arguments-written : Holding inputs b t r s (Written (argumentWords (b .arguments))) []
-  arguments-written p i ready j lt =
-      let n = b .arguments in
-      let e = t .arguments in
-      let k = none-ready inputs b t r s p ready in
-      let low : end (p .value) ≤ widths inputs = each-in (λ q. end (q .value) ≤ widths inputs) (inputsOf inputs) (inputs-along inputs .below) p k in
-      let same : p .place ≡ p .value .first = stays (inputValues 0 inputs) p k in
-      or-left _ _ (inside-is (record { first = 0; width = n }) (p .place + j) (omega arith) (omega arith))
-
   -- where version 1's counts are within the limits
   pub reordered-formed : b .arguments ≤ portWordLimit → 1 ≤ length (b .outputs) → length (b .outputs) ≤ portWordLimit → length (b .instructions) ≤ operationLimit
       → FormedList V2 (reordered inputs b r)
   reordered-formed la lo ho lc =
-      let f = fitted (r .order) [] (argumentWords (b .arguments)) refl (s .within) (omega (arith, arguments-in inputs b t r s)) arguments-written in
+      let f =
+      fitted (r .order) [] (argumentWords (b .arguments)) refl (s .within) (omega (arith, arguments-in inputs b t r s))
+      (λ p i ready. arguments-written inputs b t p (none-ready inputs b t r s p ready)) in
       let last = writtenBy (argumentWords (b .arguments)) (map moved-to (r .order)) in
       let written : (p : Placed) → Is p places → Written last p = λ p i. f .all p i (all-ready inputs b t r s p i) in
+      -- the last word of each value is written
       let least : top places ≤ behind last =
       top-most places (behind last)
       (λ p i.
@@ -127,30 +114,4 @@ module _ (inputs : List ℕ) (b : BoardList) (t : Placeable inputs b) (r : Routi
       let most = f .most in
       let size : length (map moved-to (r .order)) ≡ length (r .order) = length-map (r .order) moved-to in
       let some = few (length (b .instructions)) (r .order) (s .within) (s .once) in
-      let outs = b .outputs in
-      let osize : length (map (rename places) outs) ≡ length outs = length-map outs (rename places) in
-      let all = all-along inputs b t r s in
-      let limit = within-words in
-      let holder : (a : ℕ) → Is a outs → (p : Placed) × Is p places × (p .value .first ≤ a) × (a < end (p .value)) =
-      λ a i.
-      let (p, j, z) = all .covers a (each-in (λ x. x < b .words) outs (t .below) a i) in
-      let (u, v) = inside-inv (p .value) a z in
-      (p, j, u, v) in
-      record {
-        arguments = la;
-        some-output = omega arith;
-        outputs = omega arith;
-        count = omega arith;
-        words = within-words;
-        instructions = f .formed;
-        highest = omega arith;
-        small = each-map (λ a. a < addressLimit) (rename places) outs
-            (λ a i.
-            let (p, j, u, v) = holder a i in
-            let k = word-below places p a (all .distinct) j u v in
-            omega arith);
-        reads = each-map (λ a. readable V2 last a ≡ true) (rename places) outs
-            (λ a i.
-            let (p, j, u, v) = holder a i in
-            subst (λ (x : ℕ). readable V2 last x ≡ true) (sym (word-place places p a (all .distinct) j u v)) (written p j (a - p .value .first) (omega arith)));
-      }
+      placed-formed inputs b t places (all-along inputs b t r s) (map moved-to (r .order)) (f .formed) written (omega arith) la lo ho (omega arith) within-words

@@ -16,11 +16,12 @@ use Rattle.bytecode.specs.Sequential.{Fit}
 use Rattle.bytecode.specs.Ranges.{Range, end, resultValue}
 use Rattle.bytecode.specs.Origin.{resultWidth}
 use Rattle.bytecode.proofs.Sequential.{below-length}
+use Rattle.bytecode.proofs.Readable.{is-inside}
 use Rattle.placement.specs.Live.{inputValues, readBy}
 use Rattle.placement.specs.Place.{Placed, words, top, apart, inputsOf, rename}
 use Rattle.placement.specs.OneValue.{AllInOne, Placeable}
 use Rattle.placement.specs.Balance.{instructionAt}
-use Rattle.placement.proofs.Ranges.{inside-is, apart-inv}
+use Rattle.placement.proofs.Ranges.{apart-inv}
 use Rattle.placement.proofs.Balanced.{tops}
 use Rattle.placement.proofs.Carried.{legal-wide, Along, rename-is}
 use Rattle.placement.proofs.Following.{inputs-along, values-stay, top-inputs}
@@ -77,7 +78,7 @@ module _ (inputs : List ℕ) (b : BoardList) (t : Placeable inputs b) (r : Routi
       let one : 1 ≤ resultWidth i = legal-wide i (fit .legal) in
       let wide = ap (λ (x : Range). x .width) e in
       let first : p .value .first ≡ i .result = ap (λ (x : Range). x .first) e in
-      let named = rename-is H p (i .result) (all-along .distinct) is (inside-is (p .value) (i .result) (omega arith) (omega arith)) in
+      let named = rename-is H p (i .result) (all-along .distinct) is (is-inside (p .value) (i .result) (omega arith) (omega arith)) in
       record {
         value = p;
         is = is;

@@ -4,7 +4,7 @@ use mathlib.Core.Path.{_≡_, refl, ap, ap₂, sym, _∙_, subst}
 use mathlib.Core.Option.{some}
 use mathlib.Core.List.{List, _∷_, map, reverse}
 use native.Mathlib.Omega.{arith}
-use lib.ListN.{length, replicate, length-replicate, length-map}
+use lib.ListN.{length, length-map}
 use lib.Seq.{sets}
 use Rattle.ports.specs.Ports.{widths}
 use Rattle.base.specs.Limits.{operationLimit}
@@ -48,11 +48,7 @@ reordered-serves x r accepted operations s =
       formed = reordered-formed (f .inputs) b t r s la lo ho (let n = count-of early f accepted in omega arith);
       arguments = refl;
       outputs = length-map (b .outputs) (rename (routedPlaces (f .inputs) b r)) ∙ output-words early f accepted;
-      -- beside a run of version 1's list in a memory of its own
-      means = λ args typed m l.
-          let own : List ℕ = replicate (b .words) 0 in
-          let room : length own ≡ b .words = length-replicate (b .words) 0 in
-          follows-means early f accepted (listBy x r) (map (numberedBy (f .inputs) b t r s) (r .order)) (reordered-follows (f .inputs) b t r s) args typed own m (omega arith) l;
+      means = follows-means x accepted (listBy x r) (map (numberedBy (f .inputs) b t r s) (r .order)) (reordered-follows (f .inputs) b t r s);
     }
 
 -- version 1's code, in any work buffer long enough, gives the words that the graph means
