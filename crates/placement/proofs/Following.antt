@@ -128,9 +128,9 @@ pub map-same : (f : ℕ → Origin) (g : ℕ → ℕ) (F : ℕ → Origin) (xs :
 map-same f g F [] h = refl
 map-same f g F (x ∷ xs) h = ap₂ (λ (u : Origin) (us : List Origin). u ∷ us) (h x (inl refl)) (map-same f g F xs (λ a i. h a (inr i)))
 
-each-of : {A : Type 0} (P : A → Type 0) (xs : List A) → ((x : A) → Is x xs → P x) → Each P xs
-each-of P [] h = tt
-each-of P (x ∷ xs) h = (h x (inl refl), each-of P xs (λ y i. h y (inr i)))
+pub each-by : {A : Type 0} (P : A → Type 0) (xs : List A) → ((x : A) → Is x xs → P x) → Each P xs
+each-by P [] h = tt
+each-by P (x ∷ xs) h = (h x (inl refl), each-by P xs (λ y i. h y (inr i)))
 
 -- ---- beside the list that it was placed from
 
@@ -212,7 +212,7 @@ routed inputs b t =
     let zero-add : (j : ℕ) → 0 + j ≡ j = λ j. omega arith in
     let ends =
     carried outs (readings 0 is o) (b .words) is 0 n ins o o′ (t .fit) whole along (omega (arith, start-length n (b .words) up))
-    (omega (arith, start-length n (top H) within)) (each-keep (Keeps F o′) (λ p. live is outs (p .value)) ins (each-of (Keeps F o′) ins (inputs-kept inputs b t (top H))))
+    (omega (arith, start-length n (top H) within)) (each-keep (Keeps F o′) (λ p. live is outs (p .value)) ins (each-by (Keeps F o′) ins (inputs-kept inputs b t (top H))))
     (λ j. ap (getElem? (readings 0 is o)) (zero-add j)) in
     let xs = numbered 0 (map (renamed H) is) in
     follows-placed inputs b t H (place-along outs is n (b .words) ins (t .fit) along) within (map (renamed H) is) xs (numbered-instructions 0 (map (renamed H) is))

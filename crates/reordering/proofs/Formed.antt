@@ -28,7 +28,7 @@ use Rattle.reordering.specs.Reorder.{Routing, reordered, Respects}
 use Rattle.reordering.proofs.Numbers.{few}
 use Rattle.reordering.proofs.Ready.{H, all-along, arguments-in, below-top, some-words, moved, operand-count, all-wide, none-ready, read-ready, all-ready, Holding, holding-next}
 
-top-most : (ps : List Placed) (n : ℕ) → ((p : Placed) → Is p ps → end (words p) ≤ n) → top ps ≤ n
+pub top-most : (ps : List Placed) (n : ℕ) → ((p : Placed) → Is p ps → end (words p) ≤ n) → top ps ≤ n
 top-most [] n h = omega arith
 top-most (p ∷ ps) n h =
     let a : end (words p) ≤ n = h p (inl refl) in

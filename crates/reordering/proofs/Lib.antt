@@ -3,5 +3,6 @@ pub mod Places
 pub mod Ready
 pub mod Carried
 pub mod Formed
+pub mod Own
 pub mod Whole
 pub mod Witness

@@ -34,6 +34,7 @@ use Rattle.reordering.specs.Reorder.{Routing, routedPlaces, Respects}
 use Rattle.reordering.specs.AnyOrder.{listBy, AnyOrder}
 use Rattle.reordering.proofs.Carried.{numberedBy, reordered-follows}
 use Rattle.reordering.proofs.Formed.{reordered-formed}
+use Rattle.reordering.proofs.Own.{ownRouting, own-respects, own-list}
 
 -- the router's list of an accepted function
 pub reordered-serves : (x : Chosen) (r : Routing) → AllSound (x .function ∷ x .early) → functionOperations (operationsOf (x .early)) (x .function) ≤ operationLimit
@@ -50,6 +51,17 @@ reordered-serves x r accepted operations s =
       outputs = length-map (b .outputs) (rename (routedPlaces (f .inputs) b r)) ∙ output-words early f accepted;
       means = follows-means x accepted (listBy x r) (map (numberedBy (f .inputs) b t r s) (r .order)) (reordered-follows (f .inputs) b t r s);
     }
+
+-- every function within the limits has such an order: version 1's own, with its own words, and the list written from it is version 1's
+pub own-order : (s : List ℕ) (c : ℕ) (functions : List Function) (x : Chosen) → Within s c 1 functions V1 x
+    → Respects (x .function .inputs) (listOf V1 x) (ownRouting (listOf V1 x)) × (listBy x (ownRouting (listOf V1 x)) ≡ listOf V1 x)
+own-order s c functions x w =
+    let f = x .function in
+    let b = listOf V1 x in
+    let t = placeable (x .early) f (sound s c 1 functions V1 x w) in
+    let size : b .words ≡ wordsOf V1 x = laws s c 1 functions V1 x w .words in
+    let limit = w .words in
+    (own-respects (f .inputs) b t (omega arith), own-list (f .inputs) b t)
 
 -- version 1's code, in any work buffer long enough, gives the words that the graph means
 version-1-gives :
