@@ -35,7 +35,12 @@ pub fn grey(field: f64) -> u8 {
 
 /// The greys of the layer at this height, `size` points along each side, the highest y first. `done` is told the
 /// points that are done after each call.
-pub fn layer(table: &[u8], height: f64, size: usize, mut done: impl FnMut(usize)) -> Result<Vec<u8>, String> {
+pub fn layer(
+    table: &[u8],
+    height: f64,
+    size: usize,
+    mut done: impl FnMut(usize),
+) -> Result<Vec<u8>, String> {
     let mut code = vec![0; 73_996];
     let length = quetlapin::compile(table, PART, &mut code).map_err(words)?;
     let code = &code[..length];
@@ -60,11 +65,18 @@ pub fn layer(table: &[u8], height: f64, size: usize, mut done: impl FnMut(usize)
             point[0] = at((from + i) % size);
             point[1] = at(size - 1 - (from + i) / size);
         }
-        let written = quetlapin::run_points(code, count as u64, arguments, &mut work, &mut out).map_err(words)?;
+        let written = quetlapin::run_points(code, count as u64, arguments, &mut work, &mut out)
+            .map_err(words)?;
         if written != count * OUTPUT_WORDS {
-            return Err(format!("function {PART} gives other outputs than a field and a fluid"));
+            return Err(format!(
+                "function {PART} gives other outputs than a field and a fluid"
+            ));
         }
-        greys.extend(out[..written].chunks(OUTPUT_WORDS).map(|words| grey(f64::from_bits(words[0]))));
+        greys.extend(
+            out[..written]
+                .chunks(OUTPUT_WORDS)
+                .map(|words| grey(f64::from_bits(words[0]))),
+        );
         done(greys.len());
     }
     Ok(greys)

@@ -17,7 +17,11 @@ pub struct Bar {
 
 impl Bar {
     pub fn new() -> Bar {
-        Bar { wanted: stderr().is_terminal(), next: Instant::now() + PATIENCE, drawn: 0 }
+        Bar {
+            wanted: stderr().is_terminal(),
+            next: Instant::now() + PATIENCE,
+            drawn: 0,
+        }
     }
 
     pub fn show(&mut self, done: usize, all: usize) {

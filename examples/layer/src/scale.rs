@@ -14,9 +14,13 @@ fn sign(letter: char) -> [&'static str; 7] {
         '0' => [" ## ", "#  #", "#  #", "#  #", "#  #", "#  #", " ## "],
         '1' => [" # ", "## ", " # ", " # ", " # ", " # ", "###"],
         '2' => [" ## ", "#  #", "   #", "  # ", " #  ", "#   ", "####"],
-        '+' => ["     ", "  #  ", "  #  ", "#####", "  #  ", "  #  ", "     "],
+        '+' => [
+            "     ", "  #  ", "  #  ", "#####", "  #  ", "  #  ", "     ",
+        ],
         '-' => ["    ", "    ", "    ", "####", "    ", "    ", "    "],
-        'm' => ["     ", "     ", "## # ", "# # #", "# # #", "# # #", "# # #"],
+        'm' => [
+            "     ", "     ", "## # ", "# # #", "# # #", "# # #", "# # #",
+        ],
         _ => ["  "; 7],
     }
 }
@@ -42,7 +46,13 @@ impl Strip {
         for letter in text.chars() {
             for (row, line) in sign(letter).iter().enumerate() {
                 for (column, _) in line.match_indices('#') {
-                    self.fill(x + column * self.dot, y + row * self.dot, self.dot, self.dot, INK);
+                    self.fill(
+                        x + column * self.dot,
+                        y + row * self.dot,
+                        self.dot,
+                        self.dot,
+                        INK,
+                    );
                 }
             }
             x += (sign(letter)[0].len() + 1) * self.dot;
@@ -56,7 +66,11 @@ pub fn strip(size: usize) -> Vec<u8> {
         return Vec::new();
     }
     let dot = (size / 192).max(1);
-    let mut strip = Strip { width: size, dot, greys: vec![PAPER; size * 28 * dot] };
+    let mut strip = Strip {
+        width: size,
+        dot,
+        greys: vec![PAPER; size * 28 * dot],
+    };
     let at = |millimetres: f64| ((millimetres - LOW) * size as f64 / (HIGH - LOW)).round() as usize;
     let (top, thick, text) = (5 * dot, 9 * dot, 17 * dot);
     let line = dot.div_ceil(2);
@@ -79,7 +93,11 @@ pub fn strip(size: usize) -> Vec<u8> {
     }
     // Small layers have no room for the unit.
     let unit = if size < 168 { "" } else { " mm" };
-    for (x, label) in [(from, format!("-2{unit}")), ((from + to) / 2, "0".into()), (to, format!("+2{unit}"))] {
+    for (x, label) in [
+        (from, format!("-2{unit}")),
+        ((from + to) / 2, "0".into()),
+        (to, format!("+2{unit}")),
+    ] {
         strip.fill(x - line.div_ceil(2), top + thick, line, dot, INK);
         strip.text(x, text, &label);
     }

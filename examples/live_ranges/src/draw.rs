@@ -1,12 +1,12 @@
-//! The picture, as SVG: version 2's live ranges at large, and version 1's below. Coordinates are whole tenths, so the
-//! same lists are the same bytes everywhere.
+//! The picture, as SVG: version 2's live ranges at large, and version 1's below.
 
 use std::fmt::{self, Write};
 
+use pictures::svg::{self, ACCENT, FAINT, GRID, IDLE, INK, Tenths, count, escaped, plural};
+
 use crate::list::{List, Value};
 
-/// Pixels: the picture's width, where the plots begin and how wide they are.
-const WIDTH: usize = 960;
+/// Pixels: where the plots begin and how wide they are.
 const LEFT: usize = 60;
 const PLOT: usize = 836;
 
@@ -18,13 +18,6 @@ const MOST_1: usize = 420;
 const TOP: usize = 130;
 const BETWEEN: usize = 92;
 const BELOW: usize = 46;
-
-const INK: &str = "#26303a";
-const FAINT: &str = "#68737d";
-const GRID: &str = "#e3e6e8";
-const IDLE: &str = "#e9eaec";
-const PAPER: &str = "#fdfdfb";
-const LINE: &str = "#c0392b";
 
 /// What a bar shows, and its colour.
 #[derive(Clone, Copy, PartialEq)]
@@ -55,20 +48,10 @@ fn colour(value: &Value) -> Colour {
 }
 
 fn ink(colour: Colour) -> &'static str {
-    COLOURS.iter().find(|row| row.0 == colour).map_or(INK, |row| row.1)
-}
-
-/// A coordinate in tenths of a pixel.
-#[derive(Clone, Copy)]
-struct Tenths(usize);
-
-impl fmt::Display for Tenths {
-    fn fmt(&self, f: &mut fmt::Formatter<'_>) -> fmt::Result {
-        match (self.0 / 10, self.0 % 10) {
-            (whole, 0) => write!(f, "{whole}"),
-            (whole, part) => write!(f, "{whole}.{part}"),
-        }
-    }
+    COLOURS
+        .iter()
+        .find(|row| row.0 == colour)
+        .map_or(INK, |row| row.1)
 }
 
 /// A plot of words over instructions: its top, height and counts.
@@ -111,45 +94,46 @@ impl Plot {
             let y = Tenths(self.y(word));
             writeln!(out, "<path d=\"M{left} {y}H{right}\" stroke=\"{GRID}\"/>")?;
             let y = Tenths(self.y(word) + 40);
-            writeln!(out, "<text x=\"{}\" y=\"{y}\" text-anchor=\"end\">{word}</text>", left - 8)?;
+            writeln!(
+                out,
+                "<text x=\"{}\" y=\"{y}\" text-anchor=\"end\">{word}</text>",
+                left - 8
+            )?;
         }
         let bottom = self.top + self.height;
         for number in (0..=self.instructions).step_by(step(self.instructions)) {
             let x = Tenths(self.x(number));
             writeln!(out, "<path d=\"M{x} {bottom}v5\" stroke=\"{FAINT}\"/>")?;
-            writeln!(out, "<text x=\"{x}\" y=\"{}\" text-anchor=\"middle\">{number}</text>", bottom + 18)?;
+            writeln!(
+                out,
+                "<text x=\"{x}\" y=\"{}\" text-anchor=\"middle\">{number}</text>",
+                bottom + 18
+            )?;
         }
-        writeln!(out, "<path d=\"M{left} {bottom}H{right}\" stroke=\"{FAINT}\"/>")?;
+        writeln!(
+            out,
+            "<path d=\"M{left} {bottom}H{right}\" stroke=\"{FAINT}\"/>"
+        )?;
         let middle = self.top + self.height / 2;
         writeln!(
             out,
             "<text transform=\"translate(16 {middle}) rotate(-90)\" text-anchor=\"middle\">word address</text>"
         )?;
-        writeln!(out, "<text x=\"{right}\" y=\"{}\" text-anchor=\"end\">instruction</text>", bottom + 34)
+        writeln!(
+            out,
+            "<text x=\"{right}\" y=\"{}\" text-anchor=\"end\">instruction</text>",
+            bottom + 34
+        )
     }
 }
 
 /// Steps of 1, 2 or 5 times a power of ten, at most twelve of them.
 fn step(count: usize) -> usize {
     let steps = (0..5).flat_map(|power| [1, 2, 5].map(|digit| digit * 10usize.pow(power)));
-    steps.into_iter().find(|step| count / step <= 12).unwrap_or(100_000)
-}
-
-/// A number with commas between its thousands.
-fn count(number: usize) -> String {
-    match number {
-        0..=999 => number.to_string(),
-        _ => format!("{},{:03}", number / 1000, number % 1000),
-    }
-}
-
-fn plural(number: usize, noun: &str) -> String {
-    format!("{} {noun}{}", count(number), if number == 1 { "" } else { "s" })
-}
-
-/// Text as XML has it.
-fn escaped(text: &str) -> String {
-    text.replace('&', "&amp;").replace('<', "&lt;").replace('>', "&gt;").replace('"', "&quot;")
+    steps
+        .into_iter()
+        .find(|step| count / step <= 12)
+        .unwrap_or(100_000)
 }
 
 /// Where a value's bar begins and ends: one behind the last instruction that holds it.
@@ -163,7 +147,7 @@ fn held(value: &Value, instructions: usize) -> (usize, usize) {
 }
 
 /// What a bar says when the picture is open in a browser.
-fn title(value: &Value) -> String {
+fn described(value: &Value) -> String {
     let last = value.address + value.words - 1;
     let words = match value.words {
         1 => format!("word {last}"),
@@ -183,7 +167,12 @@ fn title(value: &Value) -> String {
 }
 
 /// The picture of a function's lists; `version_1` is none where it would pass the limit of words.
-pub fn picture(name: &str, id: u16, version_1: Option<&List>, version_2: &List) -> Result<String, fmt::Error> {
+pub fn picture(
+    name: &str,
+    id: u16,
+    version_1: Option<&List>,
+    version_2: &List,
+) -> Result<String, fmt::Error> {
     let instructions = version_2.instructions;
     let upper = Plot {
         top: TOP,
@@ -199,42 +188,53 @@ pub fn picture(name: &str, id: u16, version_1: Option<&List>, version_2: &List) 
     });
     let last = lower.as_ref().unwrap_or(&upper);
     let height = last.top + last.height + BELOW;
-    let mut out = String::new();
-    writeln!(
-        out,
-        "<svg xmlns=\"http://www.w3.org/2000/svg\" viewBox=\"0 0 {WIDTH} {height}\" width=\"{WIDTH}\" height=\"{height}\" font-family=\"Helvetica, Arial, sans-serif\" font-size=\"12\" fill=\"{FAINT}\">"
-    )?;
     let named = escaped(name);
     let before = match version_1 {
         Some(list) => count(list.words),
         None => "more than 8,192".to_string(),
     };
     let after = plural(version_2.words, "word");
-    writeln!(out, "<title>Live ranges of the words of function {id} of {named}: {after} in version 2, {before} in version 1</title>")?;
-    writeln!(out, "<rect width=\"{WIDTH}\" height=\"{height}\" fill=\"{PAPER}\"/>")?;
-    writeln!(
-        out,
-        "<text x=\"{LEFT}\" y=\"34\" font-size=\"20\" font-weight=\"bold\" fill=\"{INK}\">{after} instead of {before}</text>"
-    )?;
-    writeln!(
-        out,
-        "<text x=\"{LEFT}\" y=\"56\" font-size=\"13\">{named}, function {id}, {}. A bar is a value, from its instruction to its last reader.</text>",
+    let title = format!(
+        "Live ranges of the words of function {id} of {named}: {after} in version 2, {before} in version 1"
+    );
+    let line = format!(
+        "{named}, function {id}, {}. A bar is a value, from its instruction to its last reader.",
         plural(instructions, "instruction")
+    );
+    let mut out = String::new();
+    svg::open(
+        &mut out,
+        height,
+        &title,
+        LEFT,
+        &format!("{after} instead of {before}"),
+        &line,
     )?;
     legend(&mut out, version_2, version_1.is_some())?;
 
-    heading(&mut out, &upper, &format!("Version 2: {after}, used again once nothing reads them"))?;
+    heading(
+        &mut out,
+        &upper,
+        &format!("Version 2: {after}, used again once nothing reads them"),
+    )?;
     upper.axes(&mut out)?;
     for value in &version_2.values {
         let (from, to) = held(value, instructions);
         if from < to {
             let bar = upper.bar(value, from, to, ink(colour(value)));
-            writeln!(out, "{bar}><title>{}</title></rect>", title(value))?;
+            writeln!(out, "{bar}><title>{}</title></rect>", described(value))?;
         }
     }
 
     if let (Some(plot), Some(list)) = (&lower, version_1) {
-        heading(&mut out, plot, &format!("Version 1: {}, each written once", plural(list.words, "word")))?;
+        heading(
+            &mut out,
+            plot,
+            &format!(
+                "Version 1: {}, each written once",
+                plural(list.words, "word")
+            ),
+        )?;
         plot.axes(&mut out)?;
         for value in &list.values {
             let (from, to) = held(value, instructions);
@@ -247,32 +247,46 @@ pub fn picture(name: &str, id: u16, version_1: Option<&List>, version_2: &List) 
         }
         level(&mut out, plot, version_2.words)?;
     }
-    writeln!(out, "</svg>")?;
+    svg::close(&mut out)?;
     Ok(out)
 }
 
 fn heading(out: &mut String, plot: &Plot, text: &str) -> fmt::Result {
-    let y = plot.top - 14;
-    writeln!(out, "<text x=\"{LEFT}\" y=\"{y}\" font-size=\"14\" font-weight=\"bold\" fill=\"{INK}\">{text}</text>")
+    svg::heading(out, LEFT, plot.top - 14, "start", text)
 }
 
 /// The colours that the picture has, in a line below its title.
 fn legend(out: &mut String, list: &List, both: bool) -> fmt::Result {
     let there = |row: &(Colour, &str, &str)| list.values.iter().any(|value| colour(value) == row.0);
-    let mut entries: Vec<(&str, &str)> = COLOURS.iter().filter(|row| there(row)).map(|row| (row.1, row.2)).collect();
+    let mut entries: Vec<(&str, &str)> = COLOURS
+        .iter()
+        .filter(|row| there(row))
+        .map(|row| (row.1, row.2))
+        .collect();
     if both {
         entries.push((IDLE, "no longer read, not used again"));
     }
     let mut x = LEFT;
     for (fill, text) in entries {
-        writeln!(out, "<rect x=\"{x}\" y=\"71\" width=\"14\" height=\"10\" rx=\"1.5\" fill=\"{fill}\"/>")?;
+        writeln!(
+            out,
+            "<rect x=\"{x}\" y=\"71\" width=\"14\" height=\"10\" rx=\"1.5\" fill=\"{fill}\"/>"
+        )?;
         writeln!(out, "<text x=\"{}\" y=\"80\">{text}</text>", x + 19)?;
         // Letters are about 6 pixels wide.
         x += 6 * text.len() + 40;
     }
     if both {
-        writeln!(out, "<path d=\"M{x} 76H{}\" stroke=\"{LINE}\" stroke-width=\"1.5\" stroke-dasharray=\"6 4\"/>", x + 26)?;
-        writeln!(out, "<text x=\"{}\" y=\"80\">words of version 2</text>", x + 32)?;
+        writeln!(
+            out,
+            "<path d=\"M{x} 76H{}\" stroke=\"{ACCENT}\" stroke-width=\"1.5\" stroke-dasharray=\"6 4\"/>",
+            x + 26
+        )?;
+        writeln!(
+            out,
+            "<text x=\"{}\" y=\"80\">words of version 2</text>",
+            x + 32
+        )?;
     }
     Ok(())
 }
@@ -280,7 +294,15 @@ fn legend(out: &mut String, list: &List, both: bool) -> fmt::Result {
 /// A line in version 1's plot above the words that version 2 needs.
 fn level(out: &mut String, plot: &Plot, words: usize) -> fmt::Result {
     let (y, right) = (Tenths(plot.y(words)), LEFT + PLOT);
-    writeln!(out, "<path d=\"M{LEFT} {y}H{right}\" stroke=\"{LINE}\" stroke-width=\"1.5\" stroke-dasharray=\"6 4\"/>")?;
+    writeln!(
+        out,
+        "<path d=\"M{LEFT} {y}H{right}\" stroke=\"{ACCENT}\" stroke-width=\"1.5\" stroke-dasharray=\"6 4\"/>"
+    )?;
     let y = Tenths(plot.y(words) + 40);
-    writeln!(out, "<text x=\"{}\" y=\"{y}\" fill=\"{LINE}\" font-weight=\"bold\">{}</text>", right + 6, count(words))
+    writeln!(
+        out,
+        "<text x=\"{}\" y=\"{y}\" fill=\"{ACCENT}\" font-weight=\"bold\">{}</text>",
+        right + 6,
+        count(words)
+    )
 }
