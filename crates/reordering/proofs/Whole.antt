@@ -20,6 +20,7 @@ use Rattle.graph.specs.Sound.{AllSound}
 use Rattle.graph.specs.Table.{Chosen}
 use Rattle.bytecode.specs.declared.Version.the-variants.{V1, V2}
 use Rattle.bytecode.specs.Run.{run}
+use Rattle.bytecode.specs.Code.{encode}
 use Rattle.bytecode.specs.Answers.{Buffers, ran}
 use Rattle.placement.specs.Place.{rename}
 use Rattle.lowering.specs.Compile.{boardListOf}
@@ -31,7 +32,7 @@ use Rattle.lowering.proofs.Lawful.{placeable}
 use Rattle.lowering.proofs.Taken.{Serves, leftBy, taken, rest-stays, given}
 use Rattle.lowering.proofs.Whole.{sound, laws, list-serves}
 use Rattle.reordering.specs.Reorder.{Routing, routedPlaces, Respects}
-use Rattle.reordering.specs.AnyOrder.{listBy, AnyOrder}
+use Rattle.reordering.specs.AnyOrder.{listBy, LentFor, SameWords, AnyOrder}
 use Rattle.reordering.proofs.Carried.{numberedBy, reordered-follows}
 use Rattle.reordering.proofs.Formed.{reordered-formed}
 use Rattle.reordering.proofs.Own.{ownRouting, own-respects, own-list}
@@ -81,30 +82,53 @@ version-1-gives s c functions x w arguments out answer finite count fits meant m
     ap₂ after (sym many ∙ ap length same) (outputs ∙ same) in
     taken V1 x b serves arguments m out finite count (omega arith) fits ∙ ap ok words
 
+-- the runner takes the router's list, and leaves the same words
+pub order-taken :
+    (s : List ℕ) (c : ℕ) (functions : List Function) (x : Chosen) (r : Routing) → Within s c 1 functions V1 x → Respects (x .function .inputs) (listOf V1 x) r
+    → (arguments work out : List ℕ) → LentFor x (listBy x r) arguments work out
+    → (after : Buffers) × (ran (encode V2 (listBy x r)) arguments work out ≡ ok after)
+    × SameWords (λ n. after .count ≡ n) functions c x (listBy x r) arguments work out (after .work) (after .out)
+order-taken s c functions x r w respects arguments work out l =
+    let b = listBy x r in
+    let accepted = sound s c 1 functions V1 x w in
+    let serves : Serves V2 x b = reordered-serves x r accepted (w .operations) respects in
+    let (answer, meant, count, outputs) = given V2 x b serves arguments work out (l .finite) (l .count) (l .work-fits) (reverse functions) c (w .chosen) accepted in
+    let same : leftBy x b arguments work out .out ≡ sets out 0 answer = ap (sets out 0) outputs in (
+      leftBy x b arguments work out,
+      taken V2 x b serves arguments work out (l .finite) (l .count) (l .work-fits) (l .out-fits),
+      record {
+        answer = answer;
+        meant = meant;
+        size = count;
+        count = sym count;
+        given = same;
+        version-1 = λ m room.
+            subst
+            (λ (ys : List ℕ). ran (codeOf V1 x) arguments m out ≡ ok (record { count = length answer; work = run (listOf V1 x) arguments m .memory; out = ys }))
+            (sym same) (version-1-gives s c functions x w arguments out answer (l .finite) (l .count) (l .out-fits) meant m room);
+        left = refl;
+        rest = rest-stays V2 x b serves arguments work out (l .finite) (l .count) (l .work-fits);
+      },
+    )
+
 -- whatever answers as `ran` does, in whatever form, and leaves the buffers as that says
 pub any-order :
     (code arguments work out : List ℕ) {Answer : ℕ → Type 0} {work′ out′ : List ℕ}
     → ((b : Buffers) → ran code arguments work out ≡ ok b → Answer (b .count) × (work′ ≡ b .work) × (out′ ≡ b .out))
     → AnyOrder Answer code arguments work out work′ out′
 any-order code arguments work out {Answer} {work′} {out′} h s c functions x r w respects is l =
-    let b = listBy x r in
-    let accepted = sound s c 1 functions V1 x w in
-    let serves : Serves V2 x b = reordered-serves x r accepted (w .operations) respects in
-    let (answer, meant, count, outputs) = given V2 x b serves arguments work out (l .finite) (l .count) (l .work-fits) (reverse functions) c (w .chosen) accepted in
-    let (n, ew, eo) =
-    h (leftBy x b arguments work out)
-    (ap (λ (ys : List ℕ). ran ys arguments work out) is ∙ taken V2 x b serves arguments work out (l .finite) (l .count) (l .work-fits) (l .out-fits)) in
-    let same : out′ ≡ sets out 0 answer = eo ∙ ap (sets out 0) outputs in
+    let (after, e, same) = order-taken s c functions x r w respects arguments work out l in
+    let (n, ew, eo) = h after (ap (λ (ys : List ℕ). ran ys arguments work out) is ∙ e) in
     record {
-      answer = answer;
-      meant = meant;
-      size = count;
-      count = subst Answer (sym count) n;
-      given = same;
+      answer = same .answer;
+      meant = same .meant;
+      size = same .size;
+      count = subst Answer (same .count) n;
+      given = eo ∙ same .given;
       version-1 = λ m room.
           subst
-          (λ (ys : List ℕ). ran (codeOf V1 x) arguments m out ≡ ok (record { count = length answer; work = run (listOf V1 x) arguments m .memory; out = ys }))
-          (sym same) (version-1-gives s c functions x w arguments out answer (l .finite) (l .count) (l .out-fits) meant m room);
-      left = ew;
-      rest = λ i k. ap (λ (ys : List ℕ). wordAt ys i) ew ∙ rest-stays V2 x b serves arguments work out (l .finite) (l .count) (l .work-fits) i k;
+          (λ (ys : List ℕ). ran (codeOf V1 x) arguments m out ≡ ok (record { count = length (same .answer); work = run (listOf V1 x) arguments m .memory; out = ys }))
+          (sym eo) (same .version-1 m room);
+      left = ew ∙ same .left;
+      rest = λ i k. ap (λ (ys : List ℕ). wordAt ys i) ew ∙ same .rest i k;
     }
