@@ -19,7 +19,7 @@ pub record Routing : Type 0 where
 
 -- ---- the list so written
 
--- behind these values the result of each instruction, at its address; the last stands first
+-- these values, and the result of each instruction at its address; the last result stands first
 abbrev pub resultsAt : List Placed → List Instruction → List ℕ → List Placed
 resultsAt ps [] at = ps
 resultsAt ps (i ∷ is) [] = ps
