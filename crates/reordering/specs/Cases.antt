@@ -1,4 +1,4 @@
--- A list in two orders, and that each thing asked of an order is needed. Not of 01: a function whose first two nodes do not read each other.
+-- A list in two orders, and lists that are not as asked. Not of 01: a function whose first two nodes do not read each other.
 use Prim.Native.Nat.{ℕ}
 use mathlib.Core.Path.{_≡_, refl}
 use mathlib.Core.List.{List, [], _∷_}
@@ -97,11 +97,11 @@ cases =
     ∷ routed (1 ∷ 0 ∷ 2 ∷ []) (6 ∷ 3 ∷ 2 ∷ []) (left (three ∷ half ∷ difference ∷ quarter ∷ 7 ∷ 7 ∷ six ∷ 7 ∷ []) difference)
     -- the last word that there is: taken, and only this work buffer is too short
     ∷ routed (1 ∷ 0 ∷ 2 ∷ []) (8191 ∷ 3 ∷ 2 ∷ []) (fault 21 0)
-    -- what is asked is needed: a word at 8,192; the difference before what it reads; no difference
+    -- not as asked, and refused: a word at 8,192; the difference before what it reads; no difference
     ∷ routed (1 ∷ 0 ∷ 2 ∷ []) (8192 ∷ 3 ∷ 2 ∷ []) (fault 18 0)
     ∷ routed (1 ∷ 2 ∷ 0 ∷ []) (6 ∷ 3 ∷ 2 ∷ []) (fault 18 0)
     ∷ routed (1 ∷ 0 ∷ []) (6 ∷ 3 ∷ 2 ∷ []) (fault 18 0)
-    -- the double and the square on one word; the square on the word of x: taken, and other words come out
+    -- not as asked, and taken, but other words come out: the double and the square on one word; the square on the word of x
     ∷ routed (1 ∷ 0 ∷ 2 ∷ []) (3 ∷ 3 ∷ 2 ∷ []) (left (three ∷ half ∷ 0 ∷ six ∷ 7 ∷ 7 ∷ 7 ∷ 7 ∷ []) 0)
     ∷ routed (1 ∷ 0 ∷ 2 ∷ []) (6 ∷ 0 ∷ 2 ∷ []) (left (quarter ∷ half ∷ quarter ∷ 7 ∷ 7 ∷ 7 ∷ half ∷ 7 ∷ []) quarter)
     ∷ []
