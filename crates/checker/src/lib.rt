@@ -1,4 +1,6 @@
 // The verdict on a graph table.
+#![tactic(auto)]
+
 ghost use Rattle.std.specs.Prelude.{◌≡◌, ◌+◌, ◌*◌, ◌^◌, ◌<◌, ◌≤◌, [], length};
 ghost use Rattle.base.specs.Limits.{function_limit, node_limit, slot_limit};
 ghost use Rattle.graph.specs.Judge.{fresh, loop_free, judge, judge_all, verdict};
@@ -20,7 +22,7 @@ mod names;
 mod types;
 
 // The function that is judged: its place, where its nodes begin, and how many there are.
-#[derive(Drop)]
+#[derive(Clone, Copy)]
 pub struct Head {
     pub place: usize,
     pub first: usize,
@@ -29,7 +31,7 @@ pub struct Head {
 
 // ---- the types at ports
 
-#[derive(Drop)]
+#[derive(Clone, Copy)]
 pub enum PortType {
     Is(u8),
     Nothing,
@@ -38,7 +40,7 @@ pub enum PortType {
 // ---- 11 and 12
 
 // What references want: the first a type and the others another, or the inputs of the function at a place.
-#[derive(Drop)]
+#[derive(Clone, Copy)]
 pub enum Want {
     Types(u8, u8),
     Inputs(usize),
@@ -116,7 +118,7 @@ fn judge_function(
 }
 
 // Accepted with the function count, or refused with a number and a place.
-#[derive(Drop)]
+#[derive(Clone, Copy)]
 pub enum Verdict {
     Accepted(usize),
     Refused(u8, usize),

@@ -1,4 +1,6 @@
 // The compiler: from a table and a function to the board list.
+#![tactic(auto)]
+
 ghost use Rattle.std.specs.Prelude.{◌≡◌, suc, ◌≤◌, length, replicate};
 ghost use Rattle.std.proofs.lemmas.List.Edits.{sets};
 ghost use Rattle.base.specs.Limits.{function_limit, placed_limit, port_limit, reference_limit, word_limit};
@@ -49,7 +51,7 @@ const NAME_STEP: usize = 4;
 
 // What a walk over the instructions does with each: note who reads a value last and how wide it is, or write it, in version 1
 // or 2.
-#[derive(Drop)]
+#[derive(Clone, Copy)]
 pub enum Pass {
     Survey,
     Sequential,
@@ -57,7 +59,7 @@ pub enum Pass {
 }
 
 // The byte behind what was written, the next address, and the location behind those that were read.
-#[derive(Drop)]
+#[derive(Clone, Copy)]
 pub struct Reached {
     pub at: usize,
     pub next: usize,

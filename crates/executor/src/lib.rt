@@ -1,5 +1,7 @@
 // The instructions of a board list, carried out on a memory of words. What carries one out takes the address of its result:
 // only the loop knows the list's version, by which results follow one another or stand where the code says.
+#![tactic(auto)]
+
 ghost use Rattle.std.specs.Prelude.{◌≡◌, cond, ◌+◌, ◌≤◌, length};
 ghost use Rattle.base.specs.Bytes.{byte, u16};
 ghost use Rattle.base.specs.Limits.{header_length};
@@ -15,7 +17,7 @@ mod operators;
 mod plain;
 
 // The bytes of an instruction's operands and constants, and the words of its results.
-#[derive(Drop)]
+#[derive(Clone, Copy)]
 pub struct Extent {
     pub bytes: usize,
     pub words: usize,
@@ -37,7 +39,7 @@ pub fn execute(code: &[u8], at: usize, from: usize, res: usize, work: &mut [u64]
 }
 
 // Where an instruction's operands stand, and where its result goes.
-#[derive(Drop)]
+#[derive(Clone, Copy)]
 pub struct Place {
     pub from: usize,
     pub result: usize,

@@ -1,4 +1,6 @@
 // The lister: it reads a table on standard input, its first 65,536 bytes, and prints its text.
+#![tactic(auto)]
+
 fn main() {
     let mut table = io::large_buffer();
     let n = io::read_full(0, &mut table);

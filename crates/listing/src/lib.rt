@@ -1,4 +1,6 @@
 // The lister's text.
+#![tactic(auto)]
+
 ghost use Rattle.std.specs.Prelude.{◌≡◌, cond, ◌++◌, ◌+◌, ◌<◌, ◌≤◌, length, drop};
 ghost use Rattle.std.proofs.lemmas.List.Edits.{sets};
 ghost use Rattle.lowering.specs.Listing.{decimal, newline, refused_text, at_text, function_lines, listing};

@@ -1,4 +1,6 @@
 // The order and the loops of a function's nodes, by indices alone.
+#![tactic(auto)]
+
 ghost use Rattle.std.specs.Prelude.{◌≡◌, false, not, ℕ, ◌+◌, ◌-◌, ◌<◌, ◌≤◌, eqb, length, replicate};
 ghost use Rattle.std.proofs.lemmas.List.Edits.{sets};
 ghost use Rattle.base.specs.Limits.{node_limit, operand_limit};
@@ -12,7 +14,7 @@ ghost use Rattle.order.specs.Walk.{walk, visit_from, Room};
 use base::{NODE_LIMIT, OPERAND_LIMIT, SLOT_LIMIT, wide16};
 
 // The first node on a loop, if there is one.
-#[derive(Drop)]
+#[derive(Clone, Copy)]
 pub enum OnLoop {
     At(usize),
     Nothing,

@@ -1,4 +1,6 @@
 // The places of values whose words are used again.
+#![tactic(auto)]
+
 ghost use Rattle.std.specs.Prelude.{◌≡◌, List, ℕ, ◌+◌, ◌<◌, ◌≤◌, max, min, length, replicate};
 ghost use Rattle.std.proofs.lemmas.List.Edits.{sets};
 ghost use Rattle.base.specs.Limits.{port_limit, operation_limit, word_limit, value_limit, placed_limit};
@@ -9,7 +11,7 @@ ghost use Rattle.placement.specs.Record.{Lowest, Looked, Bounds, Placing, Begun,
 use base::{PLACED_LIMIT, VALUE_LIMIT, WORD_LIMIT, wide};
 
 // The highest word ever held plus one, unless it passes the limit.
-#[derive(Drop)]
+#[derive(Clone, Copy)]
 pub enum Extent {
     Words(usize),
     Over,
@@ -52,7 +54,7 @@ const FEW: usize = 64;
 const NEVER: u16 = 0xFFFF;
 
 // What a block has: a gap that starts there, or a bound.
-#[derive(Drop)]
+#[derive(Clone, Copy)]
 enum Look {
     Gap(usize),
     Full(u16),

@@ -1,4 +1,6 @@
 // A layer's points in one call: the code is checked once, then run at each point.
+#![tactic(auto)]
+
 ghost use Rattle.std.specs.Prelude.{length, ◌≡◌};
 ghost use Rattle.runner.specs.Runs.{Answered, Refused18};
 ghost use Rattle.runner.specs.declared.Ran.TheVariants.{Done};

@@ -1,4 +1,6 @@
 // The port list, held once as a constant table of rows.
+#![tactic(auto)]
+
 ghost use Rattle.std.specs.Prelude.{◌≡◌};
 ghost use Rattle.ports.specs.Kinds.{kind_of};
 ghost use Rattle.ports.specs.Ports as Definition;
@@ -14,7 +16,7 @@ pub use derived::{
 };
 
 // What stands behind the head of a node of a kind. Absent: there is no such kind.
-#[derive(Drop)]
+#[derive(Clone, Copy)]
 pub enum Form {
     Absent,
     Constant,
@@ -25,7 +27,7 @@ pub enum Form {
 // A row: the kind's form, the bytes behind a node's head (of a call those before its references), its operands with
 // the type of the first and of the others, its results with their type, and the words of all results. Type 0 stands
 // for T; a kind with T has words 0.
-#[derive(Drop)]
+#[derive(Clone, Copy)]
 pub struct Ports {
     pub form: Form,
     pub bytes: u8,

@@ -1,6 +1,8 @@
 // The driver: every entry point, none of which asks anything of its arguments. In each call a table is checked once, its
 // functions are found once and summed once. For other programs an answer is one number, a refusal's number times 2^32
 // and its place.
+#![tactic(auto)]
+
 ghost use Rattle.std.specs.Prelude.{◌≡◌, ℕ, ◌<◌, length};
 ghost use Rattle.std.proofs.Math.Option.{none};
 ghost use Rattle.base.specs.Outcome.{ok, fault};
@@ -37,7 +39,7 @@ mod sequential;
 // ---- the function of an id: checked, found and measured once
 
 // Its position and its sizes, or a refusal.
-#[derive(Drop)]
+#[derive(Clone, Copy)]
 pub enum Found {
     At(usize, Sizes),
     Refused(u8, usize),
@@ -46,7 +48,7 @@ pub enum Found {
 // ---- measures
 
 // The sizes of a function that can be compiled, or the refusal.
-#[derive(Drop)]
+#[derive(Clone, Copy)]
 pub enum Measured {
     Is(Sizes),
     Refused(u8, usize),
@@ -67,7 +69,7 @@ pub fn measure(table: &[u8], id: u16) -> Measured
 }
 
 // A count within its limit, a count above it, or the refusal of the table or of the id.
-#[derive(Drop)]
+#[derive(Clone, Copy)]
 pub enum Count {
     Exactly(usize),
     Over,
@@ -135,14 +137,14 @@ pub fn code_length(table: &[u8], id: u16) -> Count
 // ---- the compiler
 
 // The code's length, or the refusal with its number and place.
-#[derive(Drop)]
+#[derive(Clone, Copy)]
 pub enum Compiled {
     Length(usize),
     Refused(u8, usize),
 }
 
 // A refusal's number and place.
-#[derive(Drop)]
+#[derive(Clone, Copy)]
 pub struct Fault {
     pub number: u8,
     pub place: usize,
@@ -183,7 +185,7 @@ pub fn compile(table: &[u8], id: u16, version: u16, code: &mut [u8]) -> Compiled
 // ---- from table to output words
 
 // The answer of an evaluation: the count of output words, or the number of a refusal and its place.
-#[derive(Drop)]
+#[derive(Clone, Copy)]
 pub enum Evaluated {
     Done(usize),
     Refused(u8, usize),

@@ -1,4 +1,6 @@
 // A graph table: its records read from untrusted bytes, and the way through one whose reading passed.
+#![tactic(auto)]
+
 use value::Value;
 
 mod constants;
@@ -19,21 +21,21 @@ pub const HEADER: usize = 8;
 // ---- what a reading answers
 
 // A place behind what was read, or the first fault.
-#[derive(Drop)]
+#[derive(Clone, Copy)]
 pub enum Next {
     At(usize),
     Refused(u8, usize),
 }
 
 // All was read, or the first fault.
-#[derive(Drop)]
+#[derive(Clone, Copy)]
 pub enum Seen {
     Passed,
     Refused(u8, usize),
 }
 
 // Where a record ends that fits, or that it runs past the end.
-#[derive(Drop)]
+#[derive(Clone, Copy)]
 pub enum Record {
     Ends(usize),
     Short,
@@ -42,21 +44,21 @@ pub enum Record {
 // ---- payloads
 
 // What a node reads: where its references begin, and how many there are.
-#[derive(Drop)]
+#[derive(Clone, Copy)]
 pub struct Reads {
     pub first: usize,
     pub count: usize,
 }
 
 // A constant's value, a call's callee and arguments, or the references.
-#[derive(Drop)]
+#[derive(Clone, Copy)]
 pub enum Payload {
     Constant(Value),
     Call(usize, Reads),
     References(Reads),
 }
 
-#[derive(Drop)]
+#[derive(Clone, Copy)]
 pub enum PayloadRead {
     Is(Payload, usize),
     Refused(u8, usize),
@@ -65,7 +67,7 @@ pub enum PayloadRead {
 // ---- nodes
 
 // A node as read: its id, its place and its kind's own payload.
-#[derive(Drop)]
+#[derive(Clone, Copy)]
 pub struct Node {
     pub id: usize,
     pub place: usize,
@@ -74,7 +76,7 @@ pub struct Node {
     pub payload: Payload,
 }
 
-#[derive(Drop)]
+#[derive(Clone, Copy)]
 pub enum NodeRead {
     Is(Node, usize),
     Refused(u8, usize),
@@ -83,7 +85,7 @@ pub enum NodeRead {
 // ---- lookups
 
 // Where a node is found: its index among those looked through, and its place.
-#[derive(Drop)]
+#[derive(Clone, Copy)]
 pub enum Found {
     At(usize, usize),
     Nothing,

@@ -1,1 +1,3 @@
 // Any order that respects the reads: definitions and laws.
+#![tactic(auto)]
+

@@ -1,4 +1,6 @@
 // The references of all nodes of a function, resolved to indices.
+#![tactic(auto)]
+
 ghost use Rattle.std.specs.Prelude.{◌≡◌, [], cond, ◌+◌, ◌*◌, ◌^◌, ◌<◌, ◌≤◌, eqb, length, replicate};
 ghost use Rattle.std.proofs.lemmas.List.Edits.{sets};
 ghost use Rattle.base.specs.Limits.{node_limit, operand_limit, slot_limit, no_node};
@@ -34,7 +36,7 @@ pub fn places(s: &[u8], first: usize, count: usize, places: &mut [u32; NODE_LIMI
 const GROUP_LIMIT: usize = NODE_LIMIT - OPERAND_LIMIT;
 
 // How many nodes a group has, and how many references they have.
-#[derive(Drop)]
+#[derive(Clone, Copy)]
 struct Group {
     nodes: usize,
     refs: usize,

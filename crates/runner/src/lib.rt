@@ -1,4 +1,6 @@
 // The runner of board lists: the check of a code, and the run of a code that was checked.
+#![tactic(auto)]
+
 ghost use Rattle.std.specs.Prelude.{◌≡◌, true, false, cond, [], map, ◌+◌, ◌*◌, ◌≤◌, eqb, length};
 ghost use Rattle.std.proofs.lemmas.List.Edits.{sets};
 ghost use Rattle.base.specs.Limits.{header_length};
@@ -19,7 +21,7 @@ mod row;
 mod written;
 
 // The counts that a code says.
-#[derive(Drop)]
+#[derive(Clone, Copy)]
 pub struct Counts {
     pub arguments: usize,
     pub outputs: usize,
@@ -28,28 +30,28 @@ pub struct Counts {
 }
 
 // A code that is well formed has these counts.
-#[derive(Drop)]
+#[derive(Clone, Copy)]
 pub enum Checked {
     Formed(Counts),
     Malformed,
 }
 
 // The answer of a run: the count of output words, or the number of a refusal and its place.
-#[derive(Drop)]
+#[derive(Clone, Copy)]
 pub enum Ran {
     Done(usize),
     Refused(u8, usize),
 }
 
 // Where the next instruction stands, and the word behind all results so far: in version 1 its result goes there.
-#[derive(Drop)]
+#[derive(Clone, Copy)]
 pub struct Cursor {
     pub at: usize,
     pub result: usize,
 }
 
 // What follows the instructions that passed.
-#[derive(Drop)]
+#[derive(Clone, Copy)]
 pub enum Progress {
     Passed(Cursor),
     Refused,

@@ -1,4 +1,6 @@
 // Operations, words and code length of a table's functions, by sums that are taken once for each function.
+#![tactic(auto)]
+
 ghost use Rattle.std.specs.Prelude.{◌≡◌, suc, ◌+◌, ◌*◌, ◌<◌, ◌≤◌, ◌^◌, min, length, get_or, set};
 ghost use Rattle.std.proofs.lemmas.List.Edits.{sets};
 ghost use Rattle.base.specs.Limits.{function_limit, port_limit, port_word_limit};
@@ -64,7 +66,7 @@ pub fn position_of(t: &[u8], starts: &[usize; FUNCTION_LIMIT], k: usize, c: usiz
 // ---- sums
 
 // Operations, result words, instructions and bytes of code, saturated: exact below the cap.
-#[derive(Drop)]
+#[derive(Clone, Copy)]
 pub struct Sums {
     pub operations: usize,
     pub words: usize,
@@ -261,7 +263,7 @@ fn widths_at(t: &[u8], p: usize, step: usize, n: usize) -> usize
 }
 
 // The words of a function's inputs and of its outputs.
-#[derive(Drop)]
+#[derive(Clone, Copy)]
 pub struct PortWords {
     pub inputs: usize,
     pub outputs: usize,
@@ -293,7 +295,7 @@ fn code_length(operations: usize, words: usize, bytes: usize, outputs: usize) ->
 
 // A function's place; its operations, words and instructions and their bytes in version 1, saturated: exact up to the limits; the
 // length of its code, 0 where operations or words are above their limits; the words of its inputs and outputs.
-#[derive(Drop)]
+#[derive(Clone, Copy)]
 pub struct Sizes {
     pub place: usize,
     pub operations: usize,

@@ -1,5 +1,7 @@
 // The judge of a router's list: a proposed list of version 2 beside version 1's, by the origins of its words. A word's origin is kept
 // as the word of version 1 that it holds; no two words of version 1 have one origin.
+#![tactic(auto)]
+
 ghost use Rattle.std.specs.Prelude.{◌≡◌, length};
 ghost use Rattle.bytecode.specs.Code.{decode};
 ghost use Rattle.validator.specs.Tests.{Judgeable, judgement_of, followed_in};
@@ -18,14 +20,14 @@ pub const LIST_LIMIT: usize = HEADER_LENGTH
     + 2 * PORT_WORD_LIMIT;
 
 // What is said of a proposed list: how many instructions it has, or the number of a refusal and its place.
-#[derive(Drop)]
+#[derive(Clone, Copy)]
 pub enum Judgement {
     Accepted(usize),
     Refused(u8, usize),
 }
 
 // What follows an instruction: the place behind it, or that it is at fault.
-#[derive(Drop)]
+#[derive(Clone, Copy)]
 pub enum Step {
     Next(usize),
     Wrong,

@@ -1,4 +1,6 @@
 // The values of a graph: their words, the arithmetic of each kind, and values in a memory of words.
+#![tactic(auto)]
+
 mod memory;
 mod parts;
 mod steps;
@@ -20,14 +22,14 @@ pub use words::{
     word_of,
 };
 
-#[derive(Drop)]
+#[derive(Clone, Copy)]
 pub struct Vec3 {
     pub x: f64,
     pub y: f64,
     pub z: f64,
 }
 
-#[derive(Drop)]
+#[derive(Clone, Copy)]
 pub struct Row {
     pub c0: f64,
     pub c1: f64,
@@ -35,7 +37,7 @@ pub struct Row {
     pub c3: f64,
 }
 
-#[derive(Drop)]
+#[derive(Clone, Copy)]
 pub struct Mat4 {
     pub r0: Row,
     pub r1: Row,
@@ -43,7 +45,7 @@ pub struct Mat4 {
     pub r3: Row,
 }
 
-#[derive(Drop)]
+#[derive(Clone, Copy)]
 pub enum Value {
     Scalar(f64),
     Vector(Vec3),
@@ -51,7 +53,7 @@ pub enum Value {
 }
 
 // The steps that go component by component.
-#[derive(Drop)]
+#[derive(Clone, Copy)]
 pub enum Operator {
     Add,
     Subtract,

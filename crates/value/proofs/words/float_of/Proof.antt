@@ -5,13 +5,13 @@ use Rattle.value.proofs.Floats.{nan-read, other-read, made-nan}
 use Rattle.value.proofs.words.float_of.Statement.{statement}
 use Rattle.value.proofs.words.float_of.Tie as tie
 
-float-from-bits-result : tie.Need-float-from-bits-result
-float-from-bits-result c = other-read _ c.if1.false
+float-from-bits-result : tie.Need-float_from_bits-result
+float-from-bits-result c = other-read _ c.if-w-gt9218868437227405312.false
 
-returns : tie.Need-returns
-returns c = made-nan ∙ sym (nan-read _ c.if1.true)
+returns : tie.Need-returns-then-w-gt9218868437227405312
+returns c = made-nan ∙ sym (nan-read _ c.if-w-gt9218868437227405312.true)
 
-returns-2 : tie.Need-returns-2
+returns-2 : tie.Need-returns-else-w-gt9218868437227405312
 returns-2 c = search rules
 
 pub float_of_spec : {M : Type 1} → statement M
