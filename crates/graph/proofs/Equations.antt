@@ -38,7 +38,8 @@ use Rattle.graph.proofs.Exactly.{table-back}
 
 ref-member : (r : Ref) (rs : List Ref) → Is r rs → member r.node (map (λ r. r.node) rs) ≡ true
 ref-member r [] h = absurd h
-ref-member r (x ∷ xs) (inl e) = rw e (member-first x.node (map (λ r. r.node) xs))
+ref-member r (x ∷ xs) (inl e) =
+    subst (λ (y : Ref). member y.node (x.node ∷ map (λ r. r.node) xs) ≡ true) (sym e) (member-first x.node (map (λ r. r.node) xs))
 ref-member r (x ∷ xs) (inr h) = member-later r.node x.node (map (λ r. r.node) xs) (ref-member r xs h)
 
 -- what holds at a node where it holds at all that the node reads, holds at every node; k counts the nodes passed
@@ -65,7 +66,7 @@ module _
       where
         next : (member i done ≡ true) ⊎ Is i (ids (n ∷ os)) → (member i (n.id ∷ done) ≡ true) ⊎ Is i (ids os)
         next (inl m) = inl (cond-or (eqb n.id i) _ m)
-        next (inr (inl q)) = inl (rw q (member-first n.id done))
+        next (inr (inl q)) = inl (subst (λ (j : ℕ). member j (n.id ∷ done) ≡ true) (sym q) (member-first n.id done))
         next (inr (inr y)) = inr y
 
     pub at-node : (n : Node) → Is n f.nodes → P (length f.nodes) n.id

@@ -21,7 +21,7 @@ use Rattle.graph.specs.Graph.{Payload, Node, Output, Function}
 use Rattle.graph.specs.Read as Read
 use Rattle.graph.specs.Format.{Format}
 use Rattle.graph.specs.Read.{reference, in_range}
-use Rattle.graph.specs.Checks.{check, All, First, Says}
+use Rattle.graph.specs.Checks.{Check, check, All, First, Says}
 use Rattle.graph.specs.Reading.{header_checks, Shape, head, input, output, node, payload, arguments, size, times, HeadRight, HeadWrong, fields, record_checks, end_checks, next, Reading, end, stop, on, ReadingOf}
 use Rattle.base.proofs.Bools.{and-inv, and-inv-false}
 use Rattle.base.proofs.Outcomes.{took, after, passed, takes, stops, needs, took-fault, after-fault, passed-fault, no-fault, then-then}
@@ -249,14 +249,43 @@ module _ (format : Format) (s : List ℕ) where
   abbrev Unmarked : Type 0
   Unmarked = (byte s 0 ≢ 0x49) ⊎ ((byte s 1 ≢ 0x46) ⊎ (byte s 2 ≢ 0x47))
 
+  abbrev length-check : Check
+  length-check = check 1 0 (8 ≤ length s) (length s < 8)
+
+  abbrev mark-check : Check
+  mark-check = check 2 0 Marked Unmarked
+
+  abbrev version-check : Check
+  version-check = check 3 3 (u16 s 3 ≡ format.version) (u16 s 3 ≢ format.version)
+
+  abbrev size-check : Check
+  size-check = check 4 6 (format.size s ≡ length s) (format.size s ≢ length s)
+
+  abbrev count-check : Check
+  count-check = check 6 5 ((1 ≤ byte s 5) × (byte s 5 ≤ 16)) ((byte s 5 ≡ 0) ⊎ (16 < byte s 5))
+
+  abbrev from-count : Outcome (Unit {0})
+  from-count = need count-right 6 5
+
+  abbrev from-size : Outcome (Unit {0})
+  from-size = need (eqb (format.size s) (length s)) 4 6 >> from-count
+
+  abbrev from-version : Outcome (Unit {0})
+  from-version = need (eqb (u16 s 3) format.version) 3 3 >> from-size
+
+  abbrev from-mark : Outcome (Unit {0})
+  from-mark = need (Read.table_marked s) 2 0 >> from-version
+
   header-says : Says (header_checks format s) header
   header-says =
-      says_then (check 1 0 (8 ≤ length s) (length s < 8) ∷ []) _ _ _ (says-test (leb 8 (length s)) 1 0 (leb-true 8 (length s)) (leb-false 8 (length s)))
-      (says_then (check 2 0 Marked Unmarked ∷ []) _ _ _ (says-test (Read.table_marked s) 2 0 (marked-bytes s) others)
-      (says_then (check 3 3 (u16 s 3 ≡ format.version) (u16 s 3 ≢ format.version) ∷ []) _ _ _
-      (says-test (eqb (u16 s 3) format.version) 3 3 (eqb-true _ _) (eqb-false _ _))
-      (says_then (check 4 6 (format.size s ≡ length s) (format.size s ≢ length s) ∷ []) _ _ _
-      (says-test (eqb (format.size s) (length s)) 4 6 (eqb-true _ _) (eqb-false _ _))
+      says_then (length-check ∷ []) (mark-check ∷ version-check ∷ size-check ∷ count-check ∷ []) (need (leb 8 (length s)) 1 0) from-mark
+      (says-test (leb 8 (length s)) 1 0 (leb-true 8 (length s)) (leb-false 8 (length s)))
+      (says_then (mark-check ∷ []) (version-check ∷ size-check ∷ count-check ∷ []) (need (Read.table_marked s) 2 0) from-version
+      (says-test (Read.table_marked s) 2 0 (marked-bytes s) others)
+      (says_then (version-check ∷ []) (size-check ∷ count-check ∷ []) (need (eqb (u16 s 3) format.version) 3 3) from-size
+      (says-test (eqb (u16 s 3) format.version) 3 3 (eqb-true (u16 s 3) format.version) (eqb-false (u16 s 3) format.version))
+      (says_then (size-check ∷ []) (count-check ∷ []) (need (eqb (format.size s) (length s)) 4 6) from-count
+      (says-test (eqb (format.size s) (length s)) 4 6 (eqb-true (format.size s) (length s)) (eqb-false (format.size s) (length s)))
       (says-test count-right 6 5 (between (byte s 5) 16) (not-between (byte s 5) 16)))))
     where
       others : Read.table_marked s ≡ false → Unmarked

@@ -175,7 +175,7 @@ module _ (ns : List Node) where
         either : (n : Node) → Is n ns → (member n.id (p.node.id ∷ done) ≡ true) ⊎ Is n p.rest
         either n h =
             ⊎_elim (λ a. inl (cond-or (eqb p.node.id n.id) _ a))
-            (λ a. ⊎_elim (λ e. inl (rw e (member-first p.node.id done))) (λ b. inr b) (sp.here n a))
+            (λ a. ⊎_elim (λ e. inl (subst (λ (m : Node). member m.id (p.node.id ∷ done) ≡ true) (sym e) (member-first p.node.id done))) (λ b. inr b) (sp.here n a))
             (st.either n h)
 
     pub complete : (k : ℕ) (done : List ℕ) (left : List Node) → State done left → length left ≤ k → Right done left (order k done left)
