@@ -304,16 +304,14 @@ fn judgement_number(a: Judgement) -> u64
 }
 
 // Checks a table: the function count, or a refusal.
-#[unsafe(no_mangle)]
-pub extern "C" fn ifg_check(table: &[u8]) -> u64
+pub fn ifg_check(table: &[u8]) -> u64
     ensures { Told (verdict table.now) result }
 {
     verdict_number(checker::check(table))
 }
 
 // Compiles a function in version 1: the code's length, or a refusal, which leaves every byte of the buffer.
-#[unsafe(no_mangle)]
-pub extern "C" fn ifg_compile(table: &[u8], id: u16, code: &mut [u8]) -> u64
+pub fn ifg_compile(table: &[u8], id: u16, code: &mut [u8]) -> u64
     ensures told { Told (code_length (compiled table.now id 1 code.old)) result }
     ensures code_after { code.new ≡ code_after code.old (compiled table.now id 1 code.old) }
 {
@@ -321,8 +319,7 @@ pub extern "C" fn ifg_compile(table: &[u8], id: u16, code: &mut [u8]) -> u64
 }
 
 // In the version that is named.
-#[unsafe(no_mangle)]
-pub extern "C" fn ifg_compile_version(table: &[u8], id: u16, version: u16, code: &mut [u8]) -> u64
+pub fn ifg_compile_version(table: &[u8], id: u16, version: u16, code: &mut [u8]) -> u64
     ensures told { Told (code_length (compiled table.now id version code.old)) result }
     ensures code_after { code.new ≡ code_after code.old (compiled table.now id version code.old) }
 {
@@ -330,8 +327,7 @@ pub extern "C" fn ifg_compile_version(table: &[u8], id: u16, version: u16, code:
 }
 
 // Runs a code: the count of output words, or a refusal.
-#[unsafe(no_mangle)]
-pub extern "C" fn ifr_run(code: &[u8], arguments: &[u64], work: &mut [u64], out: &mut [u64]) -> u64
+pub fn ifr_run(code: &[u8], arguments: &[u64], work: &mut [u64], out: &mut [u64]) -> u64
     ensures run_answered { RunAnswered (ran code.now arguments.now work.old out.old) work.old out.old work.new out.new result }
     ensures any_order { AnyOrder (λ n. result ≡ n) code.now arguments.now work.old out.old work.new out.new }
 {
@@ -340,8 +336,7 @@ pub extern "C" fn ifr_run(code: &[u8], arguments: &[u64], work: &mut [u64], out:
 
 // Runs a code at many points, their arguments and their output words end to end: the count of all output words, or a
 // refusal.
-#[unsafe(no_mangle)]
-pub extern "C" fn ifr_run_points(
+pub fn ifr_run_points(
     code: &[u8],
     count: u64,
     arguments: &[u64],
@@ -356,8 +351,7 @@ pub extern "C" fn ifr_run_points(
 
 // Compiles a function in version 1 and runs its code on arguments: the count of output words, or a refusal, which leaves every byte
 // and word of the buffers.
-#[unsafe(no_mangle)]
-pub extern "C" fn ifg_evaluate(
+pub fn ifg_evaluate(
     table: &[u8],
     id: u16,
     arguments: &[u64],
@@ -374,8 +368,7 @@ pub extern "C" fn ifg_evaluate(
 }
 
 // In the version that is named.
-#[unsafe(no_mangle)]
-pub extern "C" fn ifg_evaluate_version(
+pub fn ifg_evaluate_version(
     table: &[u8],
     id: u16,
     version: u16,
@@ -394,8 +387,7 @@ pub extern "C" fn ifg_evaluate_version(
 
 // Judges a router's list of version 2 for a function, with the number of the instruction of version 1 that each of its instructions
 // carries out: its instruction count, or a refusal.
-#[unsafe(no_mangle)]
-pub extern "C" fn ifg_judge_placement(table: &[u8], id: u16, code: &[u8], numbers: &[u16]) -> u64
+pub fn ifg_judge_placement(table: &[u8], id: u16, code: &[u8], numbers: &[u16]) -> u64
     ensures told { Told (judged_placement table.now id code.now numbers.now) result }
     ensures promise { Promise (λ n. Told (ok n) result) (λ n p. Told (fault n p) result) table.now id code.now numbers.now }
 {
