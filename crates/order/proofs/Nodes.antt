@@ -106,7 +106,7 @@ nodes = map (λ r. r.node)
 
 pub ref-member : (rs : List Ref) (s : ℕ) (r : Ref) → get_elem? rs s ≡ some r → member r.node (nodes rs) ≡ true
 ref-member [] s r e = let z : ◌≡◌ {A = ℕ} 0 1 = cc in absurd (omega arith)
-ref-member (x ∷ rs) zero r e = rw (← some_is e) (member-first x.node (nodes rs))
+ref-member (x ∷ rs) zero r e = subst (λ (y : Ref). member y.node (nodes (x ∷ rs)) ≡ true) (some_is e) (member-first x.node (nodes rs))
 ref-member (x ∷ rs) (suc s) r e = member-later r.node x.node (nodes rs) (ref-member rs s r e)
 
 pub member-ref : (rs : List Ref) (j : ℕ) → member j (nodes rs) ≡ true → (s : ℕ) × (r : Ref) × (get_elem? rs s ≡ some r) × (r.node ≡ j)

@@ -10,62 +10,62 @@ use Rattle.order.proofs.Range.{first-hit, first-miss, first-end}
 use Rattle.order.proofs.Closure.{loop-at, loop-nowhere}
 use Rattle.order.proofs.Complete.{ordered-clear}
 
-abbrev invariant-loop : tie.invariant-loop
+abbrev invariant-loop : tie.invariant-loop-i
 invariant-loop targets n ordered i₀ i = (i ≤ n) × (first_of (on_loop targets n) 0 n ≡ first_of (on_loop targets n) i (n - i))
 
-abbrev decreases-loop : tie.decreases-loop
+abbrev decreases-loop : tie.decreases-loop-i
 decreases-loop targets n ordered i₀ i = n - i
 
-take-all-requires : tie.Need-take-all-requires invariant-loop decreases-loop
+take-all-requires : tie.Need-take_all-requires invariant-loop decreases-loop
 take-all-requires c κs = (c.before.requires, refl)
 
-loop-holds : tie.Need-loop-init invariant-loop decreases-loop
+loop-holds : tie.Need-loop-i-init invariant-loop decreases-loop
 loop-holds c =
     let a = c.before.before.args in
     let e : a.n ≡ a.n - 0 = omega arith in
     (omega arith, ap (first_of (on_loop a.targets.now a.n) 0) e)
 
 -- a node that can be ordered
-loop-again : tie.Need-loop-preserved invariant-loop decreases-loop
+loop-again : tie.Need-loop-i-preserved-then-ordered-i invariant-loop decreases-loop
 loop-again c =
     let d = c.before in
     let t = d.before.before in
     let a = t.before.before.args in
-    let l = d.before.loop in (
+    let l = d.before.loop-i in (
       search rules,
       l.invariant.1
-          ∙ first-miss (on_loop a.targets.now a.n) a.n l.i d.loop-test.true
-          (ordered-clear a.targets.now a.n l.i (sym (t.take_all.ensures.1 l.i) ∙ c.if1.true)),
+          ∙ first-miss (on_loop a.targets.now a.n) a.n l.i d.loop-i-test.true
+          (ordered-clear a.targets.now a.n l.i (sym (t.take_all.ensures.1 l.i) ∙ c.if-ordered-i.true)),
     )
 
-returns : tie.Need-returns invariant-loop decreases-loop
+returns : tie.Need-returns-then-on_loop invariant-loop decreases-loop
 returns c =
     let d = c.before.before.before in
     let t = d.before.before in
     let a = t.before.before.args in
-    let l = d.before.loop in
+    let l = d.before.loop-i in
     sym
-    (loop-at a.targets.now a.n l.i d.loop-test.true
-    (l.invariant.1 ∙ first-hit (on_loop a.targets.now a.n) a.n l.i d.loop-test.true (sym c.before.on-loop.ensures ∙ c.if2.true)))
+    (loop-at a.targets.now a.n l.i d.loop-i-test.true
+    (l.invariant.1 ∙ first-hit (on_loop a.targets.now a.n) a.n l.i d.loop-i-test.true (sym c.before.on_loop.ensures ∙ c.if-on_loop.true)))
 
-loop-again-2 : tie.Need-loop-preserved-2 invariant-loop decreases-loop
+loop-again-2 : tie.Need-loop-i-preserved invariant-loop decreases-loop
 loop-again-2 c =
     let d = c.before.before.before in
     let t = d.before.before in
     let a = t.before.before.args in
-    let l = d.before.loop in (
+    let l = d.before.loop-i in (
       search rules,
-      l.invariant.1 ∙ first-miss (on_loop a.targets.now a.n) a.n l.i d.loop-test.true (sym c.before.on-loop.ensures ∙ c.if2.false),
+      l.invariant.1 ∙ first-miss (on_loop a.targets.now a.n) a.n l.i d.loop-i-test.true (sym c.before.on_loop.ensures ∙ c.if-on_loop.false),
     )
 
-returns-2 : tie.Need-returns-2 invariant-loop decreases-loop
+returns-2 : tie.Need-returns invariant-loop decreases-loop
 returns-2 c =
     let t = c.before.before in
     let a = t.before.before.args in
-    let l = c.before.loop in
+    let l = c.before.loop-i in
     sym
-    (loop-nowhere a.targets.now a.n l.i c.loop-test.false
-    (l.invariant.1 ∙ first-end (on_loop a.targets.now a.n) a.n l.i c.loop-test.false))
+    (loop-nowhere a.targets.now a.n l.i c.loop-i-test.false
+    (l.invariant.1 ∙ first-end (on_loop a.targets.now a.n) a.n l.i c.loop-i-test.false))
 
 pub first_on_loop_spec : {M : Type 1} → statement M
 first_on_loop_spec =

@@ -8,35 +8,35 @@ use Rattle.order.specs.Walk.{walk, visit_from, Room}
 use Rattle.order.proofs.Reached.{visiting-step, from_end}
 use Rattle.base.specs.Limits.{operand_limit}
 
-abbrev invariant-loop : tie.invariant-loop
+abbrev invariant-loop : tie.invariant-loop-s
 invariant-loop targets n i seen₀ queue₀ tail s₀ end₀ seen queue s end =
     (s ≤ operand_limit) × Room (walk seen queue end) × (visit_from targets n i 0 operand_limit (walk seen₀ queue₀ tail) ≡ visit_from targets n i s (operand_limit - s) (walk seen queue end))
 
-abbrev decreases-loop : tie.decreases-loop
+abbrev decreases-loop : tie.decreases-loop-s
 decreases-loop targets n i seen₀ queue₀ tail s₀ end₀ seen queue s end = operand_limit - s
 
-loop-holds : tie.Need-loop-init invariant-loop decreases-loop
+loop-holds : tie.Need-loop-s-init invariant-loop decreases-loop
 loop-holds c = (omega arith, c.requires.2, refl)
 
-visit-requires : tie.Need-visit-requires invariant-loop decreases-loop
-visit-requires c κs = let d = c.before.before.before in (d.before.before.requires.0, d.before.loop.invariant.1)
+visit-requires : tie.Need-visit-end-requires invariant-loop decreases-loop
+visit-requires c κs = let d = c.before.before.before in (d.requires.0, d.loop-s.invariant.1)
 
-loop-again : tie.Need-loop-preserved invariant-loop decreases-loop
+loop-again : tie.Need-loop-s-preserved invariant-loop decreases-loop
 loop-again c =
     let v = c.before.before.before in
     let d = v.before in
-    let a = d.before.before.args in
-    let l = d.before.loop in
+    let a = d.args in
+    let l = d.loop-s in
     let h : l.s < operand_limit = omega arith in
-    visiting-step a.targets.now a.n d.before.before.requires.0 a.i (walk a.seen.now a.queue.now a.tail)
-    (walk l.seen l.queue l.end) (walk c.visit.new.1.1.0 c.visit.new.1.1.1.0 c.visit.result) l.s l.invariant
-    h c.visit.ensures
+    visiting-step a.targets.now a.n d.requires.0 a.i (walk a.seen.now a.queue.now a.tail)
+    (walk l.seen l.queue l.end) (walk c.visit-end.new.seen c.visit-end.new.queue c.visit-end.result) l.s l.invariant
+    h c.visit-end.ensures
 
 returns : tie.Need-returns invariant-loop decreases-loop
 returns c =
-    let a = c.before.before.args in
-    let l = c.before.loop in
-    sym (l.invariant.2 ∙ from_end a.targets.now a.n c.before.before.requires.0 a.i l.s (walk l.seen l.queue l.end) c.loop-test.false)
+    let a = c.args in
+    let l = c.loop-s in
+    sym (l.invariant.2 ∙ from_end a.targets.now a.n c.requires.0 a.i l.s (walk l.seen l.queue l.end) c.loop-s-test.false)
 
 pub visit_all_spec : {M : Type 1} → statement M
 visit_all_spec =
