@@ -1,3 +1,2 @@
 // Any order that respects the reads: definitions and laws.
 #![tactic(auto)]
-
