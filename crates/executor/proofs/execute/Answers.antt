@@ -1,0 +1,11 @@
+-- `executor::execute`, by the type byte.
+use Rattle.executor.proofs.Arms.{with-type, of-type, last-type}
+use Rattle.executor.proofs.execute.Goals as goal
+
+pub execute_matrices-requires : goal.execute_matrices-requires
+execute_matrices-requires c =
+    let h = c.requires.1 in
+    with-type (last-type h c.in_default.in_default-own.rest) h
+
+pub returns-in_default : goal.returns-in_default
+returns-in_default c = of-type (last-type c.requires.1 c.in_default.in_default-own.rest) c.execute_matrices.ensures

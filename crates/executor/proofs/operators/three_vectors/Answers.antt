@@ -1,0 +1,13 @@
+-- `executor::operators::three_vectors`: the operands, the step, the result.
+use mathlib.Core.Path.{ap, ◌∙◌}
+use Rattle.value.specs.declared.Value.TheVariants.{Vector}
+use Rattle.value.specs.Steps.{step_of, each_vec}
+use Rattle.executor.proofs.Stored.{four, operated}
+use Rattle.executor.proofs.operators.three_vectors.Goals as goal
+
+pub returns : goal.returns
+returns c =
+    operated c.requires
+    (ap Vector (c.step_vec-x.ensures
+    ∙ four (each_vec (step_of c.args.o)) c.vector_at-a.ensures c.vector_at-b.ensures c.vector_at-c.ensures c.zero_vec-z.ensures))
+    c.put_short.ensures
