@@ -1,10 +1,7 @@
 -- `validator::instruction::carried`, test by test.
-use Prim.Native.Nat.{◌+◌, ◌*◌, ◌≤◌}
 use mathlib.Core.Path.{◌≡◌, ◌∙◌}
-use native.Mathlib.Omega.{arith}
 use borrow.Author.Tests.{not-true, not-false}
-use lib.ListN.{length}
-use Rattle.validator.proofs.Stepping.{row_constants, ours-there, code-there, constants-are, other-kind, other-type, other-constants, by-operands}
+use Rattle.validator.proofs.Stepping.{row_constants, constants-are, other-kind, other-type, other-constants, by-operands}
 use Rattle.validator.proofs.instruction.carried.Goals as goal
 
 pub returns-then-code-at : goal.returns-then-code-at
@@ -17,14 +14,6 @@ returns-then-t-ours c =
     let a = c.args in
     other-type a.ours.now a.from a.code.now a.at a.words.now c.requires.row_is c.if-code-at.false c.if-t-ours.true
 
-pub same_constants-requires : goal.same_constants-requires
-same_constants-requires c =
-    let there : let a = c.args in let size = 2 * c.wide-n.result + 8 * c.constant_words-constants.result in (a.from + 2 + size ≤ length a.ours.now) × (a.at + 4 + size ≤ length a.code.now) = let h = c.requires in
-    let n = c.wide-n.ensures.0 in
-    let m = c.constant_words-constants.ensures.0 in
-    (ours-there h n m c.if-code-at.false, code-there h n m) in
-    let h = there in (omega (arith, h.0), omega (arith, h.1))
-
 pub returns-then-not-same_constants : goal.returns-then-not-same_constants
 returns-then-not-same_constants c =
     let constants-is : let a = c.args in row_constants a.ours.now a.from a.code.now a.at a.words.now a.row ≡ c.same_constants.result = let a = c.args in
@@ -32,14 +21,6 @@ returns-then-not-same_constants c =
     let a = c.args in
     other-constants a.ours.now a.from a.code.now a.at a.words.now c.requires.row_is c.if-code-at.false c.if-t-ours.false
     (constants-is ∙ not-true _ c.if-not-same_constants.true-raw)
-
-pub held_operands-requires : goal.held_operands-requires
-held_operands-requires c =
-    let there : let a = c.args in let size = 2 * c.wide-n.result + 8 * c.constant_words-constants.result in (a.from + 2 + size ≤ length a.ours.now) × (a.at + 4 + size ≤ length a.code.now) = let h = c.requires in
-    let n = c.wide-n.ensures.0 in
-    let m = c.constant_words-constants.ensures.0 in
-    (ours-there h n m c.if-code-at.false, code-there h n m) in
-    let h = there in (omega (arith, h.0), omega (arith, h.1))
 
 pub returns : goal.returns
 returns c =

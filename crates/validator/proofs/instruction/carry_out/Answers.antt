@@ -4,7 +4,7 @@ use mathlib.Core.Path.{◌≡◌, ap, sym, ◌∙◌}
 use borrow.Author.Tests.{not-true, not-false}
 use lib.ListN.{get_or}
 use Rattle.validator.specs.Tests.{carried_at}
-use Rattle.validator.proofs.Stepping.{no_number, again, not_carried, stepped, comparable, holdable, next-is, stored_is}
+use Rattle.validator.proofs.Stepping.{no_number, again, not_carried, stepped, next-is, stored_is}
 use Rattle.validator.proofs.instruction.carry_out.Goals as goal
 
 pub returns-then-count-m : goal.returns-then-count-m
@@ -18,12 +18,6 @@ returns-then-half-eq0 c =
     let a = c.args in
     again a.ours.now a.code.now a.at a.m a.count a.index.now a.words.now below (sym c.wide16-half.ensures.0 ∙ c.if-half-eq0.true)
 
-pub carried-requires : goal.carried-requires
-carried-requires c =
-    let below : c.args.m < c.args.count = c.if-count-m.false in
-    let open-yet : let a = c.args in get_or a.index.now a.m 0 ≡ 0 → ⊥ = λ e. c.if-half-eq0.false (c.wide16-half.ensures.0 ∙ e) in
-    comparable c.requires below open-yet c.wide16-half.ensures.0
-
 pub returns-then-not-carried : goal.returns-then-not-carried
 returns-then-not-carried c =
     let below : c.args.m < c.args.count = c.if-count-m.false in
@@ -33,11 +27,6 @@ returns-then-not-carried c =
     let a = c.args in
     not_carried a.ours.now a.code.now a.at a.m a.count a.index.now a.words.now below open-yet
     (carried-is ∙ not-true _ c.if-not-carried.true-raw)
-
-pub note_words-requires : goal.note_words-requires
-note_words-requires c =
-    let below : c.args.m < c.args.count = c.if-count-m.false in
-    holdable c.requires below c.u16_at.ensures.0 c.wide16-w.ensures.0 c.result_words.ensures.value
 
 pub returns : goal.returns
 returns c =
