@@ -241,9 +241,6 @@ module _ {ours code numbers : List ℕ} {arguments outputs count total index-siz
     pub kind-there : (at < length code) × (byte code at < kind_limit)
     kind-there = (omega (arith, t.here.fits), kind_row (byte code at) (byte code (at + 1)) t.here.legal)
 
-    pub number-there : p < length numbers
-    number-there = omega (arith, j.counted.numbered, j.count-is)
-
     steppable-own : {row : Ports} → row ≡ ports_of (kind_of (byte code at)) → Steppable ours code at m count row index words
     steppable-own e =
         let s = g.state in
