@@ -9,7 +9,7 @@ use lib.Dec.{eqb, leb}
 use lib.ListN.{length, replicate}
 use Rattle.ports.specs.Kinds.{kind_of}
 use Rattle.ports.specs.declared.Ports.{Ports}
-use Rattle.ports.specs.Ports.{width, takes, arity, is_type, has_type, type_fits, ports_of, executable, legal_instruction}
+use Rattle.ports.specs.Ports.{width, arity, is_type, has_type, type_fits, ports_of, executable, legal_instruction}
 use Rattle.ports.proofs.Laws.{no_kind}
 use Rattle.ports.proofs.Table.{upto, upto-at, NoneOf, any_of, last_of}
 use Rattle.value.specs.declared.Operator.{Operator}

@@ -1,8 +1,8 @@
 -- One instruction beside the instruction of version 1 that it carries out, test by test; and the index of version 1's instructions.
-use Prim.Native.Nat.{ℕ, zero, suc, ◌+◌, ◌*◌, ◌-◌, ◌/◌, ◌≤◌, ◌<◌}
+use Prim.Native.Nat.{ℕ, suc, ◌+◌, ◌*◌, ◌-◌, ◌/◌, ◌≤◌, ◌<◌}
 use mathlib.Core.Path.{◌≡◌, refl, ap, ap₂, sym, ◌∙◌, subst}
 use mathlib.Core.Bool.{Bool, true, false, ◌&&◌}
-use mathlib.Core.List.{List, [], ◌∷◌}
+use mathlib.Core.List.{List}
 use native.Mathlib.Omega.{arith}
 use borrow.Author.Tests.{eq-eqb, ne_eqb, lt-ltb, le-ltb}
 use lib.Dec.{eqb}
@@ -14,7 +14,7 @@ use Rattle.ports.specs.Ports.{types, own, constant_in, ports_of, result_words}
 use Rattle.base.specs.Bytes.{byte, u16, constants}
 use Rattle.base.specs.Lists.{span}
 use Rattle.base.specs.Limits.{address_limit, word_limit, header_length}
-use Rattle.base.proofs.Stores.{Run, run-start, run_step, run-done, none_left}
+use Rattle.base.proofs.Stores.{Run, run_step}
 use Rattle.bytecode.specs.Code.{addresses}
 use Rattle.validator.specs.declared.Step.TheVariants.{Next, Wrong}
 use Rattle.validator.specs.Judge.{alike}
