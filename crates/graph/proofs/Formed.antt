@@ -32,7 +32,7 @@ use Rattle.graph.specs.Checks.{Says, table_checks}
 use Rattle.graph.proofs.Formats.{Plain, plain_of}
 use Rattle.graph.proofs.First.{all-judged}
 use Rattle.graph.proofs.Accept.{all_sound}
-use Rattle.base.specs.Limits.{function_limit, node_limit}
+use Rattle.base.specs.Limits.{function_limit}
 
 -- ---- lengths
 

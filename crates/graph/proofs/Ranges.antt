@@ -16,13 +16,13 @@ use Rattle.graph.specs.Types.{wants_of, output_types}
 use Rattle.graph.specs.Judge.{verdict}
 use Rattle.graph.specs.Written.{flat, ref_bytes, output_bytes, payload_bytes, node_bytes, function_bytes, header_bytes, RefsAt, PayloadAt, OutputsAt, NodesAt, FunctionAt, FunctionsAt}
 use Rattle.graph.specs.Checks.{Check, First, id_checks, call_checks, ref_checks, node_ref_checks, loop_checks, link_checks, function_checks, table_checks}
-use Rattle.graph.specs.Reading.{header_checks, Shape, head, input, output, node, payload, arguments, size, record_checks, Reading, end, stop, on}
+use Rattle.graph.specs.Reading.{header_checks, Shape, head, input, output, node, payload, arguments, record_checks, Reading, end, stop, on}
 use Rattle.graph.specs.Rules.{Fault, of-header, of-reading, of-rules}
 use Rattle.base.proofs.Stands.{little-below}
 use Rattle.graph.proofs.Formed.{refs-size, outputs-size, header-length}
 use Rattle.graph.proofs.Formats.{Plain, plain_of}
 use Rattle.graph.proofs.Exactly.{verdict-iff}
-use Rattle.base.specs.Limits.{function_limit, node_limit}
+use Rattle.base.specs.Limits.{function_limit}
 
 -- ---- checks whose numbers and places are so
 

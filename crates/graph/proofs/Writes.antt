@@ -28,7 +28,7 @@ use Rattle.base.proofs.Outcomes.{takes, passes}
 use Rattle.base.proofs.Stands.{split, all-length, Here, moved, off, little-read, u16-read, constants-read}
 use Rattle.graph.proofs.Formats.{Plain}
 use Rattle.graph.proofs.Formed.{refs-size, outputs-size, header-length, parse-written}
-use Rattle.base.specs.Limits.{function_limit, node_limit}
+use Rattle.base.specs.Limits.{function_limit}
 
 ref-is : (r : Ref) {a b c : ℕ} → a ≡ r.node → b ≡ r.port → r.place ≡ c → record { node = a; port = b; place = c } ≡ r
 ref-is r p q w = rw (p, q, ← w) refl

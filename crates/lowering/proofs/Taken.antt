@@ -10,7 +10,7 @@ use lib.Seq.{sets}
 use borrow.Author.Tests.{le-leb, eq-eqb}
 use Rattle.ports.specs.Ports.{widths}
 use Rattle.base.specs.Lists.{word_at, every, Each}
-use Rattle.base.specs.Outcome.{Outcome, ok, ◌>>=◌, ◌>>◌, need, or_else}
+use Rattle.base.specs.Outcome.{Outcome, ok, ◌>>◌, need, or_else}
 use Rattle.base.proofs.Bools.{and_both}
 use Rattle.base.proofs.Outcomes.{takes, passes, some-else}
 use Rattle.value.specs.Values.{all_words, values_of, argument_word}

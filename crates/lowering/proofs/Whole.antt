@@ -29,7 +29,6 @@ use Rattle.graph.proofs.Exactly.{table-back, table-there}
 use Rattle.graph.proofs.Table.{chosen-sound}
 use Rattle.bytecode.specs.declared.Version.{Version}
 use Rattle.bytecode.specs.Version.{version_of}
-use Rattle.bytecode.specs.Run.{run}
 use Rattle.bytecode.specs.Code.{result_bytes}
 use Rattle.bytecode.specs.WellFormed.{FormedList}
 use Rattle.bytecode.specs.Answers.{Buffers, ran}

@@ -11,7 +11,7 @@ use lib.Dec.{leb, ltb}
 use lib.ListN.{length, get_or, set, take, drop, replicate}
 use lib.Seq.{sets, drop-cons, get_or-set_same, get_or-set_other}
 use borrow.Author.Tests.{ltb-true, ltb-false, lt-ltb, le-ltb, le-leb, lt-leb}
-use Rattle.ports.specs.Ports.{width, widths}
+use Rattle.ports.specs.Ports.{widths}
 use Rattle.base.specs.Limits.{word_limit}
 use Rattle.base.specs.Lists.{Each, Is}
 use Rattle.base.proofs.Lists.{each_on}

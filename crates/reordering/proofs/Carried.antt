@@ -12,11 +12,11 @@ use Rattle.ports.specs.Ports.{takes}
 use Rattle.base.specs.Lists.{Each}
 use Rattle.bytecode.specs.Run.{Instruction, BoardList}
 use Rattle.bytecode.specs.Sequential.{next_word, AllFit}
-use Rattle.bytecode.specs.Ranges.{Range, end}
+use Rattle.bytecode.specs.Ranges.{Range}
 use Rattle.bytecode.specs.Origin.{Origin, result, origin_at, operand_places, result_width, made, origins, after, start, Reading, readings, final, Numbered, final_of, Carries, Roomy}
 use Rattle.bytecode.proofs.Origins.{start-length, Follows}
 use Rattle.bytecode.proofs.Sequential.{fit-up}
-use Rattle.placement.specs.Place.{Placed, words, top, renamed}
+use Rattle.placement.specs.Place.{Placed, top, renamed}
 use Rattle.placement.specs.OneValue.{Placeable}
 use Rattle.placement.specs.Balance.{blank, instruction_at}
 use Rattle.placement.proofs.Carried.{final-keeps, stored-made, Keeps, keeps-store, same_reads, own-reads}

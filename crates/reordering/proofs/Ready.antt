@@ -1,6 +1,6 @@
 -- While the instructions are carried out in their new order: the values that are there, and that whatever an instruction reads is among them. A
 -- result is placed apart from all other values, so that those stay as they are.
-use Prim.Native.Nat.{ℕ, ◌+◌, ◌-◌, ◌≤◌, ◌<◌}
+use Prim.Native.Nat.{ℕ, ◌≤◌, ◌<◌}
 use mathlib.Core.Path.{◌≡◌, ap, sym, ◌∙◌, subst}
 use mathlib.Core.Bool.{true}
 use mathlib.Core.List.{List, [], ◌∷◌, ◌++◌, map}

@@ -10,7 +10,7 @@ use Rattle.base.specs.Outcome.{Outcome, ok, fault, ◌>>=◌}
 use Rattle.base.specs.Bytes.{byte, u16, Bytes}
 use Rattle.graph.specs.Graph.{Function}
 use Rattle.graph.specs.Format.{format_of}
-use Rattle.graph.specs.Read.{functions, parse}
+use Rattle.graph.specs.Read.{parse}
 use Rattle.graph.specs.Judge.{table, verdict}
 use Rattle.graph.specs.Sound.{AllSound}
 use Rattle.base.proofs.Outcomes.{took, passed, ok-is}

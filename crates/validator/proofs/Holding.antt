@@ -1,8 +1,8 @@
 -- The record of what each word holds: loops that end at the first test that fails, and runs of stores.
-use Prim.Native.Nat.{ℕ, zero, suc, ◌+◌, ◌-◌, ◌<◌}
-use mathlib.Core.Path.{◌≡◌, refl, ap, ap₂, sym, ◌∙◌}
+use Prim.Native.Nat.{ℕ, zero, suc, ◌+◌, ◌*◌, ◌-◌, ◌/◌, ◌≤◌, ◌<◌}
+use mathlib.Core.Path.{◌≡◌, refl, ap, ap₂, sym, ◌∙◌, subst}
 use mathlib.Core.Bool.{Bool, true, false, ◌&&◌}
-use mathlib.Core.List.{List, [], ◌∷◌, map}
+use mathlib.Core.List.{List, [], ◌∷◌, ◌++◌, map}
 use native.Mathlib.Omega.{arith}
 use native.Mathlib.Numerals.{sub-one, add-one}
 use borrow.Author.Tests.{eq-eqb, ne_eqb}
@@ -13,7 +13,7 @@ use Rattle.ports.specs.Ports.{width, types}
 use Rattle.base.specs.Bytes.{u16, u64, constants}
 use Rattle.base.specs.Lists.{span}
 use Rattle.base.proofs.Lists.{span-length}
-use Rattle.base.proofs.Stores.{then}
+use Rattle.base.proofs.Stores.{Run, run-start, run_step, run-done, then}
 use Rattle.bytecode.specs.Code.{addresses}
 use Rattle.validator.specs.Judge.{alike}
 use Rattle.validator.specs.Tests.{no_word, held_at, held_words, held_operands, first_words}
@@ -77,6 +77,13 @@ module _ (words : List ℕ) where
       }
 
   module _ (a w count : ℕ) where
+    pub words-start : held_words words (a + 0) (w + 0) (count - 0) ≡ held_words words a w count
+    words-start =
+        let x : a + 0 ≡ a = omega arith in
+        let y : w + 0 ≡ w = omega arith in
+        let z : count - 0 ≡ count = omega arith in
+        rw (x, y, z)
+
     module _ (i : ℕ) where
       pub words-on : i < count → eqb (held_at words (a + i)) (w + i) ≡ true
           → held_words words (a + i) (w + i) (count - i) ≡ held_words words (a + (i + 1)) (w + (i + 1)) (count - (i + 1))
@@ -85,6 +92,12 @@ module _ (words : List ℕ) where
           let y : w + i + 1 ≡ w + (i + 1) = omega arith in
           let z : count - i - 1 ≡ count - (i + 1) = omega arith in
           on words-walk (count - i) (a + i, w + i) (omega arith) e ∙ (rw (x, y, z))
+
+      pub words-off : i < count → eqb (held_at words (a + i)) (w + i) ≡ false → held_words words (a + i) (w + i) (count - i) ≡ false
+      words-off h e = off words-walk (count - i) (a + i, w + i) (omega arith) e
+
+      pub words-over : count ≤ i → held_words words (a + i) (w + i) (count - i) ≡ true
+      words-over h = over words-walk (count - i) (a + i, w + i) (omega arith)
 
   module _ (ours code : List ℕ) where
     -- the place in `ours`, that in `code`, and the type of the next operand
@@ -113,11 +126,20 @@ module _ (w n : ℕ) where
   abbrev pub span_left : ℕ → List ℕ
   span_left i = span (w + i) (n - i)
 
+  pub span-start : span_left 0 ≡ span w n
+  span-start =
+      let x : w + 0 ≡ w = omega arith in
+      let y : n - 0 ≡ n = omega arith in
+      rw (x, y)
+
   pub span-next : (i : ℕ) → i < n → span_left i ≡ (w + i) ∷ span_left (i + 1)
   span-next i h =
       let x : n - i ≡ suc (n - (i + 1)) = omega arith in
       let y : suc (w + i) ≡ w + (i + 1) = omega arith in
       rw (x, y)
+
+  pub span-over : (i : ℕ) → n ≤ i → span_left i ≡ []
+  span-over i h = let z : n - i ≡ 0 = omega arith in ap (span (w + i)) z
 
 pub one-held : (words : List ℕ) (a w count : ℕ) → count ≡ 1 → set words a w ≡ sets words a (span w count)
 one-held words a w count e = sym (ap (λ (n : ℕ). sets words a (span w n)) e)

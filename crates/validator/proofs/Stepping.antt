@@ -1,8 +1,8 @@
 -- One instruction beside the instruction of version 1 that it carries out, test by test; and the index of version 1's instructions.
-use Prim.Native.Nat.{ℕ, suc, ◌+◌, ◌*◌, ◌-◌, ◌/◌, ◌≤◌, ◌<◌}
+use Prim.Native.Nat.{ℕ, zero, suc, ◌+◌, ◌*◌, ◌-◌, ◌/◌, ◌≤◌, ◌<◌}
 use mathlib.Core.Path.{◌≡◌, refl, ap, ap₂, sym, ◌∙◌, subst}
 use mathlib.Core.Bool.{Bool, true, false, ◌&&◌}
-use mathlib.Core.List.{List}
+use mathlib.Core.List.{List, [], ◌∷◌}
 use native.Mathlib.Omega.{arith}
 use borrow.Author.Tests.{eq-eqb, ne_eqb, lt-ltb, le-ltb}
 use lib.Dec.{eqb}
@@ -14,7 +14,7 @@ use Rattle.ports.specs.Ports.{types, own, constant_in, ports_of, result_words}
 use Rattle.base.specs.Bytes.{byte, u16, constants}
 use Rattle.base.specs.Lists.{span}
 use Rattle.base.specs.Limits.{address_limit, word_limit, header_length}
-use Rattle.base.proofs.Stores.{Run, run_step}
+use Rattle.base.proofs.Stores.{Run, run-start, run_step, run-done, none_left}
 use Rattle.bytecode.specs.Code.{addresses}
 use Rattle.validator.specs.declared.Step.TheVariants.{Next, Wrong}
 use Rattle.validator.specs.Judge.{alike}
@@ -30,6 +30,9 @@ module _ {ours : List ℕ} {from : ℕ} {code : List ℕ} {at : ℕ} {row : Port
 
   pub code-there : at + 4 + (2 * n + 8 * m) ≤ length code
   code-there = rw (counted (byte code at) h.row_is (at + 4)) h.there
+
+  pub ours-there : byte code at ≡ byte ours from → from + 2 + (2 * n + 8 * m) ≤ length ours
+  ours-there ek = rw (counted (byte ours from) (h.row_is ∙ ap (λ (k : ℕ). ports_of (kind_of k)) ek) (from + 2)) h.own-there
 
 -- ---- what is carried out, by the kind's row
 
@@ -112,6 +115,13 @@ module _ {ours code : List ℕ} {at m count : ℕ} {row : Ports} {index words : 
   pub comparable : m < count → (get_or index m 0 ≡ 0 → ⊥) → {half : ℕ} → half ≡ get_or index m 0 → Comparable ours (2 * half) code at row
   comparable h n e = record { row_is = s.row_is; own-there = rw e (s.own-there h n); there = s.there }
 
+  -- the result's words and the words that they hold
+  pub holdable : m < count → {a w n : ℕ} → a ≡ u16 code (at + 2) → w ≡ result_of words m → n ≡ result_words row (byte code (at + 1))
+      → (a + n ≤ length words) × (w + n ≤ address_limit)
+  holdable h {a} {w} {n} ea ew en =
+      let k : n ≡ words_at code at = en ∙ ap (λ (r : Ports). result_words r (byte code (at + 1))) s.row_is in
+      (rw (ea, k) s.room, rw (ew, k) (s.small h))
+
   pub next-is : {n c : ℕ} → n ≡ row.operands → c ≡ constant_in row.form row.words → at + 4 + 2 * n + 8 * c ≡ end_at code at
   next-is en ec =
       ap₂ (λ (n c : ℕ). at + 4 + 2 * n + 8 * c) (en ∙ ap (λ (r : Ports). r.operands) s.row_is) (ec ∙ ap (λ (r : Ports). constant_in r.form r.words) s.row_is)
@@ -142,6 +152,17 @@ pub record Listing (ours : List ℕ) (count first : ℕ) (index₀ words₀ inde
   pub given : Run (results_from count ours header_length first) words₀ word_limit words (word_limit + i) (results_from (count - i) ours at w)
   pub listed : Listed (count - i) ours at w
 
+pub list-start : {ours : List ℕ} {count first : ℕ} {index words : List ℕ} → Listed count ours header_length first
+    → Listing ours count first index words index words header_length first 0
+list-start {ours} {count} {first} l =
+    let z : count - 0 ≡ count = omega arith in
+    record {
+      few = omega arith;
+      halved = run-start refl (rw z);
+      given = run-start refl (rw z);
+      listed = rw z l;
+    }
+
 module _ {ours : List ℕ} {count first : ℕ} {index₀ words₀ index words : List ℕ} {at w i : ℕ} (g : Listing ours count first index₀ words₀ index words at w i) where
   module _ (h : i < count) where
     one_more : count - i ≡ suc (count - (i + 1))
@@ -165,3 +186,10 @@ module _ {ours : List ℕ} {count first : ℕ} {index₀ words₀ index words : 
           given = run_step g.given (rw (one_more, ea, ew)) (omega arith);
           listed = rw (ea, ew) listed_here.2;
         }
+
+  pub list_done : count ≤ i
+      → (index ≡ sets index₀ 0 (halves count ours header_length)) × (words ≡ sets words₀ word_limit (results_from count ours header_length first))
+  list_done h = (
+    run-done g.halved (none_left (λ n. halves n ours at) h refl),
+    run-done g.given (none_left (λ n. results_from n ours at w) h refl),
+  )

@@ -1,4 +1,4 @@
-use Rattle.std.proofs.Common.{◌+◌, arith}
+use Rattle.std.proofs.Common.{arith}
 use Rattle.placement.proofs.Loop.{going, going_next, going-over, going_end}
 use Rattle.placement.proofs.place_all.Goals as goal
 

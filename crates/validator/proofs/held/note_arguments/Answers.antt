@@ -1,12 +1,14 @@
--- `validator::held::note_arguments`: the arguments, then word by word.
-use Prim.Native.Nat.{◌+◌}
-use mathlib.Core.Path.{refl}
-use native.Mathlib.Omega.{arith}
-use lib.ListN.{replicate}
-use Rattle.base.proofs.Stores.{run_step, run-done, none_left}
+use Rattle.std.proofs.Common.{◌≡◌, refl, ◌+◌, ◌-◌, arith, replicate}
+use Rattle.base.proofs.Stores.{run-start, run_step, run-done, none_left}
 use Rattle.validator.specs.Tests.{no_word}
 use Rattle.validator.proofs.Holding.{replicate_next, first-words}
 use Rattle.validator.proofs.held.note_arguments.Goals as goal
+
+pub loop-i-init : goal.loop-i-init
+loop-i-init c =
+    let a = c.args in
+    let z : a.arguments + a.rest - a.arguments ≡ a.rest = omega arith in
+    (run-start refl (rw z), omega arith)
 
 pub loop-i-preserved : goal.loop-i-preserved
 loop-i-preserved c =

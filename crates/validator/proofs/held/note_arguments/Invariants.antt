@@ -1,5 +1,4 @@
-use Prim.Native.Nat.{◌-◌, ◌≤◌}
-use lib.ListN.{replicate}
+use Rattle.std.proofs.Common.{◌-◌, ◌≤◌, replicate}
 use Rattle.base.proofs.Stores.{Run}
 use Rattle.validator.specs.Tests.{no_word}
 use Rattle.validator.proofs.held.note_arguments.Given as goal

@@ -1,7 +1,4 @@
-use Prim.Native.Nat.{◌+◌, ◌*◌, ◌≤◌}
-use mathlib.Core.Path.{◌≡◌}
-use lib.Dec.{eqb}
-use lib.ListN.{length}
+use Rattle.std.proofs.Common.{◌≡◌, ◌+◌, ◌*◌, ◌≤◌, eqb, length}
 use Rattle.base.specs.Bytes.{constants}
 use Rattle.validator.specs.Judge.{alike}
 use Rattle.validator.proofs.held.same_constants.Given as goal

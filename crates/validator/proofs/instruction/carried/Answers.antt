@@ -1,13 +1,9 @@
--- `validator::instruction::carried`, test by test.
-use mathlib.Core.Path.{◌≡◌, ◌∙◌}
-use borrow.Author.Tests.{not-true, not-false}
-use Rattle.validator.proofs.Stepping.{row_constants, constants-are, other-kind, other-type, other-constants, by-operands}
+use Rattle.std.proofs.Common.{◌∙◌}
+use Rattle.validator.proofs.Stepping.{constants-are, other-kind, other-type, other-constants, by-operands}
 use Rattle.validator.proofs.instruction.carried.Goals as goal
 
 pub returns-then-code-at : goal.returns-then-code-at
-returns-then-code-at c =
-    let a = c.args in
-    other-kind a.ours.now a.from a.code.now a.at a.words.now c.requires.row_is c.if-code-at.true
+returns-then-code-at c = let a = c.args in other-kind a.ours.now a.from a.code.now a.at a.words.now c.requires.row_is c.if-code-at.true
 
 pub returns-then-t-ours : goal.returns-then-t-ours
 returns-then-t-ours c =
@@ -16,16 +12,15 @@ returns-then-t-ours c =
 
 pub returns-then-not-same_constants : goal.returns-then-not-same_constants
 returns-then-not-same_constants c =
-    let constants-is : let a = c.args in row_constants a.ours.now a.from a.code.now a.at a.words.now a.row ≡ c.same_constants.result = let a = c.args in
-    constants-are a.ours.now a.from a.code.now a.at a.words.now c.requires.row_is c.wide-n.ensures.0 c.constant_words-constants.ensures.0 c.same_constants.ensures in
     let a = c.args in
-    other-constants a.ours.now a.from a.code.now a.at a.words.now c.requires.row_is c.if-code-at.false c.if-t-ours.false
-    (constants-is ∙ not-true _ c.if-not-same_constants.true-raw)
+    let r = c.requires.row_is in
+    let is = constants-are a.ours.now a.from a.code.now a.at a.words.now r c.wide-n.ensures.0 c.constant_words-constants.ensures.0 c.same_constants.ensures in
+    other-constants a.ours.now a.from a.code.now a.at a.words.now r c.if-code-at.false c.if-t-ours.false (is ∙ c.if-not-same_constants.true)
 
 pub returns : goal.returns
 returns c =
-    let constants-is : let a = c.args in row_constants a.ours.now a.from a.code.now a.at a.words.now a.row ≡ c.same_constants.result = let a = c.args in
-    constants-are a.ours.now a.from a.code.now a.at a.words.now c.requires.row_is c.wide-n.ensures.0 c.constant_words-constants.ensures.0 c.same_constants.ensures in
     let a = c.args in
-    by-operands a.ours.now a.from a.code.now a.at a.words.now c.requires.row_is c.if-code-at.false c.if-t-ours.false
-    (constants-is ∙ not-false _ c.if-not-same_constants.false-raw) c.wide-n.ensures.0 c.own-first.ensures c.own-rest.ensures c.held_operands.ensures
+    let r = c.requires.row_is in
+    let is = constants-are a.ours.now a.from a.code.now a.at a.words.now r c.wide-n.ensures.0 c.constant_words-constants.ensures.0 c.same_constants.ensures in
+    by-operands a.ours.now a.from a.code.now a.at a.words.now r c.if-code-at.false c.if-t-ours.false (is ∙ c.if-not-same_constants.false) c.wide-n.ensures.0
+    c.own-first.ensures c.own-rest.ensures c.held_operands.ensures
