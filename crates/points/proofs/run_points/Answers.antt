@@ -85,17 +85,6 @@ returns-then-out-words c =
     let whole = answered a.code.now a.count a.arguments.now a.work.now a.out.now bytes (refused-out _ _ _ _ _ list c.if-count-gt-POINT_LIMIT.false c.if-arguments-count.false finite (omega (arith, c.if-out-words.true))) in
     record { answered = whole.0; refused18 = whole.1.0; demand3points = whole.1.1 }
 
-pub run_each-requires : goal.run_each-requires
-run_each-requires c =
-    let finite : every argument_word c.args.arguments.now ≡ true = sym c.arguments_allowed.ensures ∙ not-false _ c.if-not-arguments_allowed.false-raw in
-    record {
-      formed = sym c.check_code.ensures.value ∙ c.in-Formed.is;
-      arguments-all = c.if-arguments-count.false;
-      allowed = finite;
-      work-room = omega (arith, c.if-work-counts.false);
-      out-room = omega (arith, c.if-out-words.false);
-    }
-
 pub returns : goal.returns
 returns c =
     let bytes : Bytes c.args.code.now = λ i. omega (arith, c.type_inv.code i) in

@@ -1,10 +1,6 @@
 -- `runner::check_addressed`: the arguments are marked on a record of no word.
-use native.Mathlib.Omega.{arith}
 use Rattle.runner.proofs.Whole.{with-marks}
 use Rattle.runner.proofs.check_addressed.Goals as goal
-
-pub mark_words-requires : goal.mark_words-requires
-mark_words-requires c = omega (arith, c.requires.arguments)
 
 pub check_list-requires : goal.check_list-requires
 check_list-requires c = with-marks c.requires c.mark_words.ensures

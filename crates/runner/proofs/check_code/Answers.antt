@@ -1,8 +1,7 @@
 -- `runner::check_code`, test by test, then by the version.
 use Prim.Native.Nat.{◌≤◌}
-use mathlib.Core.Path.{◌≡◌, sym, ap, ◌∙◌, subst}
-use mathlib.Core.Bool.{true, false}
-use mathlib.Core.List.{[]}
+use mathlib.Core.Path.{◌≡◌, sym, ap, ◌∙◌}
+use mathlib.Core.Bool.{true}
 use native.Mathlib.Omega.{arith}
 use lib.ListN.{length}
 use borrow.Author.Tests.{not-true, not-false}
@@ -10,8 +9,8 @@ use Rattle.base.specs.Bytes.{byte, u16, Bytes}
 use Rattle.bytecode.specs.declared.Version.TheVariants.{V1, V2}
 use Rattle.bytecode.specs.Code.{counts_fit, code_marked}
 use Rattle.runner.specs.declared.Counts.{Counts}
-use Rattle.runner.specs.Checks.{Listable, checked_of, header_counts, list_of}
-use Rattle.runner.proofs.Whole.{no_header, no-mark, over-limits, listable, by-version, no-version}
+use Rattle.runner.specs.Checks.{checked_of, header_counts, list_of}
+use Rattle.runner.proofs.Whole.{no_header, no-mark, over-limits, by-version, no-version}
 use Rattle.runner.proofs.Exact.{check-exact}
 use Rattle.runner.proofs.check_code.Goals as goal
 
@@ -40,19 +39,6 @@ returns-then-not-counts_fit c =
     check-exact c.args.s.now bytes (over-limits c.args.s.now c.if-s-lt-HEADER_LENGTH.false mark-is (limits-are ∙ not-true _ c.if-not-counts_fit.true-raw)) in
     record { value = whole.0; exactly = whole.1 }
 
-pub u16_at-version-requires : goal.u16_at-version-requires
-u16_at-version-requires c = omega (arith, c.if-s-lt-HEADER_LENGTH.false)
-
-pub check_sequential-requires : goal.check_sequential-requires
-check_sequential-requires c =
-    let counts-are : c.header_counts-counts.result ≡ header_counts c.args.s.now = c.header_counts-counts.ensures.0 in
-    let limits-are : let s = c.args.s.now in counts_fit (byte s 5) (byte s 6) (u16 s 8) (u16 s 10) ≡ c.counts_fit.result = ap (λ (n : Counts). counts_fit n.arguments n.outputs n.instructions n.words) (sym counts-are)
-    ∙ sym c.counts_fit.ensures in
-    let long-is : 12 ≤ length c.args.s.now = c.if-s-lt-HEADER_LENGTH.false in
-    let within-is : let s = c.args.s.now in counts_fit (byte s 5) (byte s 6) (u16 s 8) (u16 s 10) ≡ true = limits-are ∙ not-false _ c.if-not-counts_fit.false-raw in
-    let ready : Listable false c.args.s.now c.header_counts-counts.result [] = subst (λ (cs : Counts). Listable false c.args.s.now cs []) (sym counts-are) (listable c.args.s.now (header_counts c.args.s.now) long-is within-is) in
-    ready
-
 pub returns-then-version-eq1 : goal.returns-then-version-eq1
 returns-then-version-eq1 c =
     let bytes : Bytes c.args.s.now = λ i. omega (arith, c.type_inv.s i) in
@@ -69,16 +55,6 @@ returns-then-version-eq1 c =
     ∙ ap (λ (n : Counts). checked_of (list_of V1 c.args.s.now n)) counts-are
     ∙ by-version c.args.s.now long-is mark-is within-is V1 (sym c.u16_at-version.ensures.0 ∙ c.if-version-eq1.true)) in
     record { value = whole.0; exactly = whole.1 }
-
-pub check_addressed-requires : goal.check_addressed-requires
-check_addressed-requires c =
-    let counts-are : c.header_counts-counts.result ≡ header_counts c.args.s.now = c.header_counts-counts.ensures.0 in
-    let limits-are : let s = c.args.s.now in counts_fit (byte s 5) (byte s 6) (u16 s 8) (u16 s 10) ≡ c.counts_fit.result = ap (λ (n : Counts). counts_fit n.arguments n.outputs n.instructions n.words) (sym counts-are)
-    ∙ sym c.counts_fit.ensures in
-    let long-is : 12 ≤ length c.args.s.now = c.if-s-lt-HEADER_LENGTH.false in
-    let within-is : let s = c.args.s.now in counts_fit (byte s 5) (byte s 6) (u16 s 8) (u16 s 10) ≡ true = limits-are ∙ not-false _ c.if-not-counts_fit.false-raw in
-    let ready : Listable false c.args.s.now c.header_counts-counts.result [] = subst (λ (cs : Counts). Listable false c.args.s.now cs []) (sym counts-are) (listable c.args.s.now (header_counts c.args.s.now) long-is within-is) in
-    ready
 
 pub returns-then-version-eq2 : goal.returns-then-version-eq2
 returns-then-version-eq2 c =

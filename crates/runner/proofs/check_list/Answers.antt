@@ -11,11 +11,6 @@ use Rattle.runner.specs.Checks.{Ended}
 use Rattle.runner.proofs.Whole.{no-list, end-within, other-words, other_length, bad-output, formed}
 use Rattle.runner.proofs.check_list.Goals as goal
 
-pub check_instructions-requires : goal.check_instructions-requires
-check_instructions-requires c =
-    let h = c.requires in
-    record { long = h.long; few = h.instructions; first_small = omega (arith, h.arguments); recorded = h.recorded }
-
 pub returns-in_default : goal.returns-in_default
 returns-in_default c = no-list c.args.addressed c.requires (sym c.check_instructions.ensures.answer ∙ c.in_default.is)
 
@@ -33,9 +28,6 @@ overflow_sub-s c =
     c.in-Passed.is c.check_instructions.ensures in
     let within : c.in-Passed.next.at ≤ length c.args.s.now = end-within c.args.addressed c.requires ended in
     omega (arith, within)
-
-pub overflow_mul-counts : goal.overflow_mul-counts
-overflow_mul-counts c = omega (arith, c.requires.outputs)
 
 pub returns-then-s-at : goal.returns-then-s-at
 returns-then-s-at c =

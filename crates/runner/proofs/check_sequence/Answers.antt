@@ -19,36 +19,17 @@ use Rattle.runner.proofs.check_sequence.Goals as goal
 pub loop-left-init : goal.loop-left-init
 loop-left-init c = start false _ _ _ _ c.requires
 
-pub overflow_sub-s : goal.overflow_sub-s
-overflow_sub-s c =
-    let going : let a = c.args in let l = c.loop-left in Going false a.s.now (read_instructions V1 a.count a.s.now 12 (argument_words a.first)) l.left l.at l.result [] = c.loop-left.invariant in
-    omega (arith, going.within)
-
 pub returns-then-s-at-lt2 : goal.returns-then-s-at-lt2
 returns-then-s-at-lt2 c =
     let going : let a = c.args in let l = c.loop-left in Going false a.s.now (read_instructions V1 a.count a.s.now 12 (argument_words a.first)) l.left l.at l.result [] = c.loop-left.invariant in
     let not-read : let a = c.args in read_instruction V1 going.written a.s.now c.loop-left.at ≡ none → Ended false (read_instructions V1 a.count a.s.now 12 (argument_words a.first)) [] Refused = λ e. stopped (stop false going c.loop-left-test.true e) in
     let s = c.args.s.now in not-read (none-short V1 going.written s c.loop-left.at (omega (arith, c.if-s-at-lt2.true, going.within)))
 
-pub byte_at-k-requires : goal.byte_at-k-requires
-byte_at-k-requires c = omega (arith, c.if-s-at-lt2.false)
-
 pub returns-then-k-ge25 : goal.returns-then-k-ge25
 returns-then-k-ge25 c =
     let going : let a = c.args in let l = c.loop-left in Going false a.s.now (read_instructions V1 a.count a.s.now 12 (argument_words a.first)) l.left l.at l.result [] = c.loop-left.invariant in
     let not-read : let a = c.args in read_instruction V1 going.written a.s.now c.loop-left.at ≡ none → Ended false (read_instructions V1 a.count a.s.now 12 (argument_words a.first)) [] Refused = λ e. stopped (stop false going c.loop-left-test.true e) in
     let s = c.args.s.now in not-read (none-high V1 going.written s c.loop-left.at (omega (arith, c.if-k-ge25.true, c.byte_at-k.ensures.0)))
-
-pub offset_bounds-rows-k : goal.offset_bounds-rows-k
-offset_bounds-rows-k c = omega (arith, c.if-k-ge25.false)
-
-pub bounds-rows-k : goal.bounds-rows-k
-bounds-rows-k c = omega (arith, c.if-k-ge25.false)
-
-pub overflow_add-at : goal.overflow_add-at
-overflow_add-at c =
-    let going : let a = c.args in let l = c.loop-left in Going false a.s.now (read_instructions V1 a.count a.s.now 12 (argument_words a.first)) l.left l.at l.result [] = c.loop-left.invariant in
-    omega (arith, c.if-s-at-lt2.false, going.within)
 
 pub check_instruction-requires : goal.check_instruction-requires
 check_instruction-requires c =
@@ -65,12 +46,6 @@ returns-in_default c =
     let going : let a = c.args in let l = c.loop-left in Going false a.s.now (read_instructions V1 a.count a.s.now 12 (argument_words a.first)) l.left l.at l.result [] = c.loop-left.invariant in
     let not-read : let a = c.args in read_instruction V1 going.written a.s.now c.loop-left.at ≡ none → Ended false (read_instructions V1 a.count a.s.now 12 (argument_words a.first)) [] Refused = λ e. stopped (stop false going c.loop-left-test.true e) in
     not-read (row-stops going (sym c.check_instruction.ensures ∙ c.in_default.is))
-
-pub overflow_sub-left : goal.overflow_sub-left
-overflow_sub-left c = omega (arith, c.loop-left-test.true)
-
-pub loop-left-smaller : goal.loop-left-smaller
-loop-left-smaller c = omega (arith, c.loop-left-test.true)
 
 pub loop-left-preserved : goal.loop-left-preserved
 loop-left-preserved c =

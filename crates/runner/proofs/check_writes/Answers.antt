@@ -1,6 +1,6 @@
 -- `runner::check_writes`: what is left decides, and the record says what was written.
 use Prim.Native.Nat.{ℕ, ◌+◌, ◌≤◌}
-use mathlib.Core.Path.{◌≡◌, refl, ap, ◌∙◌}
+use mathlib.Core.Path.{◌≡◌, ap, ◌∙◌}
 use mathlib.Core.Bool.{true}
 use mathlib.Core.Option.{none}
 use native.Mathlib.Omega.{arith}
@@ -14,16 +14,8 @@ use Rattle.bytecode.specs.Code.{argument_words, read_instruction, read_instructi
 use Rattle.runner.specs.declared.Progress.TheVariants.{Refused}
 use Rattle.runner.specs.Checks.{Ended}
 use Rattle.runner.proofs.Reading.{none-short}
-use Rattle.runner.proofs.Passing.{Going, Turned, none-high, start, stop, stopped, turned, too_many, ended}
+use Rattle.runner.proofs.Passing.{Going, Turned, none-high, stop, stopped, turned, too_many, ended}
 use Rattle.runner.proofs.check_writes.Goals as goal
-
-pub loop-left-init : goal.loop-left-init
-loop-left-init c = (start true _ _ _ _ c.requires, refl)
-
-pub overflow_sub-s : goal.overflow_sub-s
-overflow_sub-s c =
-    let going : let a = c.args in let l = c.loop-left in Going true a.s.now (read_instructions V2 a.count a.s.now 12 (argument_words a.first)) l.left l.at l.high l.marks = c.loop-left.invariant.0 in
-    omega (arith, going.within)
 
 pub returns-then-s-at : goal.returns-then-s-at
 returns-then-s-at c =
@@ -31,20 +23,11 @@ returns-then-s-at c =
     let not-read : let a = c.args in read_instruction V2 going.written a.s.now c.loop-left.at ≡ none → Ended true (read_instructions V2 a.count a.s.now 12 (argument_words a.first)) c.loop-left.marks Refused = λ e. stopped (stop true going c.loop-left-test.true e) in
     let s = c.args.s.now in not-read (none-short V2 going.written s c.loop-left.at (omega (arith, c.if-s-at.true, going.within)))
 
-pub byte_at-k-requires : goal.byte_at-k-requires
-byte_at-k-requires c = omega (arith, c.if-s-at.false)
-
 pub returns-then-k-ge25 : goal.returns-then-k-ge25
 returns-then-k-ge25 c =
     let going : let a = c.args in let l = c.loop-left in Going true a.s.now (read_instructions V2 a.count a.s.now 12 (argument_words a.first)) l.left l.at l.high l.marks = c.loop-left.invariant.0 in
     let not-read : let a = c.args in read_instruction V2 going.written a.s.now c.loop-left.at ≡ none → Ended true (read_instructions V2 a.count a.s.now 12 (argument_words a.first)) c.loop-left.marks Refused = λ e. stopped (stop true going c.loop-left-test.true e) in
     let s = c.args.s.now in not-read (none-high V2 going.written s c.loop-left.at (omega (arith, c.if-k-ge25.true, c.byte_at-k.ensures.0)))
-
-pub offset_bounds-rows-k : goal.offset_bounds-rows-k
-offset_bounds-rows-k c = omega (arith, c.if-k-ge25.false)
-
-pub bounds-rows-k : goal.bounds-rows-k
-bounds-rows-k c = omega (arith, c.if-k-ge25.false)
 
 pub check_written-requires : goal.check_written-requires
 check_written-requires c =
@@ -60,12 +43,6 @@ returns-in_default c =
     let row_is : ports_of (kind_of c.byte_at-k.result) ≡ ports_of (kind_of (byte c.args.s.now c.loop-left.at)) = ap (λ (k : ℕ). ports_of (kind_of k)) c.byte_at-k.ensures.0 in
     let turn : let a = c.args in Turned a.s.now (read_instructions V2 a.count a.s.now 12 (argument_words a.first)) c.loop-left.left c.check_written.new.marks c.check_written.result = turned going c.loop-left-test.true head (row_of c.byte_at-k.result ∙ row_is) c.check_written.ensures in
     stopped (turn.refused c.in_default.is)
-
-pub overflow_sub-left : goal.overflow_sub-left
-overflow_sub-left c = omega (arith, c.loop-left-test.true)
-
-pub loop-left-smaller : goal.loop-left-smaller
-loop-left-smaller c = omega (arith, c.loop-left-test.true)
 
 pub loop-left-preserved : goal.loop-left-preserved
 loop-left-preserved c =

@@ -1,12 +1,9 @@
 -- `runner::copy`, word by word.
-use mathlib.Core.Path.{refl, ◌∙◌}
+use mathlib.Core.Path.{◌∙◌}
 use native.Mathlib.Omega.{arith}
 use lib.ListN.{length-set}
-use Rattle.runner.proofs.Buffers.{copy_more, copy-all}
+use Rattle.runner.proofs.Buffers.{copy_more}
 use Rattle.runner.proofs.copy.Goals as goal
-
-pub loop-i-init : goal.loop-i-init
-loop-i-init c = (refl, omega arith, refl)
 
 pub loop-i-preserved : goal.loop-i-preserved
 loop-i-preserved c =
@@ -16,9 +13,3 @@ loop-i-preserved c =
       omega (arith, c.loop-i-test.true),
       length-set l.to l.i _ ∙ l.invariant.2,
     )
-
-pub returns : goal.returns
-returns c =
-    let l = c.loop-i in
-    let a = c.args in
-    copy-all a.to.now l.to a.from.now l.i (omega arith) l.invariant.1 l.invariant.0

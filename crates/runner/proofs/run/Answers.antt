@@ -6,8 +6,6 @@ use borrow.Author.Tests.{not-true, not-false}
 use Rattle.base.specs.Bytes.{Bytes}
 use Rattle.base.specs.Lists.{every}
 use Rattle.value.specs.Values.{argument_word}
-use Rattle.bytecode.specs.Answers.{ran}
-use Rattle.runner.specs.Runs.{Answered, Refused18}
 use Rattle.runner.proofs.Decoding.{Decoded, decoded, refused-18, refused-19, refused-20, refused-work, refused-out, completed}
 use Rattle.runner.proofs.Exact.{run-exact}
 use Rattle.runner.proofs.run.Goals as goal
@@ -58,17 +56,6 @@ returns-then-out-counts c =
     let whole =
     run-exact a.code.now a.arguments.now a.work.now a.out.now bytes (refused-out a.code.now a.arguments.now a.work.now a.out.now list c.if-arguments-counts.false finite c.if-out-counts.true) in
     record { answered = whole.0; refused18 = whole.1 }
-
-pub run_checked-requires : goal.run_checked-requires
-run_checked-requires c =
-    let finite : every argument_word c.args.arguments.now ≡ true = sym c.arguments_allowed.ensures ∙ not-false _ c.if-not-arguments_allowed.false-raw in
-    record {
-      formed = sym c.check_code.ensures.value ∙ c.in-Formed.is;
-      arguments-all = c.if-arguments-counts.false;
-      allowed = finite;
-      work-room = c.if-work-counts.false;
-      out-room = c.if-out-counts.false;
-    }
 
 pub returns : goal.returns
 returns c =

@@ -6,11 +6,6 @@ use Rattle.executor.specs.Instructions.{version_by}
 use Rattle.runner.proofs.Decoding.{Decoded, decoded, version-by, copied, instructions-ready, outputs-ready, length-after, length-copy, ran-memory, ran-outputs}
 use Rattle.runner.proofs.run_checked.Goals as goal
 
-pub overflow_mul-at : goal.overflow_mul-at
-overflow_mul-at c =
-    let list : Decoded c.args.code.now c.args.counts = decoded _ _ c.requires.formed in
-    omega (arith, list.small)
-
 pub overflow_sub-at : goal.overflow_sub-at
 overflow_sub-at c =
     let list : Decoded c.args.code.now c.args.counts = decoded _ _ c.requires.formed in

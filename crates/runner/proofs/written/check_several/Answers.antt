@@ -14,34 +14,11 @@ use Rattle.runner.specs.Checks.{marked, was_written}
 use Rattle.runner.proofs.Passing.{no_bytes, no_word, no-constant, writes}
 use Rattle.runner.proofs.written.check_several.Goals as goal
 
-pub overflow_add-from : goal.overflow_add-from
-overflow_add-from c = omega (arith, c.requires.0, c.well_formed)
-
-pub overflow_add-from-2 : goal.overflow_add-from-2
-overflow_add-from-2 c = omega (arith, c.requires.0, c.well_formed)
-
-pub overflow_mul-size : goal.overflow_mul-size
-overflow_mul-size c = omega (arith, c.wide-n.ensures.1)
-
-pub overflow_mul-size-2 : goal.overflow_mul-size-2
-overflow_mul-size-2 c = omega (arith, c.constant_words-constants.ensures.1)
-
-pub overflow_add-size : goal.overflow_add-size
-overflow_add-size c = omega (arith, c.wide-n.ensures.1, c.constant_words-constants.ensures.1)
-
-pub overflow_sub-s : goal.overflow_sub-s
-overflow_sub-s c = omega (arith, c.requires.0)
-
 pub returns-then-s-from : goal.returns-then-s-from
 returns-then-s-from c =
     let a = c.args in
     no_bytes a.s.now a.at a.row a.t c.requires.1 a.high a.marks.now _ c.requires.2
     (omega (arith, c.if-s-from.true, c.requires.0, c.constant_words-constants.ensures.0, c.wide-n.ensures.0))
-
-pub own-rest-requires : goal.own-rest-requires
-own-rest-requires c =
-    let bytes : let a = c.args in a.at + 2 + 2 + (2 * a.row.operands + 8 * constant_in a.row.form a.row.words) ≤ length a.s.now = omega (arith, c.if-s-from.false, c.requires.0, c.constant_words-constants.ensures.0, c.wide-n.ensures.0) in
-    omega (arith, bytes, c.wide-n.ensures.0)
 
 pub returns-then-not-operands_written : goal.returns-then-not-operands_written
 returns-then-not-operands_written c =
@@ -52,19 +29,6 @@ returns-then-not-operands_written c =
     ∙ sym c.operands_written.ensures in
     let a = c.args in
     no_word a.s.now a.at a.row a.t c.requires.1 a.high a.marks.now _ c.requires.2 bytes (written_is ∙ not-true _ c.if-not-operands_written.true-raw)
-
-pub overflow_mul-n : goal.overflow_mul-n
-overflow_mul-n c = omega (arith, c.wide-n.ensures.1)
-
-pub overflow_add-from-3 : goal.overflow_add-from-3
-overflow_add-from-3 c =
-    let bytes : let a = c.args in a.at + 2 + 2 + (2 * a.row.operands + 8 * constant_in a.row.form a.row.words) ≤ length a.s.now = omega (arith, c.if-s-from.false, c.requires.0, c.constant_words-constants.ensures.0, c.wide-n.ensures.0) in
-    omega (arith, bytes, c.wide-n.ensures.0, c.well_formed)
-
-pub constants_allowed-requires : goal.constants_allowed-requires
-constants_allowed-requires c =
-    let bytes : let a = c.args in a.at + 2 + 2 + (2 * a.row.operands + 8 * constant_in a.row.form a.row.words) ≤ length a.s.now = omega (arith, c.if-s-from.false, c.requires.0, c.constant_words-constants.ensures.0, c.wide-n.ensures.0) in
-    omega (arith, bytes, c.wide-n.ensures.0, c.constant_words-constants.ensures.0)
 
 pub returns-then-not-constants_allowed : goal.returns-then-not-constants_allowed
 returns-then-not-constants_allowed c =
@@ -79,21 +43,6 @@ returns-then-not-constants_allowed c =
     let a = c.args in
     no-constant a.s.now a.at a.row a.t c.requires.1 a.high a.marks.now _ c.requires.2 bytes (written_is ∙ not-false _ c.if-not-operands_written.false-raw)
     (constants-are ∙ not-true _ c.if-not-constants_allowed.true-raw)
-
-pub overflow_add-at : goal.overflow_add-at
-overflow_add-at c =
-    let bytes : let a = c.args in a.at + 2 + 2 + (2 * a.row.operands + 8 * constant_in a.row.form a.row.words) ≤ length a.s.now = omega (arith, c.if-s-from.false, c.requires.0, c.constant_words-constants.ensures.0, c.wide-n.ensures.0) in
-    omega (arith, bytes, c.well_formed)
-
-pub overflow_add-from-4 : goal.overflow_add-from-4
-overflow_add-from-4 c =
-    let bytes : let a = c.args in a.at + 2 + 2 + (2 * a.row.operands + 8 * constant_in a.row.form a.row.words) ≤ length a.s.now = omega (arith, c.if-s-from.false, c.requires.0, c.constant_words-constants.ensures.0, c.wide-n.ensures.0) in
-    omega (arith, bytes, c.wide-n.ensures.0, c.constant_words-constants.ensures.0, c.well_formed)
-
-pub write_result-requires : goal.write_result-requires
-write_result-requires c =
-    let bytes : let a = c.args in a.at + 2 + 2 + (2 * a.row.operands + 8 * constant_in a.row.form a.row.words) ≤ length a.s.now = omega (arith, c.if-s-from.false, c.requires.0, c.constant_words-constants.ensures.0, c.wide-n.ensures.0) in
-    (omega (arith, bytes), omega (arith, c.result_words-words.ensures.bounded))
 
 pub returns : goal.returns
 returns c =

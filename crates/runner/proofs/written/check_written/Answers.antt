@@ -15,23 +15,6 @@ returns-then-not-is_legal c =
     let a = c.args in
     no-kind-here a.s.now a.at a.row (byte a.s.now (a.at + 1)) refl a.high a.marks.now _ (sym c.is_legal.ensures ∙ not-true _ c.if-not-is_legal.true-raw)
 
-pub check_several-requires : goal.check_several-requires
-check_several-requires c =
-    let legal-is : let a = c.args in legal_row a.row (byte a.s.now (a.at + 1)) ≡ true = sym c.is_legal.ensures ∙ not-false _ c.if-not-is_legal.false-raw in
-    (c.requires.0, refl, legal-is)
-
-pub returns-then-row-ne2 : goal.returns-then-row-ne2
-returns-then-row-ne2 c = c.check_several.ensures
-
-pub overflow_add-from : goal.overflow_add-from
-overflow_add-from c = omega (arith, c.requires.0, c.well_formed)
-
-pub overflow_add-from-2 : goal.overflow_add-from-2
-overflow_add-from-2 c = omega (arith, c.requires.0, c.well_formed)
-
-pub overflow_sub-s : goal.overflow_sub-s
-overflow_sub-s c = omega (arith, c.requires.0)
-
 pub returns-then-s-from-lt4 : goal.returns-then-s-from-lt4
 returns-then-s-from-lt4 c =
     let legal-is : let a = c.args in legal_row a.row (byte a.s.now (a.at + 1)) ≡ true = sym c.is_legal.ensures ∙ not-false _ c.if-not-is_legal.false-raw in
@@ -39,11 +22,6 @@ returns-then-s-from-lt4 c =
     let s = a.s.now in
     no_bytes s a.at a.row (byte s (a.at + 1)) refl a.high a.marks.now _ legal-is
     (omega (arith, c.if-s-from-lt4.true, c.requires.0, two-end s a.at a.row (byte s (a.at + 1)) refl a.high a.marks.now a.marks.now c.requires.1 c.if-row-ne2.false))
-
-pub own-second-requires : goal.own-second-requires
-own-second-requires c =
-    let bytes : let a = c.args in a.at + 2 + 2 + 4 ≤ length a.s.now = omega (arith, c.if-s-from-lt4.false, c.requires.0) in
-    omega (arith, bytes)
 
 pub returns-then-not-both_written : goal.returns-then-not-both_written
 returns-then-not-both_written c =
@@ -57,21 +35,6 @@ returns-then-not-both_written c =
     no_word s a.at a.row (byte s (a.at + 1)) refl a.high a.marks.now _ legal-is
     (omega (arith, bytes, two-end s a.at a.row (byte s (a.at + 1)) refl a.high a.marks.now a.marks.now c.requires.1 c.if-row-ne2.false))
     (written_is ∙ not-true _ c.if-not-both_written.true-raw)
-
-pub overflow_add-at : goal.overflow_add-at
-overflow_add-at c =
-    let bytes : let a = c.args in a.at + 2 + 2 + 4 ≤ length a.s.now = omega (arith, c.if-s-from-lt4.false, c.requires.0) in
-    omega (arith, bytes, c.well_formed)
-
-pub overflow_add-from-3 : goal.overflow_add-from-3
-overflow_add-from-3 c =
-    let bytes : let a = c.args in a.at + 2 + 2 + 4 ≤ length a.s.now = omega (arith, c.if-s-from-lt4.false, c.requires.0) in
-    omega (arith, bytes, c.well_formed)
-
-pub write_result-requires : goal.write_result-requires
-write_result-requires c =
-    let bytes : let a = c.args in a.at + 2 + 2 + 4 ≤ length a.s.now = omega (arith, c.if-s-from-lt4.false, c.requires.0) in
-    (omega (arith, bytes), omega (arith, c.result_words-words.ensures.bounded))
 
 pub returns : goal.returns
 returns c =
