@@ -1,29 +1,29 @@
 -- One instruction of the proposed list beside the instruction of version 1 that it carries out: the test on bytes and record is the definition's test.
-use Prim.Native.Nat.{ℕ, zero, suc, ◌+◌, ◌*◌, ◌≤◌, ◌<◌}
+use Prim.Native.Nat.{ℕ, zero, suc, ◌+◌, ◌≤◌}
 use mathlib.Core.Path.{◌≡◌, refl, ap, ap₂, sym, ◌∙◌, subst}
 use mathlib.Core.Bool.{Bool, true, false, ◌&&◌}
 use mathlib.Core.List.{List, [], ◌∷◌, map}
-use mathlib.Core.Option.{Option, none, some}
+use mathlib.Core.Option.{some}
 use native.Mathlib.Omega.{arith}
 use lib.Dec.{eqb, leb}
 use lib.ListN.{length, get_elem?}
 use borrow.Author.Tests.{eqb-true, leb-true}
 use Rattle.ports.specs.Kinds.{kind_of}
-use Rattle.ports.specs.Ports.{width, takes, arity, constant_words, legal_instruction}
+use Rattle.ports.specs.Ports.{width, takes, arity}
 use Rattle.ports.proofs.Laws.{length-takes}
-use Rattle.base.specs.Bytes.{byte, u16, constants}
+use Rattle.base.specs.Bytes.{byte, u16}
 use Rattle.base.specs.Limits.{word_limit}
 use Rattle.base.proofs.Bools.{and-inv}
 use Rattle.base.proofs.Lists.{some_is}
 use Rattle.bytecode.specs.Run.{Instruction, BoardList, spans}
 use Rattle.bytecode.specs.Ranges.{Range, behind}
-use Rattle.bytecode.specs.Sequential.{next_word, Below, Fit, AllFit}
+use Rattle.bytecode.specs.Sequential.{next_word, Below, AllFit}
 use Rattle.bytecode.specs.declared.Version.TheVariants.{V1, V2}
-use Rattle.bytecode.specs.Code.{addresses, result_at}
-use Rattle.bytecode.specs.Origin.{Origin, origin_at, operand_places, origins, Reading}
+use Rattle.bytecode.specs.Code.{addresses}
+use Rattle.bytecode.specs.Origin.{Origin, operand_places, origins, Reading}
 use Rattle.bytecode.proofs.Decoded.{addresses-length}
 use Rattle.bytecode.proofs.Sequential.{fit-up}
-use Rattle.executor.specs.Execution.{instruction_at, end_of}
+use Rattle.executor.specs.Execution.{instruction_at}
 use Rattle.executor.proofs.Loop.{operands_at}
 use Rattle.runner.specs.Checks.{all_below}
 use Rattle.runner.proofs.Reading.{reads-below}

@@ -1,13 +1,13 @@
 -- The loop over the proposed instructions: those that are left, with the state as it is, follow as all do.
-use Prim.Native.Nat.{ℕ, zero, suc, ◌+◌, ◌-◌, ◌*◌, ◌≤◌, ◌<◌, max}
+use Prim.Native.Nat.{ℕ, zero, suc, ◌+◌, ◌-◌, ◌*◌, ◌≤◌, ◌<◌}
 use mathlib.Core.Path.{◌≡◌, refl, ap, ap₂, sym, ◌∙◌, subst}
-use mathlib.Core.Bool.{Bool, true, false, not, ◌&&◌, cond}
+use mathlib.Core.Bool.{Bool, true, false, ◌&&◌, cond}
 use mathlib.Core.List.{List, [], ◌∷◌, map}
-use mathlib.Core.Option.{Option, none, some}
+use mathlib.Core.Option.{some}
 use mathlib.Core.Logic.{◌⊎◌, inl, inr}
 use native.Mathlib.Omega.{arith}
 use native.Mathlib.Numerals.{add-one}
-use lib.Dec.{eqb, ltb}
+use lib.Dec.{eqb}
 use lib.ListN.{length, get_or, get_elem?, drop, set, length-set}
 use lib.Seq.{sets, length-sets}
 use Rattle.ports.specs.declared.Ports.{Ports}
@@ -17,7 +17,7 @@ use Rattle.ports.proofs.Laws.{no_kind, words-few, words-given}
 use Rattle.base.specs.Bytes.{byte, u16}
 use Rattle.base.specs.Limits.{address_limit, header_length, kind_limit, value_limit, word_limit}
 use Rattle.base.specs.Lists.{member, span, Each}
-use Rattle.base.specs.Outcome.{Outcome, ok, fault, ◌>>=◌, ◌>>◌, need}
+use Rattle.base.specs.Outcome.{Outcome, ok, fault}
 use Rattle.base.proofs.Bools.{never, and-inv}
 use Rattle.base.proofs.Lists.{some_is}
 use Rattle.base.proofs.Numbers.{lt-or-le}
@@ -28,20 +28,18 @@ use Rattle.bytecode.specs.Sequential.{next_word, AllFit}
 use Rattle.bytecode.specs.declared.Version.TheVariants.{V1, V2}
 use Rattle.bytecode.specs.Code.{addresses, argument_words, encode, decode}
 use Rattle.bytecode.specs.Origin.{Origin, origin_at, result_width, made, after, start}
-use Rattle.bytecode.specs.WellFormed.{written_by, Codes}
+use Rattle.bytecode.specs.WellFormed.{written_by}
 use Rattle.bytecode.proofs.Origins.{start-length}
 use Rattle.bytecode.proofs.Sequential.{fit-up}
 use Rattle.executor.specs.Execution.{end_of}
 use Rattle.executor.proofs.Loop.{operands_at}
-use Rattle.validator.specs.declared.Judgement.{Judgement}
 use Rattle.validator.specs.declared.Judgement.TheVariants.{Accepted, Refused}
 use Rattle.validator.specs.declared.Step.{Step}
 use Rattle.validator.specs.declared.Step.TheVariants.{Next, Wrong}
-use Rattle.validator.specs.Judge.{same_origin, alike, carries_out, follow, paired, own_readings, own_origins, followed}
+use Rattle.validator.specs.Judge.{same_origin, alike, follow, paired, own_readings, own_origins, followed}
 use Rattle.validator.specs.Tests.{held_at, own_end, end_at, words_at, passed_at, result_of, stored_at, Steppable, Stepped, halves, results_from, Listed, first_words, judgement_of, followed_in, Judgeable}
-use Rattle.validator.proofs.OneToOne.{own, own-result}
 use Rattle.validator.proofs.Standing.{Stands, AllStand, stand, known, known_is, codes-decoded}
-use Rattle.validator.proofs.Records.{Traced, held-outputs}
+use Rattle.validator.proofs.Records.{held-outputs}
 use Rattle.validator.proofs.Carrying.{their-result}
 use Rattle.validator.proofs.Tracing.{there, Tracing, right, passed_is, words-is, tracing-next}
 use Rattle.validator.proofs.Indexing.{all_listed, tracing-first}

@@ -1,8 +1,8 @@
 -- The record of what each word holds: loops that end at the first test that fails, and runs of stores.
-use Prim.Native.Nat.{ℕ, zero, suc, ◌+◌, ◌*◌, ◌-◌, ◌/◌, ◌≤◌, ◌<◌}
-use mathlib.Core.Path.{◌≡◌, refl, ap, ap₂, sym, ◌∙◌, subst}
+use Prim.Native.Nat.{ℕ, zero, suc, ◌+◌, ◌-◌, ◌≤◌, ◌<◌}
+use mathlib.Core.Path.{◌≡◌, refl, ap, ap₂, sym, ◌∙◌}
 use mathlib.Core.Bool.{Bool, true, false, ◌&&◌}
-use mathlib.Core.List.{List, [], ◌∷◌, ◌++◌, map}
+use mathlib.Core.List.{List, [], ◌∷◌, map}
 use native.Mathlib.Omega.{arith}
 use native.Mathlib.Numerals.{sub-one, add-one}
 use borrow.Author.Tests.{eq-eqb, ne_eqb}
@@ -13,7 +13,7 @@ use Rattle.ports.specs.Ports.{width, types}
 use Rattle.base.specs.Bytes.{u16, u64, constants}
 use Rattle.base.specs.Lists.{span}
 use Rattle.base.proofs.Lists.{span-length}
-use Rattle.base.proofs.Stores.{Run, run-start, run_step, run-done, then}
+use Rattle.base.proofs.Stores.{then}
 use Rattle.bytecode.specs.Code.{addresses}
 use Rattle.validator.specs.Judge.{alike}
 use Rattle.validator.specs.Tests.{no_word, held_at, held_words, held_operands, first_words}

@@ -2,7 +2,7 @@
 -- is noted, arguments hold themselves, and the other words nothing.
 use Prim.Native.Nat.{ℕ, zero, suc, ◌+◌, ◌-◌, ◌*◌, ◌/◌, ◌%◌, ◌≤◌, ◌<◌}
 use mathlib.Core.Path.{◌≡◌, refl, ap, ap₂, sym, ◌∙◌, subst}
-use mathlib.Core.List.{List, [], ◌∷◌, ◌++◌, map}
+use mathlib.Core.List.{List, [], ◌∷◌, map}
 use mathlib.Core.Option.{some}
 use mathlib.Core.Logic.{◌⊎◌, inl, inr}
 use native.Mathlib.Omega.{arith}
@@ -21,7 +21,7 @@ use Rattle.base.proofs.Stores.{sets-in, sets-above, stored-in}
 use Rattle.bytecode.specs.Run.{Instruction, BoardList}
 use Rattle.bytecode.specs.Ranges.{Range, result_value}
 use Rattle.bytecode.specs.Sequential.{next_word, AllFit}
-use Rattle.bytecode.specs.declared.Version.TheVariants.{V1, V2}
+use Rattle.bytecode.specs.declared.Version.TheVariants.{V1}
 use Rattle.bytecode.specs.Code.{argument_words}
 use Rattle.bytecode.specs.Origin.{Origin, unwritten, argument, origin_at, result_width, start}
 use Rattle.bytecode.specs.WellFormed.{Codes}
@@ -29,10 +29,10 @@ use Rattle.bytecode.proofs.Origins.{start-argument, start-length}
 use Rattle.bytecode.proofs.Sequential.{fit-up}
 use Rattle.executor.specs.Execution.{end_of}
 use Rattle.executor.proofs.Loop.{operands_at}
-use Rattle.validator.specs.Tests.{no_word, held_at, own_end, words_at, result_of, halves, results_from, Listed, first_words}
-use Rattle.validator.proofs.OneToOne.{own, own-argument}
+use Rattle.validator.specs.Tests.{no_word, held_at, own_end, words_at, halves, results_from, Listed, first_words}
+use Rattle.validator.proofs.OneToOne.{own-argument}
 use Rattle.validator.proofs.Standing.{Stands, AllStand, stand}
-use Rattle.validator.proofs.Records.{Holds, Traced}
+use Rattle.validator.proofs.Records.{Holds}
 use Rattle.validator.proofs.Carrying.{own-bytes}
 use Rattle.validator.proofs.Tracing.{some_below, Tracing, span-at}
 

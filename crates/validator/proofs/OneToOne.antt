@@ -4,7 +4,7 @@ use Prim.Native.Nat.{ℕ, zero, suc, ◌+◌, ◌-◌, ◌≤◌, ◌<◌}
 use mathlib.Core.Path.{◌≡◌, refl, ap, sym, ◌∙◌, subst}
 use mathlib.Core.Bool.{Bool, true, false}
 use mathlib.Core.List.{List, [], ◌∷◌, map}
-use mathlib.Core.Option.{Option, none, some}
+use mathlib.Core.Option.{some}
 use native.Mathlib.Omega.{arith}
 use native.Mathlib.Nat.{add-zero, add-suc, suc-add}
 use lib.Dec.{ltb}
@@ -18,7 +18,7 @@ use Rattle.base.proofs.Lists.{some_is}
 use Rattle.base.proofs.Stores.{stored-below}
 use Rattle.bytecode.specs.Run.{Instruction, BoardList}
 use Rattle.bytecode.specs.Sequential.{next_word, AllFit}
-use Rattle.bytecode.specs.Origin.{Origin, unwritten, argument, result, Known, origin_at, operand_places, result_width, made, after, start, Reading, readings, final}
+use Rattle.bytecode.specs.Origin.{Origin, unwritten, argument, result, Known, origin_at, operand_places, result_width, made, after, start, readings, final}
 use Rattle.bytecode.proofs.Origins.{start-argument, start-length}
 use Rattle.bytecode.proofs.Sequential.{fit-up, AllKnown, fit-known}
 use Rattle.placement.proofs.Carried.{final-keeps, stored-made, own-reads}

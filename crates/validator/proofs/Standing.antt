@@ -1,13 +1,13 @@
 -- The instructions of a code as they stand in its bytes, one behind the other.
-use Prim.Native.Nat.{ℕ, zero, suc, ◌+◌, ◌*◌, ◌≤◌, ◌<◌}
+use Prim.Native.Nat.{ℕ, zero, suc, ◌+◌, ◌≤◌}
 use mathlib.Core.Path.{◌≡◌, refl, ap, sym, ◌∙◌, subst}
 use mathlib.Core.Bool.{true}
 use mathlib.Core.List.{List, [], ◌∷◌}
-use mathlib.Core.Option.{Option, none, some}
+use mathlib.Core.Option.{some}
 use native.Mathlib.Omega.{arith}
 use lib.ListN.{length}
 use Rattle.ports.specs.Kinds.{kind_of}
-use Rattle.ports.specs.Ports.{takes, arity, constant_words, legal_instruction}
+use Rattle.ports.specs.Ports.{takes, arity, legal_instruction}
 use Rattle.base.specs.Bytes.{byte, u16}
 use Rattle.base.specs.Limits.{header_length}
 use Rattle.base.specs.Lists.{every}

@@ -4,22 +4,22 @@ use Prim.Native.Nat.{ℕ, zero, suc, ◌+◌, ◌-◌, ◌*◌, ◌≤◌, ◌<�
 use mathlib.Core.Path.{◌≡◌, refl, ap, ap₂, sym, ◌∙◌, subst}
 use mathlib.Core.Bool.{Bool, true, false, not, ◌&&◌, cond}
 use mathlib.Core.List.{List, [], ◌∷◌, map}
-use mathlib.Core.Option.{Option, none, some}
+use mathlib.Core.Option.{none, some}
 use mathlib.Core.Logic.{◌⊎◌, inl, inr, ⊎_elim}
 use native.Mathlib.Omega.{arith}
 use lib.Dec.{eqb, ltb}
 use lib.ListN.{length, get_or, get_elem?, set, length-set}
-use lib.Seq.{sets, length-sets, get_or-set_same, get_or-set_other}
-use borrow.Author.Tests.{eqb-true, eqb-false, ne_eqb, eq-eqb, ltb-true, ltb-false, lt-ltb}
+use lib.Seq.{length-sets, get_or-set_same, get_or-set_other}
+use borrow.Author.Tests.{eqb-true, eqb-false, ne_eqb, eq-eqb, ltb-true, ltb-false}
 use Rattle.ports.specs.Kinds.{kind_of}
 use Rattle.ports.specs.Ports.{widths, gives, ports_of, result_words}
 use Rattle.ports.proofs.Laws.{words-given}
-use Rattle.base.specs.Bytes.{byte, u16}
+use Rattle.base.specs.Bytes.{u16}
 use Rattle.base.specs.Limits.{word_limit}
 use Rattle.base.specs.Lists.{member, span}
 use Rattle.base.proofs.Bools.{never, and-inv, and-false}
 use Rattle.base.proofs.Numbers.{lt-or-le}
-use Rattle.base.proofs.Lists.{member-first, member-inv, member-later, member-not, end-past, made_at, span-length}
+use Rattle.base.proofs.Lists.{member-inv, end-past, span-length}
 use Rattle.base.proofs.Stores.{stored-below, stored-above, stored-in}
 use Rattle.bytecode.specs.Run.{Instruction, BoardList}
 use Rattle.bytecode.specs.Ranges.{Range, behind, result_value}
