@@ -22,7 +22,7 @@ abbrev decreases-loop : tie.decreases-loop-j
 decreases-loop targets n taken i j₀ j = operand_limit - j
 
 abbrev at-loop : tie.After-wide16-v invariant-loop decreases-loop → tie.At-loop-j invariant-loop decreases-loop
-at-loop c = c.before.before.before.before
+at-loop c = let loaded = c.before.before in loaded.before.before
 
 loop-holds : tie.Need-loop-j-init invariant-loop decreases-loop
 loop-holds c = (omega arith, refl)
