@@ -25,7 +25,7 @@ use Rattle.graph.specs.Read.{references}
 use Rattle.graph.specs.Schedule.{schedule}
 use Rattle.graph.specs.Formed.{FormedPayload, FormedNode}
 use Rattle.graph.specs.Sound.{AllSound}
-use Rattle.graph.specs.Sums.{sum, node_words, result_words_of}
+use Rattle.graph.specs.Sums.{sum}
 use Rattle.graph.proofs.Order.{sound-closed, scheduled, schedule-within}
 use Rattle.base.proofs.Outcomes.{is-each}
 use Rattle.graph.proofs.Formed.{refs-length}
@@ -41,8 +41,6 @@ use Rattle.compiler.specs.Static.{Location, nowhere, input, offset, Located, loc
 use Rattle.sums.specs.Position.{place_of, function_in, before, position_of, Accepted}
 use Rattle.resolver.specs.Slots.{PlacesAre}
 use Rattle.compiler.specs.Locating.{Slots, read_codes, node_codes, Codes, PortsCoded, AllOuts, PortsKnown, read_count, NodesAllocated}
-use Rattle.sums.specs.declared.Sums.{Sums}
-use Rattle.sums.specs.Capped.{result_words_at, adds_words}
 use Rattle.compiler.specs.Emit.{Stands, location_table, Coded, Placed, summary_at}
 use Rattle.base.proofs.Stores.{sets-in, sets_below}
 use Rattle.compiler.proofs.Bounds.{Within, outputs-within, reads-within}
@@ -50,8 +48,7 @@ use Rattle.compiler.proofs.Locations.{Single, function-agrees}
 use Rattle.compiler.proofs.Units.{units-at, function-units, limit-bound, nodes-units, node-units, callee-units}
 use Rattle.sums.proofs.Rows.{narrow}
 use Rattle.compiler.proofs.References.{count-reads, few-reads}
-use Rattle.sums.proofs.Positions.{words-at}
-use Rattle.sums.proofs.Summing.{added-words, sums-are}
+use Rattle.sums.proofs.Summing.{sums-are}
 use Rattle.resolver.proofs.Rows.{length-nodes}
 use Rattle.checker.proofs.Whole.{node-at}
 use Rattle.compiler.proofs.Coding.{AllCodes, codes-length, codes-stored, reads-coded, node-coded, node-few, knows-step}

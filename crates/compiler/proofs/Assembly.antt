@@ -4,7 +4,7 @@ use Prim.Native.Nat.{ℕ, zero, suc, ◌+◌, ◌*◌, ◌≤◌, ◌<◌}
 use mathlib.Core.Path.{◌≡◌, refl, sym, ap, ◌∙◌, subst}
 use mathlib.Core.List.{List, [], ◌∷◌, ◌++◌, map}
 use native.Mathlib.Omega.{arith}
-use lib.ListN.{length, get_or, replicate, length-append, length-map}
+use lib.ListN.{length, get_or, length-append, length-map}
 use lib.Seq.{sets, length-sets}
 use Rattle.base.specs.Limits.{port_limit}
 use Rattle.base.specs.Bytes.{all_bytes}

@@ -1,11 +1,11 @@
 -- The walk's loop over the nodes of a function in their order. The invariant holds the nodes that are left: what the pass does
 -- with their instructions, from here on, completes the whole function's. A step does it for the first of them.
-use Prim.Native.Nat.{ℕ, ◌+◌, ◌-◌, ◌*◌, ◌%◌, ◌≤◌, ◌<◌}
+use Prim.Native.Nat.{ℕ, suc, ◌/◌, ◌+◌, ◌-◌, ◌*◌, ◌%◌, ◌≤◌, ◌<◌}
 use mathlib.Core.Path.{◌≡◌, refl, sym, ap, ◌∙◌, subst}
 use mathlib.Core.List.{List, [], ◌∷◌, ◌++◌, map, map-append}
 use native.Mathlib.Omega.{arith}
 use native.Mathlib.Nat.{add-zero}
-use lib.ListN.{length, get_or, length-append}
+use lib.ListN.{length, get_or, set, length-append}
 use lib.Seq.{sets, length-sets}
 use borrow.Author.Tests.{lt-ltb, le-ltb}
 use Rattle.base.specs.Limits.{node_limit, reference_limit}
@@ -21,14 +21,15 @@ use Rattle.compiler.specs.declared.Reached.{Reached}
 use Rattle.compiler.specs.Static.{Location, nowhere, input, offset, address_at, Callee, Located, node_summary, summary, allocate, emit_nodes}
 use Rattle.reader.specs.Find.{ReadsNode}
 use Rattle.sums.specs.Position.{place_of, function_in, before}
-use Rattle.compiler.specs.Emit.{Stands, address_of, addresses_in, inline_with, node_inlined, function_inlined, naming_of, relocated, bytes_by, notes, notes_by, measures, measures_by, CodeRoom, Walks, location_table, Coded, Placed, summary_at, Allocated}
+use Rattle.compiler.specs.Emit.{Stands, address_of, addresses_in, inline_with, node_inlined, function_inlined, naming_of, relocated, bytes_by, noted, notes, notes_by, measures, measures_by, CodeRoom, Walks, location_table, Coded, Placed, summary_at, Allocated}
 use Rattle.base.proofs.Stores.{sets-append}
 use Rattle.compiler.proofs.Locations.{node-next, inlined-follows, function-next, function-table}
 use Rattle.sums.proofs.CodeSizes.{code-append}
 use Rattle.compiler.proofs.Inlining.{open-with}
 use Rattle.bytecode.specs.declared.Version.{Version}
 use Rattle.bytecode.specs.declared.Version.TheVariants.{V1, V2}
-use Rattle.lowering.specs.Naming.{sizing}
+use Rattle.bytecode.specs.Origin.{result_width}
+use Rattle.lowering.specs.Naming.{name_step, sizing}
 use Rattle.compiler.specs.declared.Pass.{Pass}
 use Rattle.compiler.specs.declared.Pass.TheVariants.{Survey, Sequential, Addressed}
 use Rattle.compiler.specs.Units.{unit_limit, end_limit, unit_bound}
@@ -83,7 +84,7 @@ bytes-append Addressed place is js =
 
 all-notes : (m : ℕ) (last : List ℕ) (is js : List Instruction) → notes m last (is ++ js) ≡ notes m (notes m last is) js
 all-notes m last [] js = refl
-all-notes m last (i ∷ is) js = all-notes m _ is js
+all-notes m last (i ∷ is) js = all-notes m (noted last (suc (i.result / name_step) - m) i.operands) is js
 
 notes-append : (pass : Pass) (m : ℕ) (place : List ℕ) (is js : List Instruction) → notes_by pass m place (is ++ js) ≡ notes_by pass m (notes_by pass m place is) js
 notes-append Survey m place is js = all-notes m place is js
@@ -92,7 +93,7 @@ notes-append Addressed m place is js = refl
 
 all-measures : (wide : List ℕ) (is js : List Instruction) → measures wide (is ++ js) ≡ measures (measures wide is) js
 all-measures wide [] js = refl
-all-measures wide (i ∷ is) js = all-measures _ is js
+all-measures wide (i ∷ is) js = all-measures (set wide (i.result / name_step) (result_width i)) is js
 
 measures-append : (pass : Pass) (wide : List ℕ) (is js : List Instruction) → measures_by pass wide (is ++ js) ≡ measures_by pass (measures_by pass wide is) js
 measures-append Survey wide is js = all-measures wide is js

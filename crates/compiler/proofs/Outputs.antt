@@ -27,7 +27,6 @@ use Rattle.resolver.proofs.Rows.{length-nodes}
 use Rattle.compiler.proofs.Coding.{AllCodes, codes-length, codes-stored, port-coded, summary-size}
 use Rattle.sums.proofs.Accepted.{few, few-ports, read_below, sound-below}
 use Rattle.bytecode.specs.declared.Version.{Version}
-use Rattle.lowering.specs.Naming.{sizing}
 
 abbrev Inside : List Node → Ref → Type 0
 Inside ns r = (r.node ≡ 0) ⊎ Is r.node (ids ns)

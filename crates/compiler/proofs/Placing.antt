@@ -1,14 +1,14 @@
 -- From names to places. A list by names and the same list by words come by the same values in the same order, so what a survey stores by the
 -- numbers of names is what the placement asks of the list by words: the width of each value, and the instruction before which it is no longer
 -- held. With the places that it then gives, the names' words are the words of the placed list.
-use Prim.Native.Nat.{ℕ, zero, suc, ◌+◌, ◌-◌, ◌*◌, ◌/◌, ◌%◌, ◌≤◌, ◌<◌}
+use Prim.Native.Nat.{ℕ, zero, suc, ◌+◌, ◌-◌, ◌/◌, ◌%◌, ◌≤◌, ◌<◌}
 use mathlib.Core.Path.{◌≡◌, refl, sym, ap, ap₂, ◌∙◌, subst}
 use mathlib.Core.List.{List, [], ◌∷◌, ◌++◌, map, append-nil, append_assoc, map-append}
 use mathlib.Core.Logic.{⊎_elim}
 use native.Mathlib.Omega.{arith}
 use native.Mathlib.Nat.{add-zero}
 use lib.ListN.{length, get_or, set, replicate, length-append, length-map, length-set, get_or-append}
-use lib.Seq.{sets, get_or-set_same, get_or-set_other}
+use lib.Seq.{get_or-set_same, get_or-set_other}
 use Rattle.base.specs.Limits.{placed_limit, word_limit, address_limit}
 use Rattle.base.specs.Lists.{span}
 use Rattle.base.proofs.Numbers.{lt-or-eq}
@@ -16,13 +16,13 @@ use Rattle.ports.specs.Kinds.{kind_of}
 use Rattle.ports.specs.Ports.{width, widths, takes, gives}
 use Rattle.bytecode.specs.Run.{Instruction, BoardList, spans}
 use Rattle.bytecode.specs.Origin.{result_width}
-use Rattle.bytecode.specs.Ranges.{Range, end, result_value}
+use Rattle.bytecode.specs.Ranges.{Range, result_value}
 use Rattle.placement.specs.declared.Extent.{Extent}
 use Rattle.placement.specs.Live.{input_values}
-use Rattle.placement.specs.Place.{Placed, top, places_of, rename, renamed, reusing}
+use Rattle.placement.specs.Place.{Placed, places_of, rename, renamed, reusing}
 use Rattle.placement.specs.OneValue.{Placeable}
 use Rattle.placement.specs.Balance.{blank, instruction_at}
-use Rattle.placement.specs.Arrays.{nothing, values_of, value_at, Widths, Wide, Named, Noted, Lasting, Stored}
+use Rattle.placement.specs.Arrays.{nothing, values_of, value_at, Widths, Named, Noted, Lasting, Stored}
 use Rattle.placement.specs.Record.{Placement}
 use Rattle.placement.proofs.Values.{values_length}
 use Rattle.placement.proofs.Notes.{stored-none, stored_one, noted-start, noted_step, noted-end}
@@ -49,7 +49,7 @@ instruction-same a b c d e = rw (a, b, c, d, e) refl
 
 measures-length : (wide : List ℕ) (is : List Instruction) → length (measures wide is) ≡ length wide
 measures-length wide [] = refl
-measures-length wide (i ∷ is) = measures-length _ is ∙ length-set wide (i.result / name_step) (result_width i)
+measures-length wide (i ∷ is) = measures-length (set wide (i.result / name_step) (result_width i)) is ∙ length-set wide (i.result / name_step) (result_width i)
 
 -- these are the widths of these values
 abbrev pub Wides : List ℕ → List Range → Type 0
@@ -99,7 +99,7 @@ noted-length last x (a ∷ names) = noted-length (set last (a / name_step) x) x 
 
 pub notes-length : (m : ℕ) (last : List ℕ) (is : List Instruction) → length (notes m last is) ≡ length last
 notes-length m last [] = refl
-notes-length m last (i ∷ is) = notes-length m _ is ∙ noted-length last (suc (i.result / name_step) - m) i.operands
+notes-length m last (i ∷ is) = notes-length m (noted last (suc (i.result / name_step) - m) i.operands) is ∙ noted-length last (suc (i.result / name_step) - m) i.operands
 
 -- the numbers of the values of names
 abbrev numbers : List ℕ → List ℕ

@@ -27,7 +27,6 @@ use Rattle.reader.specs.Find.{ReadsNode, ReadsNodes}
 use Rattle.reader.proofs.Passed.{end_fits, first_reads, rest-reads, function-holds}
 use Rattle.compiler.specs.Static.{Location, nowhere, summary}
 use Rattle.sums.specs.Position.{place_of, function_in, before, Accepted}
-use Rattle.sums.specs.Capped.{result_words_at}
 use Rattle.compiler.specs.Emit.{Stands, location_table, Coded, Placed, summary_at, Allocated}
 use Rattle.compiler.specs.Locating.{Codes, PortsCoded, read_count, FunctionAllocated, AllocatedTo}
 use Rattle.compiler.proofs.Locations.{function-agrees}

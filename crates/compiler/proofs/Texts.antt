@@ -9,7 +9,7 @@ use lib.ListN.{length, get_or, replicate, length-map, length-replicate}
 use lib.Seq.{sets, length-sets}
 use borrow.Author.Tests.{leb-true}
 use Rattle.base.specs.Bytes.{all_bytes}
-use Rattle.base.specs.Limits.{placed_limit, port_limit, operation_limit, word_limit}
+use Rattle.base.specs.Limits.{placed_limit, word_limit}
 use Rattle.base.proofs.Stores.{sets-in}
 use Rattle.ports.specs.Ports.{width, widths}
 use Rattle.graph.specs.Graph.{Function}
@@ -18,18 +18,18 @@ use Rattle.graph.specs.Sound.{AllSound}
 use Rattle.reader.specs.Layout.{output_count, earlier}
 use Rattle.bytecode.specs.declared.Version.TheVariants.{V1, V2}
 use Rattle.bytecode.specs.Run.{Instruction, BoardList, places, spans}
-use Rattle.bytecode.specs.Ranges.{Range, result_value}
+use Rattle.bytecode.specs.Ranges.{Range}
 use Rattle.bytecode.specs.Code.{header_code, instructions_code, encode}
 use Rattle.placement.specs.declared.Extent.{Extent}
 use Rattle.placement.specs.declared.Extent.TheVariants.{Words, Over}
 use Rattle.placement.specs.Live.{input_values}
-use Rattle.placement.specs.Place.{places_of, rename, renamed, reusing}
+use Rattle.placement.specs.Place.{places_of, rename, renamed}
 use Rattle.placement.specs.OneValue.{Placeable}
 use Rattle.placement.specs.Arrays.{nothing, values_of, Wide, Widths, Lasting}
 use Rattle.placement.specs.Record.{Placement, extent_of}
 use Rattle.placement.proofs.Words.{all-wide, extent-is}
-use Rattle.lowering.specs.Compile.{Inlined, inline_function, inlined, board_list_of}
-use Rattle.lowering.specs.Naming.{name_step, named_of, AllRename}
+use Rattle.lowering.specs.Compile.{Inlined, inline_function, inlined}
+use Rattle.lowering.specs.Naming.{named_of, AllRename}
 use Rattle.lowering.proofs.Limits.{output-words}
 use Rattle.lowering.proofs.Lawful.{placeable}
 use Rattle.lowering.proofs.Naming.{naming, instructions-count, inputs-length}
@@ -38,7 +38,7 @@ use Rattle.sums.proofs.Accepted.{sound-below}
 use Rattle.compiler.specs.declared.Pass.TheVariants.{Survey, Sequential, Addressed}
 use Rattle.compiler.specs.declared.Reached.{Reached}
 use Rattle.compiler.specs.Emit.{addresses_in, relocate, relocated, function_inlined, noted, notes, measures, Walks}
-use Rattle.compiler.specs.Whole.{code_at, first_by, inlined_at, relocate_by, text_of, Measured, Prepared, source_at, reused_at, Surveyed, Places}
+use Rattle.compiler.specs.Whole.{code_at, first_by, inlined_at, text_of, Measured, Prepared, source_at, reused_at, Surveyed, Places}
 use Rattle.compiler.proofs.Assembly.{inlined-is, ports-are}
 use Rattle.compiler.proofs.Placing.{Wides, notes-length, noted-length, widths-surveyed, lasting-surveyed, spans-relocated, all-relocated-code}
 

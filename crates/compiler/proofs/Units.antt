@@ -5,7 +5,6 @@ use mathlib.Core.Bool.{true}
 use mathlib.Core.List.{List, [], ◌∷◌}
 use mathlib.Core.Logic.{⊎_elim}
 use native.Mathlib.Omega.{arith}
-use lib.ListN.{length}
 use Rattle.base.specs.Bytes.{byte, u16}
 use Rattle.base.specs.Limits.{function_limit}
 use Rattle.base.proofs.Numbers.{lt-or-le}
@@ -19,7 +18,7 @@ use Rattle.graph.specs.Sound.{AllSound}
 use Rattle.bytecode.specs.declared.Version.{Version}
 use Rattle.bytecode.specs.declared.Version.TheVariants.{V1, V2}
 use Rattle.bytecode.specs.Run.{places}
-use Rattle.lowering.specs.Compile.{inline_function, inlined, board_list_of}
+use Rattle.lowering.specs.Compile.{inline_function, inlined}
 use Rattle.lowering.specs.Naming.{name_step, sizing}
 use Rattle.lowering.proofs.Limits.{inlined-size, words-of}
 use Rattle.lowering.proofs.Naming.{inlined-names, nodes-names}
@@ -27,7 +26,7 @@ use Rattle.graph.specs.Schedule.{schedule}
 use Rattle.sums.specs.declared.Sums.{Sums}
 use Rattle.sums.specs.CodeSums.{node_instructions, node_bytes, function_instructions, instructions_of, bytes_of_function}
 use Rattle.sums.specs.Position.{function_in, before, position_of}
-use Rattle.sums.specs.Capped.{own_sums, adds_sums, call_sums, no_sums, nodes_sums, operation_cap, word_cap, capped_words, capped_instructions, result_words_at, instructions_at, operations_at, bytes_at}
+use Rattle.sums.specs.Capped.{adds_sums, call_sums, no_sums, nodes_sums, capped_words, capped_instructions, result_words_at, instructions_at}
 use Rattle.sums.proofs.Positions.{sums_of, sums-at, sums_none}
 use Rattle.sums.proofs.Summing.{added}
 use Rattle.sums.proofs.CodeSizes.{function-instructions, inlined-instructions}

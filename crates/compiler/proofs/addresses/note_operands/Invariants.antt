@@ -1,0 +1,10 @@
+use Prim.Native.Nat.{◌+◌, ◌-◌, ◌≤◌}
+use Rattle.compiler.specs.Emit.{addresses_in}
+use Rattle.compiler.proofs.Filling.{Noting}
+use Rattle.compiler.proofs.addresses.note_operands.Given as goal
+
+abbrev pub invariant-loop-j : goal.invariant-loop-j
+invariant-loop-j l = (l.j ≤ l.n) × Noting l.initial.place l.x (addresses_in l.locations l.ins l.first l.cell l.n) l.place (addresses_in l.locations l.ins l.first (l.cell + l.j) (l.n - l.j))
+
+abbrev pub decreases-loop-j : goal.decreases-loop-j
+decreases-loop-j l = l.n - l.j
