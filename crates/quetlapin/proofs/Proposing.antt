@@ -1,6 +1,6 @@
 -- What the judge of a router's list answers of a function that was found, and what it asks: the list of version 1 that stands in its array is the
 -- function's own, and a list that passed the check, of version 2 and with the same counts, can be held to it.
-use Prim.Native.Nat.{ℕ, suc, ◌+◌, ◌≤◌}
+use Prim.Native.Nat.{ℕ, ◌≤◌}
 use mathlib.Core.Path.{◌≡◌, refl, ap, sym, ◌∙◌, subst}
 use mathlib.Core.Bool.{Bool, true, false, ◌&&◌}
 use mathlib.Core.List.{List, ◌∷◌}
@@ -11,8 +11,8 @@ use lib.ListN.{length, take}
 use lib.Seq.{sets, length-sets}
 use borrow.Author.Tests.{eqb-true, eq-eqb, ne_eqb}
 use Rattle.base.specs.Bytes.{Bytes, u16}
-use Rattle.base.specs.Limits.{header_length, operation_limit, word_limit, reference_limit}
-use Rattle.base.specs.Outcome.{Outcome, ok, fault, ◌>>=◌, ◌>>◌, need, or_else}
+use Rattle.base.specs.Limits.{header_length, word_limit, reference_limit}
+use Rattle.base.specs.Outcome.{Outcome, ok, fault, or_else}
 use Rattle.base.proofs.Bools.{and-inv, and_both}
 use Rattle.base.proofs.Outcomes.{takes, stops, passes, fails, some-else}
 use Rattle.base.proofs.Stores.{front}
@@ -22,7 +22,7 @@ use Rattle.bytecode.specs.declared.Version.{Version}
 use Rattle.bytecode.specs.declared.Version.TheVariants.{V1, V2}
 use Rattle.bytecode.specs.Version.{number}
 use Rattle.bytecode.specs.Run.{BoardList, places}
-use Rattle.bytecode.specs.Code.{encode, decode, guard}
+use Rattle.bytecode.specs.Code.{decode, guard}
 use Rattle.bytecode.specs.WellFormed.{Codes}
 use Rattle.bytecode.proofs.Back.{decode-encode}
 use Rattle.bytecode.proofs.Decoded.{well-formed}
@@ -39,8 +39,7 @@ use Rattle.compiler.specs.Sizes.{order_limit}
 use Rattle.compiler.specs.Whole.{code_at, Measured, source_at}
 use Rattle.validator.specs.declared.Judgement.{Judgement}
 use Rattle.validator.specs.declared.Judgement.TheVariants.{Accepted, Refused}
-use Rattle.validator.specs.Judge.{followed, same_counts, judged}
-use Rattle.validator.specs.Accepts.{Counted}
+use Rattle.validator.specs.Judge.{same_counts}
 use Rattle.validator.specs.Sizes.{list_limit}
 use Rattle.validator.specs.Tests.{judgement_of, followed_in, Judgeable}
 use Rattle.validator.proofs.Length.{own-length}

@@ -1,7 +1,7 @@
 -- What the judge of a router's list asks and answers, of a function that was found.
-use Rattle.std.specs.Prelude.{ℕ, suc, ◌≡◌, Bool, ◌&&◌, List, eqb}
+use Rattle.std.specs.Prelude.{ℕ, ◌≡◌, Bool, ◌&&◌, List, eqb}
 use Rattle.base.specs.Outcome.{Outcome, ◌>>=◌, or_else}
-use Rattle.bytecode.specs.declared.Version.TheVariants.{V1, V2}
+use Rattle.bytecode.specs.declared.Version.TheVariants.{V2}
 use Rattle.bytecode.specs.Run.{BoardList}
 use Rattle.bytecode.specs.WellFormed.{Codes}
 use Rattle.runner.specs.declared.Counts.{Counts}
