@@ -45,4 +45,4 @@ module _ (s : List ℕ) (k : ℕ) {n : ℕ} (en : n ≡ input_count s (place_of 
 pub prepared : {v v' : Version} → v ≡ v' → {s outs order locations begins ins : List ℕ} {k cell : ℕ} → AllocatedTo v s (suc k) outs order locations begins cell → ins ≡ filled v' s k
     → Prepared v s k outs order locations begins ins
 prepared e {s} {k} a i =
-    record { allocated = a.allocated; ports = a.ports; inputs = i ∙ ap (λ (x : Version). filled x s k) (sym e); sizes = (a.sizes.1, a.sizes.2) }
+    record { allocated = a.allocated; ports = a.ports; inputs = i ∙ ap (λ (x : Version). filled x s k) (sym e) }

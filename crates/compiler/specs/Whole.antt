@@ -2,7 +2,7 @@
 use Rattle.std.specs.Prelude.{ℕ, suc, ◌+◌, ◌*◌, ◌≤◌, ◌≡◌, List, ◌++◌, map, length, replicate}
 use Rattle.std.proofs.lemmas.List.Edits.{sets}
 use Rattle.base.specs.Bytes.{all_bytes}
-use Rattle.base.specs.Limits.{operation_limit, placed_limit, port_limit, port_word_limit, reference_limit, word_limit}
+use Rattle.base.specs.Limits.{operation_limit, placed_limit, port_limit, port_word_limit, word_limit}
 use Rattle.ports.specs.Ports.{widths}
 use Rattle.graph.specs.Types.{output_types}
 use Rattle.bytecode.specs.declared.Version.{Version}
@@ -19,7 +19,6 @@ use Rattle.placement.specs.Record.{extent_of}
 use Rattle.sums.specs.Position.{function_in, before}
 use Rattle.compiler.specs.declared.Pass.{Pass}
 use Rattle.compiler.specs.declared.Pass.TheVariants.{Survey, Sequential, Addressed}
-use Rattle.compiler.specs.Sizes.{order_limit}
 use Rattle.compiler.specs.Units.{units_at, unit_limit, end_limit}
 use Rattle.compiler.specs.Emit.{naming_of, relocate, bytes_by, AllAllocated}
 use Rattle.compiler.specs.Locating.{AllOuts}
@@ -78,7 +77,6 @@ pub record Prepared (v : Version) (s : List ℕ) (k : ℕ) (outs order locations
   pub allocated : AllAllocated v s begins order locations (suc k)
   pub ports : AllOuts v s outs (suc k)
   pub inputs : ins ≡ sets (replicate port_limit 0) 0 (inputs_by v (function_in s k).inputs)
-  pub sizes : (length order ≡ order_limit) × (length locations ≡ reference_limit)
 
 -- ---- version 2
 

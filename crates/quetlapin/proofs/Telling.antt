@@ -1,6 +1,6 @@
--- Every answer is told whole: a success is below 2^32, a refusal has one of the numbers that there are and a place below 2^32, and so no two
+-- Every answer is told whole: a success is below 2^32, a refusal has one of the numbers 1 to 22 or 31 (29 or 33 too, of a judgement) and a place below 2^32, and so no two
 -- answers have the same number.
-use Prim.Native.Nat.{ℕ, ◌≤◌}
+use Prim.Native.Nat.{ℕ, ◌≤◌, ◌<◌}
 use mathlib.Core.Path.{◌≡◌, refl, ap, sym, ◌∙◌, subst}
 use mathlib.Core.Bool.{Bool, true, false, ◌&&◌}
 use mathlib.Core.List.{List}
@@ -48,25 +48,44 @@ use Rattle.quetlapin.specs.Compiling as compiler
 use Rattle.runner.specs.declared.Ran.{Ran}
 use Rattle.runner.specs.Runs as runner
 use Rattle.quetlapin.specs.Answers as evaluation
-use Rattle.quetlapin.specs.Numbers.{number_of, RefusalNumber, Refusal, Bounded, Told, counted, code_length, run_count, evaluation_count, of_verdict, of_compiled, of_ran, of_evaluated, of_judgement, RunAnswered}
+use Rattle.quetlapin.specs.Numbers.{number_of, Refusal, Bounded, Told, JudgeRefusal, JudgeBounded, JudgeTold, counted, code_length, run_count, evaluation_count, of_verdict, of_compiled, of_ran, of_evaluated, of_judgement, RunAnswered}
 
 -- ---- one answer, one number
 
-pub told-one : (o o' : Outcome ℕ) → Bounded o → Bounded o' → number_of o ≡ number_of o' → o ≡ o'
-told-one (ok n) (ok m) b d e = ap ok e
-told-one (ok n) (fault m q) b (d, d1, d2) e = absurd (omega arith)
-told-one (fault n p) (ok m) (b, b1, b2) d e = absurd (omega arith)
-told-one (fault n p) (fault m q) (b, b1, b2) (d, d1, d2) e =
+-- what lies in its range by itself
+abbrev InRange : Outcome ℕ → Type 0
+InRange (ok n) = n < 0x1_0000_0000
+InRange (fault n p) = (1 ≤ n) × (p < 0x1_0000_0000)
+
+one-number : (o o' : Outcome ℕ) → InRange o → InRange o' → number_of o ≡ number_of o' → o ≡ o'
+one-number (ok n) (ok m) b d e = ap ok e
+one-number (ok n) (fault m q) b (d, d2) e = absurd (omega arith)
+one-number (fault n p) (ok m) (b, b2) d e = absurd (omega arith)
+one-number (fault n p) (fault m q) (b, b2) (d, d2) e =
     let k : n ≡ m = omega arith in
     let l : p ≡ q = omega arith in
     rw (k, l) refl
+
+bounded-range : (o : Outcome ℕ) → Bounded o → InRange o
+bounded-range (ok n) b = b
+bounded-range (fault n p) (b, b1, b2) = (b, b2)
+
+judged-range : (o : Outcome ℕ) → JudgeBounded o → InRange o
+judged-range (ok n) b = b
+judged-range (fault n p) (b, b1, b2) = (b, b2)
+
+pub told-one : (o o' : Outcome ℕ) → Bounded o → Bounded o' → number_of o ≡ number_of o' → o ≡ o'
+told-one o o' b d = one-number o o' (bounded-range o b) (bounded-range o' d)
+
+pub judged-one : (o o' : Outcome ℕ) → JudgeBounded o → JudgeBounded o' → number_of o ≡ number_of o' → o ≡ o'
+judged-one o o' b d = one-number o o' (judged-range o b) (judged-range o' d)
 
 -- ---- bounds, step by step
 
 module _ {A : Type 0} (f : A → ℕ) where
   bounded-fault : (g : Outcome A) → Bounded (counted f g) → (n p : ℕ) → g ≡ fault n p → Refusal n p
   bounded-fault (ok a) b n p e = let z : ◌≡◌ {A = ℕ} 0 1 = cc in absurd (omega arith)
-  bounded-fault (fault m q) (b, b1, b2) n p e = let k : m ≡ n = cc in let l : q ≡ p = cc in (omega arith, subst RefusalNumber k b1, omega arith)
+  bounded-fault (fault m q) (b, b1, b2) n p e = let k : m ≡ n = cc in let l : q ≡ p = cc in (omega arith, subst (λ (j : ℕ). (j ≤ 22) ⊎ (j ≡ 31)) k b1, omega arith)
 
 module _ {A B : Type 0} (f : B → ℕ) where
   bound-bounded : (g : Outcome A) (k : A → Outcome B) → ((n p : ℕ) → g ≡ fault n p → Refusal n p) → ((a : A) → g ≡ ok a → Bounded (counted f (k a)))
@@ -121,7 +140,7 @@ module _ (s : List ℕ) (small : Bytes s) where
       (λ latest q.
       there-bounded none_told (chosen c latest) _ 14 (omega arith, inl (omega arith), omega arith)
       (λ x r.
-      there-bounded none_told (version_of v) _ 31 (omega arith, inr (inr (inl refl)), omega arith)
+      there-bounded none_told (version_of v) _ 31 (omega arith, inr refl, omega arith)
       (λ w t.
       need-bounded none_told (leb (function_operations (operations_of x.early) x.function) operation_limit) 15 _ (omega arith, inl (omega arith), omega arith)
       (need-bounded none_told (leb (words_of w x) word_limit) 16 (ok (record { chosen = x; version = w })) (omega arith, inl (omega arith), omega arith) (omega arith))))))
@@ -166,16 +185,20 @@ module _ (s : List ℕ) (small : Bytes s) where
             (bounded-fault size-told (compiled s c n code) (compiled-bounded c n code) a p e)
 
 -- a router's list: the refusals of the table and of the compiler, 18, 33, and 29 with a place that is an instruction's
-pub judged-bounded : (s : List ℕ) → Bytes s → (c : ℕ) (code numbers : List ℕ) → Bounded (judged_placement s c code numbers)
+pub judged-bounded : (s : List ℕ) → Bytes s → (c : ℕ) (code numbers : List ℕ) → JudgeBounded (judged_placement s c code numbers)
 judged-bounded s small c code numbers = go (judged_placement s c code numbers) refl
   where
-    refusal : (n p : ℕ) → (compilable s c 1 ≡ fault n p) ⊎ (((n ≡ 18) × (p ≡ 0)) ⊎ (((n ≡ 33) × (p ≡ 0)) ⊎ ((n ≡ 29) × (p ≤ operation_limit)))) → Refusal n p
-    refusal n p (inl e) = compilable-fault s small c 1 n p e
+    wider : (n p : ℕ) → Refusal n p → JudgeRefusal n p
+    wider n p (b, inl l, b2) = (b, inl l, b2)
+    wider n p (b, inr e, b2) = (b, inr (inr (inl e)), b2)
+
+    refusal : (n p : ℕ) → (compilable s c 1 ≡ fault n p) ⊎ (((n ≡ 18) × (p ≡ 0)) ⊎ (((n ≡ 33) × (p ≡ 0)) ⊎ ((n ≡ 29) × (p ≤ operation_limit)))) → JudgeRefusal n p
+    refusal n p (inl e) = wider n p (compilable-fault s small c 1 n p e)
     refusal n p (inr (inl (a, b))) = (omega arith, inl (omega arith), omega arith)
     refusal n p (inr (inr (inl (a, b)))) = (omega arith, inr (inr (inr (inl a))), omega arith)
     refusal n p (inr (inr (inr (a, b)))) = (omega arith, inr (inl a), omega arith)
 
-    go : (o : Outcome ℕ) → judged_placement s c code numbers ≡ o → Bounded o
+    go : (o : Outcome ℕ) → judged_placement s c code numbers ≡ o → JudgeBounded o
     go (ok n) e = omega (arith, placement-count s c code numbers small n e)
     go (fault n p) e = refusal n p (placement-bounds s c code numbers small n p e)
 
@@ -233,11 +256,19 @@ module _ {o a : Outcome ℕ} (b : Bounded o) (e : a ≡ o) where
   pub told : {r : ℕ} → r ≡ number_of a → Told o r
   told q = record { number = q ∙ ap number_of e; bounds = b }
 
--- what is told is this answer exactly when it is the answer
-pub told_same : {o : Outcome ℕ} {r : ℕ} → Told o r → (o' : Outcome ℕ) → Told o' r ↔ (o ≡ o')
+-- the same of a judgement
+module _ {o a : Outcome ℕ} (b : JudgeBounded o) (e : a ≡ o) where
+  pub may-judge : JudgeBounded a
+  may-judge = subst JudgeBounded (sym e) b
+
+  pub judge-told : {r : ℕ} → r ≡ number_of a → JudgeTold o r
+  judge-told q = record { number = q ∙ ap number_of e; bounds = b }
+
+-- what is told is this judgement exactly when it is the judgement
+pub told_same : {o : Outcome ℕ} {r : ℕ} → JudgeTold o r → (o' : Outcome ℕ) → JudgeTold o' r ↔ (o ≡ o')
 told_same {o} {r} t o' = (
-  λ t'. told-one o o' t.bounds t'.bounds (sym t.number ∙ t'.number),
-  λ e. subst (λ (x : Outcome ℕ). Told x r) e t,
+  λ t'. judged-one o o' t.bounds t'.bounds (sym t.number ∙ t'.number),
+  λ e. subst (λ (x : Outcome ℕ). JudgeTold x r) e t,
 )
 
 -- the answer of a run, at one point or at many

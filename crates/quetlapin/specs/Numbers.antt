@@ -28,13 +28,9 @@ abbrev pub number_of : Outcome ℕ → ℕ
 number_of (ok n) = n
 number_of (fault n p) = refusal_number n p
 
--- one of 01's numbers or of 02's 22, 29, 31 and 33
-abbrev pub RefusalNumber : ℕ → Type 0
-RefusalNumber n = (n ≤ 22) ⊎ Is n (29 ∷ 31 ∷ 33 ∷ [])
-
--- with a place below 2^32
+-- one of 01's numbers or 02's 22 and 31, and a place below 2^32
 abbrev pub Refusal : ℕ → ℕ → Type 0
-Refusal n p = (1 ≤ n) × RefusalNumber n × (p < 0x1_0000_0000)
+Refusal n p = (1 ≤ n) × ((n ≤ 22) ⊎ (n ≡ 31)) × (p < 0x1_0000_0000)
 
 -- a success is below 2^32 too
 abbrev pub Bounded : Outcome ℕ → Type 0
@@ -45,6 +41,18 @@ Bounded (fault n p) = Refusal n p
 pub record Told (o : Outcome ℕ) (r : ℕ) : Type 0 where
   pub number : r ≡ number_of o
   pub bounds : Bounded o
+
+-- the same of a judgement, which has 02's 29 and 33 besides
+abbrev pub JudgeRefusal : ℕ → ℕ → Type 0
+JudgeRefusal n p = (1 ≤ n) × ((n ≤ 22) ⊎ Is n (29 ∷ 31 ∷ 33 ∷ [])) × (p < 0x1_0000_0000)
+
+abbrev pub JudgeBounded : Outcome ℕ → Type 0
+JudgeBounded (ok n) = n < 0x1_0000_0000
+JudgeBounded (fault n p) = JudgeRefusal n p
+
+pub record JudgeTold (o : Outcome ℕ) (r : ℕ) : Type 0 where
+  pub number : r ≡ number_of o
+  pub bounds : JudgeBounded o
 
 -- ---- what is told: the function count, the code's length, the count of output words, or the refusal
 

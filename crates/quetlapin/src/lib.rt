@@ -23,7 +23,7 @@ ghost use Rattle.quetlapin.specs.Compiling.{code_after};
 ghost use Rattle.quetlapin.specs.Measures.{named, measured_of, up_to, count_of, operation_count, word_count, code_count};
 ghost use Rattle.quetlapin.specs.declared.Evaluated.TheVariants.{Done};
 ghost use Rattle.quetlapin.specs.Answers.{from_run, Answered};
-ghost use Rattle.quetlapin.specs.Numbers.{refusal_number, number_of, Bounded, Told, code_length, of_verdict, of_compiled, of_ran, of_evaluated, of_judgement, RunAnswered, EvaluationAnswered};
+ghost use Rattle.quetlapin.specs.Numbers.{refusal_number, number_of, Bounded, Told, JudgeBounded, JudgeTold, code_length, of_verdict, of_compiled, of_ran, of_evaluated, of_judgement, RunAnswered, EvaluationAnswered};
 
 use base::{FUNCTION_LIMIT, OPERATION_LIMIT, WORD_LIMIT};
 use checker::Verdict;
@@ -294,7 +294,7 @@ fn evaluated_number(a: Evaluated) -> u64
 }
 
 fn judgement_number(a: Judgement) -> u64
-    requires { Bounded (of_judgement a) }
+    requires { JudgeBounded (of_judgement a) }
     ensures { result ≡ number_of (of_judgement a) }
 {
     match a {
@@ -388,8 +388,8 @@ pub fn ifg_evaluate_version(
 // Judges a router's list of version 2 for a function, with the number of the instruction of version 1 that each of its instructions
 // carries out: its instruction count, or a refusal.
 pub fn ifg_judge_placement(table: &[u8], id: u16, code: &[u8], numbers: &[u16]) -> u64
-    ensures told { Told (judged_placement table.now id code.now numbers.now) result }
-    ensures promise { Promise (λ n. Told (ok n) result) (λ n p. Told (fault n p) result) table.now id code.now numbers.now }
+    ensures told { JudgeTold (judged_placement table.now id code.now numbers.now) result }
+    ensures promise { Promise (λ n. JudgeTold (ok n) result) (λ n p. JudgeTold (fault n p) result) table.now id code.now numbers.now }
 {
     judgement_number(judge_placement(table, id, code, numbers))
 }

@@ -13,7 +13,7 @@ ghost use Rattle.points.specs.Demand3.{Demand3Points};
 ghost use Rattle.acceptance.specs.Answers.{judged_placement};
 ghost use Rattle.acceptance.specs.Promise.{Promise};
 ghost use Rattle.quetlapin.specs.Compiling.{code_after};
-ghost use Rattle.quetlapin.specs.Numbers.{Told, code_length, RunAnswered, EvaluationAnswered};
+ghost use Rattle.quetlapin.specs.Numbers.{Told, JudgeTold, code_length, RunAnswered, EvaluationAnswered};
 
 // Checks a table: the function count, or a refusal.
 #[unsafe(no_mangle)]
@@ -108,8 +108,8 @@ pub extern "C" fn ifg_evaluate_version(
 // carries out: its instruction count, or a refusal.
 #[unsafe(no_mangle)]
 pub extern "C" fn ifg_judge_placement(table: &[u8], id: u16, code: &[u8], numbers: &[u16]) -> u64
-    ensures told { Told (judged_placement table.now id code.now numbers.now) result }
-    ensures promise { Promise (λ n. Told (ok n) result) (λ n p. Told (fault n p) result) table.now id code.now numbers.now }
+    ensures told { JudgeTold (judged_placement table.now id code.now numbers.now) result }
+    ensures promise { Promise (λ n. JudgeTold (ok n) result) (λ n p. JudgeTold (fault n p) result) table.now id code.now numbers.now }
 {
     quetlapin::ifg_judge_placement(table, id, code, numbers)
 }

@@ -4,18 +4,18 @@ use native.Mathlib.Omega.{arith}
 use Rattle.base.specs.Outcome.{ok, fault}
 use Rattle.acceptance.proofs.Promised.{promised}
 use Rattle.quetlapin.specs.Numbers.{of_judgement}
-use Rattle.quetlapin.proofs.Telling.{judged-bounded, of-judgement, may-tell, told, told_same}
+use Rattle.quetlapin.proofs.Telling.{judged-bounded, of-judgement, may-judge, judge-told, told_same}
 use Rattle.quetlapin.proofs.ifg_judge_placement.Goals as goal
 
 pub judgement_number-requires : goal.judgement_number-requires
 judgement_number-requires c =
     let a = c.args in
-    may-tell (judged-bounded a.table.now (λ i. omega (arith, c.type_inv.table i)) a.id a.code.now a.numbers.now) (ap of_judgement c.judge_placement.ensures.value ∙ of-judgement _)
+    may-judge (judged-bounded a.table.now (λ i. omega (arith, c.type_inv.table i)) a.id a.code.now a.numbers.now) (ap of_judgement c.judge_placement.ensures.value ∙ of-judgement _)
 
 pub returns-clause-told : goal.returns-clause-told
 returns-clause-told c =
     let a = c.args in
-    told (judged-bounded a.table.now (λ i. omega (arith, c.type_inv.table i)) a.id a.code.now a.numbers.now) (ap of_judgement c.judge_placement.ensures.value ∙ of-judgement _)
+    judge-told (judged-bounded a.table.now (λ i. omega (arith, c.type_inv.table i)) a.id a.code.now a.numbers.now) (ap of_judgement c.judge_placement.ensures.value ∙ of-judgement _)
     c.judgement_number.ensures
 
 pub returns-clause-promise : goal.returns-clause-promise
