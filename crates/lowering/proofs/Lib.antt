@@ -8,3 +8,4 @@ pub mod Taken
 pub mod Lawful
 pub mod Whole
 pub mod Witness
+pub mod Concluded

@@ -1,7 +1,7 @@
 -- What demand 3 asks can be so, in both versions: case A on 3 and 0.5, with buffers longer than need be. What it then gives is 1.5, and the
 -- code of A.
 use Prim.Native.Nat.{ℕ, zero, suc, ◌≤◌}
-use mathlib.Core.Path.{◌≡◌, refl, ap, sym, ◌∙◌, subst}
+use mathlib.Core.Path.{◌≡◌, refl}
 use mathlib.Core.Bool.{true}
 use mathlib.Core.List.{List, [], ◌∷◌, ◌++◌, reverse}
 use mathlib.Core.Option.{some}
@@ -13,10 +13,7 @@ use lib.Ieee as Ieee
 use borrow.Author.Tests.{ltb-true}
 use Rattle.base.specs.Bytes.{Bytes}
 use Rattle.base.specs.Lists.{every}
-use Rattle.base.specs.Outcome.{ok}
 use Rattle.base.proofs.Bools.{and-inv}
-use Rattle.base.proofs.Lists.{some_is}
-use Rattle.base.proofs.Outcomes.{ok-is}
 use Rattle.value.specs.Results.{results}
 use Rattle.graph.specs.Format.{format_of}
 use Rattle.graph.specs.Loops.{Leads, via, loops}
@@ -31,10 +28,9 @@ use Rattle.bytecode.specs.Version.{number}
 use Rattle.bytecode.specs.Code.{encode}
 use Rattle.bytecode.proofs.Back.{version-number}
 use Rattle.lowering.specs.Compile.{inlined}
-use Rattle.lowering.specs.Answers.{words_of, code_of, Evaluated, evaluated}
-use Rattle.lowering.specs.Demand3.{Within, Lent, Demand3}
+use Rattle.lowering.specs.Answers.{words_of, code_of}
+use Rattle.lowering.specs.Demand3.{Within}
 use Rattle.lowering.specs.Cases.{table_a, code_a, code_a2, function_a, chosen_a, three, half, three_halves}
-use Rattle.lowering.proofs.Whole.{demand3, evaluated-ok}
 
 pub all-bytes : (s : List ℕ) → every (λ b. ltb b 256) s ≡ true → Bytes s
 all-bytes [] e i = omega arith
@@ -108,11 +104,11 @@ unfolding result_words_of inlined schedule
 words-a V1 = refl
 words-a V2 = refl
 
-buffer-a : (v : Version) → sets code_buffer 0 (code_in v) ≡ buffer_with v
+pub buffer-a : (v : Version) → sets code_buffer 0 (code_in v) ≡ buffer_with v
 buffer-a V1 = refl
 buffer-a V2 = refl
 
-fits-a : (v : Version) → length (code_in v) ≤ length code_buffer
+pub fits-a : (v : Version) → length (code_in v) ≤ length code_buffer
 fits-a V1 = omega arith
 fits-a V2 = omega arith
 
@@ -128,46 +124,6 @@ within_a v =
       words = let w = words-a v in omega arith;
     }
 
-pub lent-a : (v : Version) → Lent v chosen_a arguments_a code_buffer work_buffer out_buffer
-lent-a v =
-    record {
-      finite = ((omega arith, refl), ((omega arith, refl), tt));
-      count = refl;
-      code_fits = rw (code-a v) (fits-a v);
-      work-fits = let w = words-a v in omega arith;
-      out-fits = omega arith;
-    }
-
-means-a : graph_means (reverse (function_a ∷ [])) 1 arguments_a ≡ some (three_halves ∷ [])
+pub means-a : graph_means (reverse (function_a ∷ [])) 1 arguments_a ≡ some (three_halves ∷ [])
 unfolding node_means meaning_of results Ieee.mul Ieee.of_bits Ieee.to_bits
 means-a = refl
-
--- so demand 3 says of every answer to this that it is one word, 1.5, behind the code of A, and that the rest is as it was
-pub demand3-a : (v : Version) {Answer : ℕ → Type 0} {code' work' out' : List ℕ}
-    → Demand3 Answer table_a 1 (number v) arguments_a code_buffer work_buffer out_buffer code' work' out'
-    → Answer 1 × (out' ≡ three_halves ∷ 7 ∷ []) × (code' ≡ buffer_with v)
-demand3-a v {Answer} d =
-    let m = d (function_a ∷ []) v chosen_a (within_a v) (lent-a v) in
-    let e : m.answer ≡ three_halves ∷ [] = some_is (sym m.meant ∙ means-a) in (
-      subst (λ (ws : List ℕ). Answer (length ws)) e m.count,
-      m.given ∙ ap (sets out_buffer 0) e,
-      m.list ∙ ap (sets code_buffer 0) (code-a v) ∙ buffer-a v,
-    )
-
--- and `evaluated` answers, and answers so
-gives-a : (v : Version) (e : Evaluated) → evaluated table_a 1 (number v) arguments_a code_buffer work_buffer out_buffer ≡ ok e
-    → (e.count ≡ 1) × (e.out ≡ three_halves ∷ 7 ∷ []) × (e.code ≡ buffer_with v)
-gives-a v e q =
-    demand3-a v {Answer = λ n. e.count ≡ n}
-    (demand3 table_a 1 (number v) arguments_a code_buffer work_buffer out_buffer
-    (λ f p.
-    let same : e ≡ f = ok-is (sym q ∙ p) in
-    (ap (λ (g : Evaluated). g.count) same, ap (λ (g : Evaluated). g.code) same, ap (λ (g : Evaluated). g.work) same, ap (λ (g : Evaluated). g.out) same)))
-
-pub evaluated-a : (v : Version)
-    → (e : Evaluated) × (evaluated table_a 1 (number v) arguments_a code_buffer work_buffer out_buffer ≡ ok e) × (e.count ≡ 1) × (e.out ≡ three_halves ∷ 7 ∷ [])
-    × (e.code ≡ buffer_with v)
-evaluated-a v =
-    let q = evaluated-ok table_a 1 (number v) (function_a ∷ []) v chosen_a (within_a v) arguments_a code_buffer work_buffer out_buffer (lent-a v) in
-    let (n, o, l) = gives-a v _ q in
-    (_, q, n, o, l)
