@@ -4,6 +4,8 @@ use Rattle.order.proofs.first_on_loop.Tie as tie
 use mathlib.Core.Path.{◌≡◌, refl, sym, ap, ◌∙◌}
 use Prim.Native.Nat.{◌-◌, ◌≤◌}
 use native.Mathlib.Omega.{arith}
+use mathlib.Core.Bool.{true, false}
+use lib.ListN.{get_or}
 use Rattle.order.specs.Indices.{first_of}
 use Rattle.order.specs.Paths.{on_loop}
 use Rattle.order.proofs.Range.{first-hit, first-miss, first-end}
@@ -24,19 +26,6 @@ loop-holds c =
     let a = c.before.before.args in
     let e : a.n ≡ a.n - 0 = omega arith in
     (omega arith, ap (first_of (on_loop a.targets.now a.n) 0) e)
-
--- a node that can be ordered
-loop-again : tie.Need-loop-i-preserved-then-ordered-i invariant-loop decreases-loop
-loop-again c =
-    let d = c.before in
-    let t = d.before.before in
-    let a = t.before.before.args in
-    let l = d.before.loop-i in (
-      search rules,
-      l.invariant.1
-          ∙ first-miss (on_loop a.targets.now a.n) a.n l.i d.loop-i-test.true
-          (ordered-clear a.targets.now a.n l.i (sym (t.take_all.ensures.1 l.i) ∙ c.if-ordered-i.true)),
-    )
 
 returns : tie.Need-returns-then-on_loop invariant-loop decreases-loop
 returns c =
@@ -70,5 +59,17 @@ returns-2 c =
 pub first_on_loop_spec : {M : Type 1} → statement M
 first_on_loop_spec =
     tie.close
-    (tie.spec invariant-loop decreases-loop take-all-requires loop-holds (λ c. search rules) (λ c. search rules) (λ c. search rules) loop-again (λ c κs. search rules)
+    (tie.spec invariant-loop decreases-loop take-all-requires loop-holds (λ c. search rules) (λ c. search rules) (λ c. search rules)
+    -- a node that can be ordered; found by what it says
+    (λ c.
+    let d = c.before in
+    let t = d.before.before in
+    let a = t.before.before.args in
+    let l = d.before.loop-i in
+    let clear : get_or t.take_all.new.taken l.i false ≡ true = search rules in (
+      search rules,
+      l.invariant.1
+          ∙ first-miss (on_loop a.targets.now a.n) a.n l.i d.loop-i-test.true (ordered-clear a.targets.now a.n l.i (sym (t.take_all.ensures.1 l.i) ∙ clear)),
+    ))
+    (λ c κs. search rules)
     returns (λ c. search rules) (λ c. search rules) loop-again-2 returns-2)

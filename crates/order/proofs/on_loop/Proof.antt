@@ -40,9 +40,6 @@ narrow c =
     let d = c.before in
     subst (λ (k : ℕ). k < node_limit) (sym c.wide16-v.ensures.0) (at_head (start-of-in-loop d).requires.0 d.loop-head.invariant d.loop-head-test.true)
 
-returns : tie.Need-returns-then-seen-i invariant-loop decreases-loop
-returns c = let d = c.before.before in sym (walking-back (start-of-in-loop d).requires.0 d.loop-head.invariant c.if-seen-i.true)
-
 visit-all-requires-2 : tie.Need-visit_all-tail-requires-in-loop-head invariant-loop decreases-loop
 visit-all-requires-2 c κs =
     let w = c.before.before.before in
@@ -66,5 +63,7 @@ pub on_loop_spec : {M : Type 1} → statement M
 on_loop_spec =
     tie.close
     (tie.spec invariant-loop decreases-loop visit-all-requires loop-holds (λ c. omega (arith, c.loop-head-test.true, c.loop-head.invariant.good.room.rest)) (λ c. omega (arith, c.loop-head-test.true, c.loop-head.invariant.good.room.rest)) (λ c κs. search rules)
-    (λ c. let h = narrow c in omega arith) returns visit-all-requires-2 (λ c. let h = short (in-loop-of-visit-all-2 c) in omega arith)
+    (λ c. let h = narrow c in omega arith)
+    -- found by what it says: the node that was seen is the one asked for
+    (λ c. let d = c.before.before in sym (walking-back (start-of-in-loop d).requires.0 d.loop-head.invariant (search rules))) visit-all-requires-2 (λ c. let h = short (in-loop-of-visit-all-2 c) in omega arith)
     (λ c. let h = short (in-loop-of-visit-all-2 c) in omega arith) loop-again (λ c. search rules) returns-2)
