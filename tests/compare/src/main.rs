@@ -68,6 +68,9 @@ fn compare(options: &Options) -> bool {
     let start = Instant::now();
     let mut report = Report::new();
     let mut random = Random::new(options.seed);
+    // Proposals draw from numbers of their own, so that all else meets the same inputs with and without them.
+    #[cfg(feature = "judge_placement")]
+    let mut proposing = Random::new(!options.seed);
 
     check::fixed(&mut report);
     #[cfg(feature = "compile")]
@@ -87,9 +90,14 @@ fn compare(options: &Options) -> bool {
         points::fixed_2(&mut report);
     }
     #[cfg(feature = "judge_placement")]
-    placement::fixed(&mut report, &mut random);
+    placement::fixed(&mut report, &mut proposing);
     for _ in 0..options.tables {
-        random_table(&mut report, &mut random);
+        random_table(
+            &mut report,
+            &mut random,
+            #[cfg(feature = "judge_placement")]
+            &mut proposing,
+        );
     }
     #[cfg(feature = "run")]
     while report.count(Part::Run) < options.runs {
@@ -125,7 +133,11 @@ fn some_id(random: &mut Random, graph: &Graph) -> u16 {
 
 /// A random table and a damaged one: verdicts, codes, runs, evaluations, as far as the library has them.
 #[allow(unused_variables)]
-fn random_table(report: &mut Report, random: &mut Random) {
+fn random_table(
+    report: &mut Report,
+    random: &mut Random,
+    #[cfg(feature = "judge_placement")] proposing: &mut Random,
+) {
     let graph = random_graph(random);
     let table = graph.to_bytes();
     let damaged = damaged_table(random, &graph);
@@ -176,8 +188,8 @@ fn random_table(report: &mut Report, random: &mut Random) {
         }
     }
     #[cfg(feature = "judge_placement")]
-    if random.chance(PROPOSED) {
-        placement::random(report, random, &graph, id, &damaged);
+    if proposing.chance(PROPOSED) {
+        placement::random(report, proposing, &graph, id, &damaged);
     }
 }
 

@@ -398,7 +398,7 @@ fn in_turn(report: &mut Report, random: &mut Random, graph: &Graph) {
     let (code, count) = (own.code.to_bytes(), own.numbers.len());
     let mut hold = |code: &[u8], numbers: &[u16]| function.tried(report, random, code, numbers);
     if code.len() < 150 {
-        every_byte(&code, |code| hold(code, &own.numbers));
+        every_byte(&code, |code, _| hold(code, &own.numbers));
     }
     every_address(&own.code, |code| hold(&code.to_bytes(), &own.numbers));
     for at in 0..count {

@@ -52,13 +52,17 @@ pub fn fixed(report: &mut Report, random: &mut Random) {
         compiled(&reuse::decomposed()),
     ];
     for code in &small {
-        every_byte(code, |code| {
+        every_byte(code, |code, whole| {
             // A code that is still good runs.
             let room = Room {
                 work: 300,
                 out: 256,
             };
-            compare(report, code, &arguments(code), room, None);
+            if whole {
+                compare(report, code, &arguments(code), room, None);
+            } else {
+                damaged(report, random, code);
+            }
         });
     }
     for list in reuse::lists().iter().chain(&reuse::malformed_lists()) {
@@ -101,20 +105,20 @@ fn arguments(code: &[u8]) -> Vec<u64> {
         .collect()
 }
 
-/// Each byte changed to every other, the code cut at each length, and made longer.
-pub fn every_byte(code: &[u8], mut hold: impl FnMut(&[u8])) {
+/// Each byte changed to every other; and the code cut at each length, and made longer, which is no whole code.
+pub fn every_byte(code: &[u8], mut hold: impl FnMut(&[u8], bool)) {
     for at in 0..code.len() {
         for byte in 0..=255 {
             let mut code = code.to_vec();
             code[at] = byte;
-            hold(&code);
+            hold(&code, true);
         }
-        hold(&code[..at]);
+        hold(&code[..at], false);
     }
     for more in 1..=4 {
         let mut code = code.to_vec();
         code.resize(code.len() + more, 0);
-        hold(&code);
+        hold(&code, false);
     }
 }
 
