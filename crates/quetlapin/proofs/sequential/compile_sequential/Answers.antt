@@ -33,14 +33,14 @@ compile-requires-clause-measured c =
 pub returns-else-code-size-clause-value : goal.returns-else-code-size-clause-value
 returns-else-code-size-clause-value c =
     let q = code_is _ _ _ _ _ _ _ c.in-At.ensures in
-    let l = c.if-code-size.false in
+    let fits = c.if-code-size.false in
     let e = written c.args.table.now c.args.id 1 c.args.code.now V1 (chosen_at c.args.table.now c.in-At.k) c.in-At.ensures.compilable (omega arith) in
     ap (λ (n : ℕ). Compiled.Length n) (code_is _ _ _ _ _ _ _ c.in-At.ensures) ∙ sym (ap answer_of e)
 
 pub returns-else-code-size-clause-code_after : goal.returns-else-code-size-clause-code_after
 returns-else-code-size-clause-code_after c =
     let q = code_is _ _ _ _ _ _ _ c.in-At.ensures in
-    let l = c.if-code-size.false in
+    let room = c.if-code-size.false in
     let e = written c.args.table.now c.args.id 1 c.args.code.now V1 (chosen_at c.args.table.now c.in-At.k) c.in-At.ensures.compilable (omega arith) in
     c.compile.ensures ∙ sym (ap (code_after c.args.code.now) e)
 
