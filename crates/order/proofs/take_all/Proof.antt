@@ -7,6 +7,7 @@ use mathlib.Core.Bool.{Bool, true, false}
 use mathlib.Core.List.{List}
 use native.Mathlib.Omega.{arith}
 use lib.ListN.{set, replicate}
+use Rattle.order.specs.Indices.{marked}
 use Rattle.order.specs.Walk.{unmarked}
 use Rattle.order.proofs.Descent.{Searching, searching-none, searching-size, searching-fewer, searching-end, searching-on, searching-root, searching-below, searching-push, searching-leave, searching-take}
 use Rattle.base.specs.Limits.{node_limit}
@@ -79,22 +80,17 @@ loop-again-3 c =
     t.waits-w.result t.waits-w.ensures c.if-w-n.true c.if-pushed-w.true
 
 -- one mark less is missing
-fewer : (c : tie.Else-pushed-w invariant-loop decreases-loop) → let t = c.before.before in let l = (else-1-of-waits t).loop-root in
-    (unmarked l.pushed ≡ suc (unmarked (set l.pushed t.waits-w.result true)))
-fewer c =
-    let t = c.before.before in
-    let d = (else-1-of-waits t).before in
-    searching-fewer d.requires.0 d.loop-root.invariant t.waits-w.result c.if-w-n.true c.if-pushed-w.false
+fewer : (t : tie.After-waits-w invariant-loop decreases-loop) → let o = else-1-of-waits t in let l = o.loop-root in
+    t.waits-w.result < o.before.args.n → marked l.pushed t.waits-w.result ≡ false → (unmarked l.pushed ≡ suc (unmarked (set l.pushed t.waits-w.result true)))
+fewer t below unseen = let d = (else-1-of-waits t).before in searching-fewer d.requires.0 d.loop-root.invariant t.waits-w.result below unseen
 
 -- the array has room
-room : (c : tie.Else-pushed-w invariant-loop decreases-loop) → (else-1-of-waits c.before.before).loop-root.depth < node_limit
-room c =
-    let h = fewer c in
-    let e = (size (else-1-of-waits c.before.before).before).0 in
+room : (t : tie.After-waits-w invariant-loop decreases-loop) → let o = else-1-of-waits t in let l = o.loop-root in
+    t.waits-w.result < o.before.args.n → marked l.pushed t.waits-w.result ≡ false → l.depth < node_limit
+room t below unseen =
+    let h = fewer t below unseen in
+    let e = (size (else-1-of-waits t).before).0 in
     omega arith
-
-loop-less-4 : tie.Need-loop-root-smaller-else-pushed-w invariant-loop decreases-loop
-loop-less-4 c = omega (arith, fewer c)
 
 loop-again-4 : tie.Need-loop-root-preserved-else-pushed-w invariant-loop decreases-loop
 loop-again-4 c =
@@ -125,7 +121,7 @@ take_all_spec =
     (λ c. search rules) loop-less-2 loop-again-2 (λ c. omega (arith, c.if-depth-eq0.false)) (λ c. omega (arith, c.if-depth-eq0.false, (size c.before).0))
     (λ c. omega (arith, c.if-depth-eq0.false, (size c.before).0)) (λ c κs. search rules)
     (λ c κs. (c.requires.0, below c)) (λ c. search rules) loop-less-3 loop-again-3 (λ c. search rules)
-    (λ c. search rules) (λ c. let h = room c in omega arith) (λ c. room c) (λ c. let h = room c in omega arith) loop-less-4 loop-again-4
+    (λ c. search rules) (λ c. let h = room c.before.before c.if-w-n.true c.if-pushed-w.false in omega arith) (λ c. room c.before.before c.if-w-n.true c.if-pushed-w.false) (λ c. let h = room c.before.before c.if-w-n.true c.if-pushed-w.false in omega arith) (λ c. omega (arith, fewer c.before.before c.if-w-n.true c.if-pushed-w.false)) loop-again-4
     (λ c. let h = below c.before.before.before in omega (arith, h, c.requires.0))
     (λ c. let e = else-1-of-waits c.before.before in let h = (size e.before).1 in omega (arith, h, c.requires.0))
     (λ c. let h = more (else-1-of-waits c.before.before) in omega arith) loop-less-5 loop-again-5 returns)

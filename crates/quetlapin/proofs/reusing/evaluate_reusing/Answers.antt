@@ -57,15 +57,13 @@ returns-then-not-arguments_allowed-clause-answered c =
 pub returns-then-not-arguments_allowed-clause-demand3 : goal.returns-then-not-arguments_allowed-clause-demand3
 returns-then-not-arguments_allowed-clause-demand3 c = meant _ _ _ _ _ _ _ _ _ _ _ (returns-then-not-arguments_allowed-clause-answered c)
 
-pub returns-then-work-all-clause-answered : goal.returns-then-work-all-clause-answered
-returns-then-work-all-clause-answered c =
+pub returns-then-work-all : goal.returns-then-work-all
+returns-then-work-all c =
     let w = extent-words _ _ (sym c.in-Words.is ∙ c.lay_out-extent.ensures.places.extent) in
     let z = sized-placed _ _ _ _ _ _ _ c.in-At.ensures c.if-sizes-gt-OPERATION_LIMIT.false c.placed_length-length.ensures w.0 w.1 in
-    (refused-work c.args.table.now c.args.id 2 c.args.arguments.now c.args.code.now c.args.work.now c.args.out.now (λ i. omega (arith, c.type_inv.table i)) V2 _ _ _ _ _ z c.if-code-length.false c.if-arguments-sizes.false
-    (sym c.arguments_allowed.ensures ∙ c.if-not-arguments_allowed.false) c.if-work-all.true).0
-
-pub returns-then-work-all-clause-demand3 : goal.returns-then-work-all-clause-demand3
-returns-then-work-all-clause-demand3 c = meant _ _ _ _ _ _ _ _ _ _ _ (returns-then-work-all-clause-answered c)
+    let a = (refused-work c.args.table.now c.args.id 2 c.args.arguments.now c.args.code.now c.args.work.now c.args.out.now (λ i. omega (arith, c.type_inv.table i)) V2 _ _ _ _ _ z c.if-code-length.false c.if-arguments-sizes.false
+    (sym c.arguments_allowed.ensures ∙ c.if-not-arguments_allowed.false) c.if-work-all.true).0 in
+    record { answered = a; demand3 = meant _ _ _ _ _ _ _ _ _ _ _ a }
 
 pub returns-then-out-sizes-clause-answered : goal.returns-then-out-sizes-clause-answered
 returns-then-out-sizes-clause-answered c =

@@ -11,17 +11,13 @@ use Rattle.quetlapin.proofs.Compiling.{refused, too_long, written, code_is, word
 use Rattle.quetlapin.proofs.sequential.compile_sequential.Goals as goal
 
 -- the buffer is too short
-short : (c : goal.Then-code-size) → compiled c.args.table.now c.args.id 1 c.args.code.now ≡ fault 17 0
-short c =
+pub returns-then-code-size : goal.returns-then-code-size
+returns-then-code-size c =
     let q = code_is _ _ _ _ _ _ _ c.in-At.ensures in
     let l = c.if-code-size.true in
-    too_long c.args.table.now c.args.id 1 c.args.code.now V1 (chosen_at c.args.table.now c.in-At.k) c.in-At.ensures.compilable (omega arith)
-
-pub returns-then-code-size-clause-value : goal.returns-then-code-size-clause-value
-returns-then-code-size-clause-value c = sym (ap answer_of (short c))
-
-pub returns-then-code-size-clause-code_after : goal.returns-then-code-size-clause-code_after
-returns-then-code-size-clause-code_after c = sym (ap (code_after c.args.code.now) (short c))
+    let short : compiled c.args.table.now c.args.id 1 c.args.code.now ≡ fault 17 0 =
+    too_long c.args.table.now c.args.id 1 c.args.code.now V1 (chosen_at c.args.table.now c.in-At.k) c.in-At.ensures.compilable (omega arith) in
+    record { value = sym (ap answer_of short); code_after = sym (ap (code_after c.args.code.now) short) }
 
 pub compile-requires-clause-measured : goal.compile-requires-clause-measured
 compile-requires-clause-measured c =
