@@ -75,15 +75,13 @@ returns-then-out-sizes-clause-answered c =
 pub returns-then-out-sizes-clause-demand3 : goal.returns-then-out-sizes-clause-demand3
 returns-then-out-sizes-clause-demand3 c = meant _ _ _ _ _ _ _ _ _ _ _ (returns-then-out-sizes-clause-answered c)
 
-pub returns-else-out-sizes-clause-answered : goal.returns-else-out-sizes-clause-answered
-returns-else-out-sizes-clause-answered c =
+pub returns-else-out-sizes : goal.returns-else-out-sizes
+returns-else-out-sizes c =
     let w = extent-words _ _ (sym c.in-Words.is ∙ c.lay_out-extent.ensures.places.extent) in
     let z = sized-placed _ _ _ _ _ _ _ c.in-At.ensures c.if-sizes-gt-OPERATION_LIMIT.false c.placed_length-length.ensures w.0 w.1 in
-    (completed c.args.table.now c.args.id 2 c.args.arguments.now c.args.code.now c.args.work.now c.args.out.now (λ i. omega (arith, c.type_inv.table i)) V2 _ _ _ _ _ z c.if-code-length.false c.if-arguments-sizes.false
-    (sym c.arguments_allowed.ensures ∙ c.if-not-arguments_allowed.false) (λ i. omega (arith, c.type_inv.arguments i)) c.if-work-all.false c.if-out-sizes.false c.compile_placed.ensures c.run.ensures.answered c.from_run.ensures).0
-
-pub returns-else-out-sizes-clause-demand3 : goal.returns-else-out-sizes-clause-demand3
-returns-else-out-sizes-clause-demand3 c = meant _ _ _ _ _ _ _ _ _ _ _ (returns-else-out-sizes-clause-answered c)
+    let a = (completed c.args.table.now c.args.id 2 c.args.arguments.now c.args.code.now c.args.work.now c.args.out.now (λ i. omega (arith, c.type_inv.table i)) V2 _ _ _ _ _ z c.if-code-length.false c.if-arguments-sizes.false
+    (sym c.arguments_allowed.ensures ∙ c.if-not-arguments_allowed.false) (λ i. omega (arith, c.type_inv.arguments i)) c.if-work-all.false c.if-out-sizes.false c.compile_placed.ensures c.run.ensures.answered c.from_run.ensures).0 in
+    record { answered = a; demand3 = meant _ _ _ _ _ _ _ _ _ _ _ a }
 
 pub returns-in-Over-clause-answered : goal.returns-in-Over-clause-answered
 returns-in-Over-clause-answered c =
