@@ -4,9 +4,11 @@ use mathlib.Core.Path.{◌≡◌, refl, sym, ap, ◌∙◌}
 use mathlib.Core.List.{List, [], ◌∷◌, ◌++◌}
 use native.Mathlib.Omega.{arith}
 use native.Mathlib.Nat.{add-zero, add-suc, suc-add}
-use native.Mathlib.Numerals.{add-one, add-two, add-three, add-four, add_five, add_six, add_seven}
-use lib.ListN.{length, get_or, set, take, drop, length-set}
-use lib.Seq.{sets, length-sets, sets-eq, set_comm, take_at, get_or-set_same, get_or-set_other}
+use lib.ListN.{length, get_or, set, take, drop, length-set, replicate, length-replicate, length-drop}
+use borrow.Rule.Slice.PartMut.{put_mid}
+use lib.Seq.{sets, length-sets, length-take-le, sets-eq, set_comm, take_at, get_or-set_same, get_or-set_other}
+use Rattle.std.proofs.lemmas.List.{take_all}
+use Rattle.std.proofs.lemmas.Slice.{put_mid-paste}
 use Rattle.base.specs.Lists.{words_at}
 use Rattle.base.specs.Bytes.{bytes_of}
 use Rattle.base.proofs.Stands.{cons}
@@ -80,20 +82,34 @@ set_before (y ∷ ys) l i j x h =
 pub front : (xs ys : List ℕ) → length ys ≤ length xs → take (length ys) (sets xs 0 ys) ≡ ys
 front xs ys h = ap (take (length ys)) (sets-eq ys xs 0 (omega arith)) ∙ take_at ys (drop (0 + length ys) xs) (length ys) refl
 
--- ---- a number of eight bytes, byte by byte
+-- ---- a copy into a part of a list
 
-pub word-stored : (l : List ℕ) (at x : ℕ)
-    → set (set (set (set (set (set (set (set l at (x % 256)) (at + 1) (x / 256 % 256)) (at + 2) (x / 256 ^ 2 % 256)) (at + 3) (x / 256 ^ 3 % 256))
-    (at + 4) (x / 256 ^ 4 % 256)) (at + 5) (x / 256 ^ 5 % 256)) (at + 6) (x / 256 ^ 6 % 256)) (at + 7) (x / 256 ^ 7 % 256)
-    ≡ sets l at (bytes_of 8 x)
-word-stored l at x =
+pub copied : (s xs : List ℕ) (at : ℕ) {k : ℕ} {ys : List ℕ} → ys ≡ xs → k ≡ length xs → at + length xs ≤ length s → put_mid at k s ys ≡ sets s at xs
+copied s xs at {k} {ys} e p h =
+    put_mid-paste at k s ys xs (length xs) e (sym p) refl
+    ∙ ap (λ (zs : List ℕ). take at s ++ zs ++ drop (at + length xs) s) (take_all (length xs) xs (omega arith))
+    ∙ sym (sets-eq xs s at h)
+
+-- a part that is filled with one value
+pub filled : (s : List ℕ) (at n x : ℕ) {k : ℕ} {ys : List ℕ} → ys ≡ replicate (length (take k (drop at s))) x → k ≡ n → at + n ≤ length s
+    → put_mid at k s ys ≡ sets s at (replicate n x)
+filled s at n x {k} e p h =
+    let l : length (take k (drop at s)) ≡ n = length-take-le k (drop at s) (omega (arith, length-drop at s)) ∙ p in
+    let r : length (replicate n x) ≡ n = length-replicate n x in
+    copied s (replicate n x) at (e ∙ ap (λ (m : ℕ). replicate m x) l) (p ∙ sym r) (omega arith)
+
+-- the eight bytes of a number, each by one division
+pub eight : (x : ℕ)
+    → x % 256 ∷ x / 256 % 256 ∷ x / 256 ^ 2 % 256 ∷ x / 256 ^ 3 % 256 ∷ x / 256 ^ 4 % 256 ∷ x / 256 ^ 5 % 256 ∷ x / 256 ^ 6 % 256 ∷ x / 256 ^ 7 % 256 ∷ []
+    ≡ bytes_of 8 x
+eight x =
     let e2 : x / 256 ^ 2 ≡ x / 256 / 256 = omega arith in
     let e3 : x / 256 ^ 3 ≡ x / 256 / 256 / 256 = omega arith in
     let e4 : x / 256 ^ 4 ≡ x / 256 / 256 / 256 / 256 = omega arith in
     let e5 : x / 256 ^ 5 ≡ x / 256 / 256 / 256 / 256 / 256 = omega arith in
     let e6 : x / 256 ^ 6 ≡ x / 256 / 256 / 256 / 256 / 256 / 256 = omega arith in
     let e7 : x / 256 ^ 7 ≡ x / 256 / 256 / 256 / 256 / 256 / 256 / 256 = omega arith in
-    rw (add-one, add-two, add-three, add-four, add_five, add_six, add_seven, e2, e3, e4, e5, e6, e7)
+    rw (e2, e3, e4, e5, e6, e7)
 
 -- ---- a run that a loop stores in parts
 

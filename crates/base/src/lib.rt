@@ -6,6 +6,10 @@ ghost use Rattle.std.proofs.lemmas.List.Edits.{sets};
 ghost use Rattle.base.specs.Limits.{within_limits};
 ghost use Rattle.base.specs.Bytes.{byte, u16, u64, bytes_of};
 
+mod refusal;
+
+pub use refusal::{Fault, Refusal};
+
 // ---- limits, each in one place; `specs/Limits.antt` has the same
 
 // Functions of a table.
@@ -18,7 +22,7 @@ pub const NODE_LIMIT: usize = 256;
 pub const KIND_LIMIT: usize = 25;
 // Operands of a node.
 pub const OPERAND_LIMIT: usize = 16;
-// References of a function's nodes, with room for the most operands at each.
+// References of a function's nodes, with room for the most operands at each. Arrays of all nodes are flat, as their clauses have them.
 pub const SLOT_LIMIT: usize = NODE_LIMIT * OPERAND_LIMIT;
 // Operations and words of a function that can be compiled.
 pub const OPERATION_LIMIT: usize = 4096;
@@ -45,50 +49,14 @@ pub const REFERENCE_LIMIT: usize = TABLE_LIMIT * OPERAND_LIMIT / (4 + 3 * OPERAN
 pub const PORT_WORD_LIMIT: usize = PORT_LIMIT * VALUE_LIMIT;
 // Points of one call.
 pub const POINT_LIMIT: usize = 1024;
-// No node: an index that no node has.
+// No node: an index that no node has. A number and no `Option`, since slots are numbers of 16 bits, in clauses too.
 pub const NO_NODE: u16 = 0xFFFF;
 
 // Whether a function with these sums can be compiled.
 pub fn within_limits(operations: usize, words: usize) -> bool
     ensures { result ≡ within_limits operations words }
 {
-    if operations <= OPERATION_LIMIT {
-        words <= WORD_LIMIT
-    } else {
-        false
-    }
-}
-
-pub fn higher(a: usize, b: usize) -> usize
-    ensures { result ≡ max a b }
-{
-    if a < b { b } else { a }
-}
-
-// ---- wider numbers: a cast inside a larger expression asks for a proof that it fits, a call does not
-
-pub fn wide(x: u8) -> usize
-    ensures { (result ≡ x) × (result < 256) }
-{
-    x as usize
-}
-
-pub fn wide16(x: u16) -> usize
-    ensures { (result ≡ x) × (result < 65536) }
-{
-    x as usize
-}
-
-pub fn wide32(x: u32) -> usize
-    ensures { (result ≡ x) × (result < 2 ^ 32) }
-{
-    x as usize
-}
-
-fn wide64(x: u8) -> u64
-    ensures { (result ≡ x) × (result < 256) }
-{
-    x as u64
+    operations <= OPERATION_LIMIT && words <= WORD_LIMIT
 }
 
 // ---- reading inside a slice
@@ -97,28 +65,23 @@ pub fn byte_at(s: &[u8], at: usize) -> usize
     requires { at < length s.now }
     ensures { (result ≡ byte s.now at) × (result < 256) }
 {
-    wide(s[at])
+    usize::from(s[at])
 }
 
 pub fn u16_at(s: &[u8], at: usize) -> usize
     requires { at + 2 ≤ length s.now }
     ensures { (result ≡ u16 s.now at) × (result < 65536) }
 {
-    wide(s[at]) + wide(s[at + 1]) * 256
+    usize::from(u16::from_le_bytes([s[at], s[at + 1]]))
 }
 
 pub fn u64_at(s: &[u8], at: usize) -> u64
     requires { at + 8 ≤ length s.now }
     ensures { result ≡ u64 s.now at }
 {
-    wide64(s[at])
-        + wide64(s[at + 1]) * 0x100
-        + wide64(s[at + 2]) * 0x1_0000
-        + wide64(s[at + 3]) * 0x100_0000
-        + wide64(s[at + 4]) * 0x1_0000_0000
-        + wide64(s[at + 5]) * 0x100_0000_0000
-        + wide64(s[at + 6]) * 0x1_0000_0000_0000
-        + wide64(s[at + 7]) * 0x100_0000_0000_0000
+    let mut bytes = [0; 8];
+    bytes.copy_from_slice(&s[at..at + 8]);
+    u64::from_le_bytes(bytes)
 }
 
 // ---- writing
@@ -127,20 +90,12 @@ pub fn put16(s: &mut [u8], at: usize, x: u16)
     requires { at + 2 ≤ length s.old }
     ensures { s.new ≡ sets s.old at (bytes_of 2 x) }
 {
-    s[at] = (x % 256) as u8;
-    s[at + 1] = (x / 256 % 256) as u8;
+    s[at..at + 2].copy_from_slice(&x.to_le_bytes());
 }
 
 pub fn put64(s: &mut [u8], at: usize, x: u64)
     requires { at + 8 ≤ length s.old }
     ensures { s.new ≡ sets s.old at (bytes_of 8 x) }
 {
-    s[at] = (x % 256) as u8;
-    s[at + 1] = (x / 0x100 % 256) as u8;
-    s[at + 2] = (x / 0x1_0000 % 256) as u8;
-    s[at + 3] = (x / 0x100_0000 % 256) as u8;
-    s[at + 4] = (x / 0x1_0000_0000 % 256) as u8;
-    s[at + 5] = (x / 0x100_0000_0000 % 256) as u8;
-    s[at + 6] = (x / 0x1_0000_0000_0000 % 256) as u8;
-    s[at + 7] = (x / 0x100_0000_0000_0000 % 256) as u8;
+    s[at..at + 8].copy_from_slice(&x.to_le_bytes());
 }

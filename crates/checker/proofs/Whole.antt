@@ -13,7 +13,10 @@ use lib.Seq.{get_or-set_same, get_or-set_other}
 use borrow.Author.Tests.{leb-true, eqb-true, eqb-false}
 use Rattle.ports.specs.Kinds.{kind_of}
 use Rattle.base.specs.Outcome.{Outcome, ok, fault, ◌>>◌, each, Part}
-use Rattle.base.specs.Bytes.{byte, Bytes}
+use Rattle.base.specs.Refusals.{mapped, number, refusal}
+use Rattle.base.specs.declared.refusal.Refusal.{Refusal}
+use Rattle.base.specs.declared.refusal.Fault.{Fault}
+use Rattle.base.specs.Bytes.{byte, u16, Bytes}
 use Rattle.graph.specs.Graph.{Payload, consts, refs, calls, Node, Function}
 use Rattle.graph.specs.Look.{find_function, found, reads, reads_of}
 use Rattle.graph.specs.Format.{format_of}
@@ -30,14 +33,16 @@ use Rattle.graph.proofs.Order.{wired-in}
 use Rattle.order.specs.Resolve.{target}
 use Rattle.order.proofs.Nodes.{at-below}
 use Rattle.reader.specs.Layout.{node_at, node_end, nodes_at, node_place, node_count, nodes_place, function_at, function_end, functions_at, earlier, known}
-use Rattle.reader.specs.Find.{ReadsFunction, ReadsFunctions, ReadsStarts}
-use Rattle.reader.specs.Records.{seen}
-use Rattle.reader.specs.declared.Seen.{Seen}
+use Rattle.reader.specs.Find.{ReadsFunction, ReadsFunctions, ReadsStarts, function_found}
+use Rattle.reader.specs.declared.Found.{Found}
+use Rattle.std.specs.Prelude.{Some, None}
+use Rattle.std.specs.Prelude.{Option as Answer}
+use Rattle.std.specs.Option.{is_some}
 use Rattle.reader.proofs.Rows.{operands-few}
 use Rattle.reader.proofs.Standing.{function-read, parse-read, earlier-all}
-use Rattle.reader.proofs.Passed.{place-next, function-holds, length-earlier}
+use Rattle.reader.proofs.Passed.{place-next, function-holds, length-earlier, no-function, found-function}
 use Rattle.resolver.proofs.Rows.{length-nodes}
-use Rattle.checker.specs.declared.Head.{Head}
+use Rattle.checker.specs.declared.scene.Head.{Head}
 use Rattle.checker.specs.Slots.{RowsAre, SlotsReady}
 use Rattle.base.specs.Limits.{function_limit, node_limit, operand_limit, table_limit}
 use Rattle.base.proofs.Lists.{some_is}
@@ -74,18 +79,19 @@ place_of s f i x e = ap (λ (n : Node). n.place) (sym (stands_at s f i x e))
 
 -- ---- answers
 
-pub seen-good : (g : Outcome (Unit {0})) → Seen.Passed ≡ seen g → g ≡ ok tt
-seen-good (ok a) e = refl
-seen-good (fault n p) e = let z : ◌≡◌ {A = ℕ} 0 1 = cc in absurd (omega arith)
+-- what a refusal tells
+pub told : {A : Type 0} {r : Refusal} {f : Fault} {p : ℕ} → r ≡ refusal f p → ◌≡◌ {A = Outcome A} (fault (number r.fault) r.place) (fault (number f) p)
+told {A = A} e = ap {B = Outcome A} (λ (r : Refusal). fault (number r.fault) r.place) e
 
 module _ {A : Type 0} where
-  pub seen-fault : (g : Outcome A) (n p : ℕ) → Seen.Refused n p ≡ seen g → g ≡ fault n p
-  seen-fault (ok a) n p e = let z : ◌≡◌ {A = ℕ} 0 1 = cc in absurd (omega arith)
-  seen-fault (fault m q) n p e = cc
+  -- a reading that gave a fault, or passed
+  faulted : (g : Outcome A) (n p : ℕ) → fault n p ≡ mapped (λ a. tt {0}) g → g ≡ fault n p
+  faulted (ok a) n p e = let z : ◌≡◌ {A = ℕ} 0 1 = cc in absurd (omega arith)
+  faulted (fault m q) n p e = cc
 
--- a refusal promises nothing more
-pub told-fault : {r : Seen} {n p : ℕ} {g : Outcome (Unit {0})} {P : Type 0} → r ≡ Seen.Refused n p → g ≡ fault n p → (r ≡ seen g) × (r ≡ Seen.Passed → P)
-told-fault e q = (e ∙ ap seen (sym q), λ w. let z : ◌≡◌ {A = ℕ} 0 1 = cc in absurd (omega arith))
+  gave : (g : Outcome A) → ok tt ≡ mapped (λ a. tt {0}) g → (a : A) × (g ≡ ok a)
+  gave (ok a) e = (a, refl)
+  gave (fault n p) e = let z : ◌≡◌ {A = ℕ} 0 1 = cc in absurd (omega arith)
 
 -- ---- a function
 
@@ -125,6 +131,23 @@ module _ (early : List Function) (f : Function) where
 
   pub judged-loops : Checked early f → judge early f ≡ loop_free f
   judged-loops h = begun h.new ∙ (goes _ _ tt h.distinct ∙ (goes _ _ tt h.calls ∙ (goes _ _ tt h.outputs ∙ goes _ _ tt h.nodes)))
+
+-- whether its id was found among those before it
+module _ (s starts : List ℕ) (k at id : ℕ) (e : id ≡ u16 s at) where
+  pub is_new :
+      (r : Answer Found) → r ≡ function_found id (known s starts k) → false ≡ is_some r → find_function (function_at s at).id (known s starts k) ≡ none
+  unfolding function_at
+  is_new None q b = ap (λ (i : ℕ). find_function i (known s starts k)) (sym e) ∙ no-function s starts id k (sym q)
+  is_new (Some x) q b = let z : ◌≡◌ {A = ℕ} 0 1 = cc in absurd (omega arith)
+
+  pub was_there :
+      (r : Answer Found) → r ≡ function_found id (known s starts k) → true ≡ is_some r → judge (known s starts k) (function_at s at) ≡ fault 9 at
+  unfolding function_at
+  was_there None q b = let z : ◌≡◌ {A = ℕ} 0 1 = cc in absurd (omega arith)
+  was_there (Some x) q b =
+      let (l, p, f) = found-function s starts id k x.index x.place (sym q) in
+      judged-twice (known s starts k) (function_at s at) (function_at s x.place)
+      (ap (λ (i : ℕ). find_function i (known s starts k)) (sym e) ∙ f)
 
 -- ---- all is known but the loops
 
@@ -235,13 +258,9 @@ module _ (s : List ℕ) where
 -- ---- the verdict
 
 module _ (s : List ℕ) where
-  pub unread : (n p : ℕ) → Seen.Refused n p ≡ seen (parse (format_of s) s) → verdict s ≡ fault n p
+  pub unread : (n p : ℕ) → fault n p ≡ mapped (λ a. tt {0}) (parse (format_of s) s) → verdict s ≡ fault n p
   unfolding verdict table
-  unread n p e = stops _ _ n p (stops _ _ n p (seen-fault (parse (format_of s) s) n p e))
-
-  read_ok : (g : Outcome (List Function)) → Seen.Passed ≡ seen g → (fs : List Function) × (g ≡ ok fs)
-  read_ok (ok a) e = (a, refl)
-  read_ok (fault n p) e = let z : ◌≡◌ {A = ℕ} 0 1 = cc in absurd (omega arith)
+  unread n p e = stops _ _ n p (stops _ _ n p (faulted (parse (format_of s) s) n p e))
 
   -- a table that was read
   pub record Whole : Type 0 where
@@ -250,9 +269,9 @@ module _ (s : List ℕ) where
     pub short : length s < table_limit
     pub reads : ReadsFunctions (byte s 5) s (format_of s).header
 
-  pub whole : Bytes s → Seen.Passed ≡ seen (parse (format_of s) s) → Whole
+  pub whole : Bytes s → ok tt ≡ mapped (λ a. tt {0}) (parse (format_of s) s) → Whole
   whole small e =
-      let (fs, q) = read_ok (parse (format_of s) s) e in
+      let (fs, q) = gave (parse (format_of s) s) e in
       let (t1, e1) = passed _ _ _ _ _ q in
       let (t2, e2) = passed _ _ _ _ _ e1 in
       let (t3, e3) = passed _ _ _ _ _ e2 in
@@ -266,11 +285,11 @@ module _ (s : List ℕ) where
         reads = (p, functions-within (format_of s).node_limit node_limit (nodes-held s) s (byte s 5) (format_of s).header p ep);
       }
 
-  module _ (e : Seen.Passed ≡ seen (parse (format_of s) s)) where
+  module _ (e : ok tt ≡ mapped (λ a. tt {0}) (parse (format_of s) s)) where
     opened : table s ≡ (judge_all [] (functions_at (byte s 5) s (format_of s).header) >> ok (earlier (format_of s).header s (byte s 5)))
     unfolding table
     opened =
-        let (fs, q) = read_ok (parse (format_of s) s) e in
+        let (fs, q) = gave (parse (format_of s) s) e in
         takes (parse (format_of s) s) (λ gs. judge_all [] gs >> ok (reverse gs)) fs q
         ∙ (ap (λ (gs : List Function). judge_all [] gs >> ok (reverse gs)) (parse-read (format_of s) s fs q)
         ∙ ap (λ (gs : List Function). judge_all [] (functions_at (byte s 5) s (format_of s).header) >> ok gs) (earlier-all (format_of s).header s (byte s 5)))

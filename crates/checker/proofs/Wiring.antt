@@ -1,7 +1,7 @@
 -- 11 and 12: references one at a time.
 use Prim.Native.Nat.{ℕ, zero, suc, ◌+◌, ◌-◌, ◌<◌, ◌≤◌}
 use mathlib.Core.Path.{◌≡◌, refl, ap, sym, ◌∙◌}
-use mathlib.Core.Bool.{false}
+use mathlib.Core.Bool.{Bool, true, false, cond}
 use mathlib.Core.List.{List, [], ◌∷◌}
 use mathlib.Core.Option.{Option, none, some}
 use native.Mathlib.Omega.{arith}
@@ -10,9 +10,9 @@ use native.Mathlib.Numerals.{add-one}
 use lib.Dec.{eqb}
 use lib.ListN.{length, get_or, get_elem?, drop, get_or-replicate}
 use lib.Seq.{drop-cons}
-use borrow.Author.Tests.{eq-eqb, ne_eqb, eqb-true}
+use borrow.Author.Tests.{eq-eqb, ne_eqb, eqb-true, eqb-false}
 use Rattle.ports.specs.declared.Form.{Form}
-use Rattle.ports.specs.declared.Form.TheVariants.{References, Call}
+use Rattle.ports.specs.declared.Form.TheVariants.{Absent, Constant, References, Call}
 use Rattle.ports.specs.declared.Ports.{Ports}
 use Rattle.ports.specs.Ports.{ports_of, form_of, types, takes_row}
 use Rattle.ports.proofs.Laws.{length_types}
@@ -26,10 +26,11 @@ use Rattle.graph.specs.Types.{inputs_of, ref_type, wants_of, gives_of}
 use Rattle.base.proofs.Outcomes.{takes, stops, goes, halts, needed}
 use Rattle.base.proofs.Numbers.{one_less}
 use Rattle.reader.specs.Layout.{kind_at, payload_at, node_at, nodes_at, node_count, nodes_place, inputs_at, outputs_at, function_at}
-use Rattle.checker.specs.declared.PortType.{PortType}
-use Rattle.checker.specs.declared.Want.{Want}
-use Rattle.checker.specs.declared.Want.TheVariants.{Types, Inputs}
-use Rattle.checker.specs.Answers.{port_of, type_at, wants_list, outputs_checked, references_checked, node_checked}
+use Rattle.std.specs.Prelude.{Some, None}
+use Rattle.reader.proofs.Passed.{form-is}
+use Rattle.checker.specs.declared.types.Want.{Want}
+use Rattle.checker.specs.declared.types.Want.TheVariants.{Types, Inputs}
+use Rattle.checker.specs.Answers.{port_of, type_at, wanted, wants_list, WantFits, outputs_checked, references_checked, node_checked}
 use Rattle.checker.proofs.Calls.{inputs-length, call-some, call_none}
 
 -- ---- one reference
@@ -39,31 +40,28 @@ unfolding function_at
 nodes-of s f = refl
 
 module _ (s : List ℕ) (early : List Function) (f at : ℕ) where
-  pub input-typed : u16 s at ≡ 0 → type_at s early f at ≡ port_of (get_elem? (function_at s f).inputs (byte s (at + 2)))
-  input-typed e = rw (eq-eqb (u16 s at) 0 e)
-
   pub node-typed :
       (p : ℕ) → (u16 s at ≡ 0 → ⊥) → find_node (u16 s at) (function_at s f).nodes ≡ some (node_at s p)
       → type_at s early f at ≡ port_of (get_elem? (gives_of early (node_at s p) (node_at s p).payload) (byte s (at + 2)))
   node-typed p d e = rw (ne_eqb (u16 s at) 0 d, e)
 
-  pub none-typed : (u16 s at ≡ 0 → ⊥) → find_node (u16 s at) (function_at s f).nodes ≡ none → type_at s early f at ≡ PortType.Nothing
+  pub none-typed : (u16 s at ≡ 0 → ⊥) → find_node (u16 s at) (function_at s f).nodes ≡ none → type_at s early f at ≡ None
   none-typed d e = rw (ne_eqb (u16 s at) 0 d, e)
 
   -- ---- what the answer tells of 11 and 12
 
-  nothing_is : (o : Option ℕ) → port_of o ≡ PortType.Nothing → o ≡ none
+  nothing_is : (o : Option ℕ) → port_of o ≡ None → o ≡ none
   nothing_is none e = refl
   nothing_is (some t) e = let z : ◌≡◌ {A = ℕ} 0 1 = cc in absurd (omega arith)
 
-  some_is : (o : Option ℕ) (t : ℕ) → port_of o ≡ PortType.Is t → o ≡ some t
+  some_is : (o : Option ℕ) (t : ℕ) → port_of o ≡ Some t → o ≡ some t
   some_is none t e = let z : ◌≡◌ {A = ℕ} 0 1 = cc in absurd (omega arith)
   some_is (some u) t e = cc
 
-  pub lost : (w : ℕ) → type_at s early f at ≡ PortType.Nothing → ref_ok early (function_at s f) w (reference s at) ≡ fault 11 at
+  pub lost : (w : ℕ) → type_at s early f at ≡ None → ref_ok early (function_at s f) w (reference s at) ≡ fault 11 at
   lost w e = rw (nothing_is (ref_type early (function_at s f) (reference s at)) e)
 
-  module _ (t : ℕ) (e : type_at s early f at ≡ PortType.Is t) where
+  module _ (t : ℕ) (e : type_at s early f at ≡ Some t) where
     type-is : ref_type early (function_at s f) (reference s at) ≡ some t
     type-is = some_is (ref_type early (function_at s f) (reference s at)) t e
 
@@ -115,6 +113,20 @@ input-type (suc n) s at (suc j) h =
     let e : at + 1 + j ≡ at + suc j = omega arith in
     input-type n s (at + 1) j (omega arith) ∙ ap (byte s) e
 
+-- the j-th of n
+module _ (s : List ℕ) (n j : ℕ) (h : j < n) where
+  of-types : (a b : ℕ) (q : Bool) → eqb j 0 ≡ q → cond q a b ≡ get_or (types n a b) j 0
+  of-types a b true e = let z = eqb-true j 0 e in rw z (sym (first-type n a b (omega arith)))
+  of-types a b false e = sym (other-type n a b j h (eqb-false j 0 e))
+
+  pub wanted-is : (w : Want) → wanted s w j ≡ get_or (wants_list s n w) j 0
+  wanted-is (Types a b) = of-types a b (eqb j 0) refl
+  wanted-is (Inputs p) = sym (input-type n s (p + 6) j h)
+
+pub wants_fit : (s : List ℕ) (n m : ℕ) → m ≤ n → (w : Want) → WantFits s n w → WantFits s m w
+wants_fit s n m l (Types a b) h = tt
+wants_fit s n m l (Inputs p) h = omega arith
+
 -- ---- several references
 
 no-references : (s : List ℕ) (early : List Function) (f : ℕ) (ws : List ℕ) → references_checked s early f ws [] ≡ ok tt
@@ -165,10 +177,19 @@ module _ (s : List ℕ) (early : List Function) (f at : ℕ) where
       e
 
   -- a node that reads nothing
-  pub bare-node : (h : Form) → form_of (kind_at s at) ≡ h → reads_of (payload_at h (kind_at s at) s (at + 4)) ≡ [] → node_checked s early f (node_at s at) ≡ ok tt
+  bare-node : (h : Form) → form_of (kind_at s at) ≡ h → reads_of (payload_at h (kind_at s at) s (at + 4)) ≡ [] → node_checked s early f (node_at s at) ≡ ok tt
   bare-node h e q =
       let ws = wants_of early (node_at s at) (payload_at h (kind_at s at) s (at + 4)) in
       by_form h e ∙ ap (references_checked s early f ws) q ∙ no-references s early f ws
+
+  bare : (h : Form) → (h ≡ References → ⊥) → (h ≡ Call → ⊥) → reads_of (payload_at h (kind_at s at) s (at + 4)) ≡ []
+  bare Absent a b = refl
+  bare Constant a b = refl
+  bare References a b = absurd (a refl)
+  bare Call a b = absurd (b refl)
+
+  pub bare-row : (row : Ports) → row ≡ ports_of (kind_at s at) → (row.form ≡ References → ⊥) → (row.form ≡ Call → ⊥) → node_checked s early f (node_at s at) ≡ ok tt
+  bare-row row q a b = bare-node row.form (form-is s at row q row.form refl) (bare row.form a b)
 
   pub references-node :
       (row : Ports) → row ≡ ports_of (kind_at s at) → form_of (kind_at s at) ≡ References

@@ -1,9 +1,10 @@
 -- Where the checks of a function stand, and what the arrays hold that they read.
-use Rattle.std.specs.Prelude.{ℕ, ◌+◌, ◌*◌, ◌≤◌, ◌<◌, ◌≡◌, List, length}
-use Rattle.std.proofs.Math.Option.{some}
+use Rattle.std.specs.Prelude.{ℕ, ◌+◌, ◌*◌, ◌≤◌, ◌<◌, ◌≡◌, List, length, Some, None}
+use Rattle.std.specs.Prelude.{Option as Answer}
+use Rattle.std.proofs.Math.Option.{none, some}
 use Rattle.std.proofs.Math.ListN.{get_elem?}
-use Rattle.graph.specs.Graph.{Node}
-use Rattle.graph.specs.Look.{find_node, reads}
+use Rattle.graph.specs.Graph.{Node, Function}
+use Rattle.graph.specs.Look.{find_node, find_function, reads}
 use Rattle.graph.specs.Read.{reference}
 use Rattle.base.specs.Lists.{Is}
 use Rattle.order.specs.Indices.{slot}
@@ -11,16 +12,21 @@ use Rattle.order.specs.Resolve.{target, Resolves}
 use Rattle.resolver.specs.Slots.{PlacesAre}
 use Rattle.reader.specs.Layout.{node_at, node_place, node_count, nodes_place, function_at}
 use Rattle.reader.specs.Find.{ReadsFunction, ReadsStarts}
-use Rattle.checker.specs.declared.Head.{Head}
+use Rattle.checker.specs.declared.scene.Head.{Head}
 use Rattle.base.specs.Limits.{function_limit, node_limit, operand_limit, slot_limit}
 
 -- the function f is judged after those at the first k places of `starts`
-pub record Scene (s starts : List ℕ) (k : ℕ) (f : Head) : Type 0 where
+pub record SceneHeld (s starts : List ℕ) (k : ℕ) (f : Head) : Type 0 where
   pub started : ReadsStarts s starts k
   pub few : k ≤ function_limit
   pub reads : ReadsFunction s f.place
   pub first : f.first ≡ nodes_place s f.place
   pub count : f.count ≡ node_count s f.place
+
+-- the place of the function of an id among some, or that there is none
+abbrev pub CalleeIs : List ℕ → List Function → ℕ → Answer ℕ → Type 0
+CalleeIs s early id None = find_function id early ≡ none
+CalleeIs s early id (Some p) = ReadsFunction s p × (find_function id early ≡ some (function_at s p))
 
 -- ---- the places and the slots of its nodes
 

@@ -1,100 +1,64 @@
-// 9 and 10: ids are single, and a call names an earlier function with its count of arguments.
-ghost use Rattle.std.specs.Prelude.{◌≡◌, ◌+◌, ◌<◌, ◌≤◌, []};
-ghost use Rattle.base.specs.Limits.{function_limit, node_limit};
-ghost use Rattle.base.specs.Outcome.{need, each};
+// Ids are single, and a call names an earlier function with its count of arguments.
+ghost use Rattle.std.specs.Prelude.{◌≡◌, []};
+ghost use Rattle.base.specs.Outcome.{need};
+ghost use Rattle.base.specs.Refusals.{outcome};
 ghost use Rattle.graph.specs.Judge.{fresh, call_ok};
-ghost use Rattle.reader.specs.Layout.{node_at, nodes_at, known};
-ghost use Rattle.reader.specs.Find.{ReadsNode, ReadsNodes, ReadsStarts};
-ghost use Rattle.reader.specs.Records.{seen};
-ghost use Rattle.reader.specs.declared.Seen.{Seen};
-ghost use Rattle.checker.specs.Answers.{hit};
-ghost use Rattle.checker.specs.Slots.{PlacesHeld};
+ghost use Rattle.reader.specs.Layout.{node_at};
+ghost use Rattle.reader.specs.Find.{ReadsNode};
+ghost use Rattle.checker.specs.Answers.{calls_checked};
+ghost use Rattle.checker.specs.Scenes.{early, judged};
 
-use super::Head;
-use base::{FUNCTION_LIMIT, NODE_LIMIT, u16_at, wide, wide32};
-use ports::Form;
-use reader::{Found, Seen};
+use super::scene::Scene;
+use base::{Fault, NODE_LIMIT, Refusal, u16_at};
 
-// ---- 9
+// ---- ids
 
-// Whether one of the first j ids is this one.
-fn id_before(ids: &[u16; NODE_LIMIT], j: usize, id: u16) -> bool
-    requires { j ≤ node_limit }
-    ensures { result ≡ hit ids.now j id }
-{
-    let mut met = false;
-    let mut i = 0;
-    while i < j {
-        if ids[i] == id {
-            met = true;
+impl Scene<'_> {
+    // No node has the id of an earlier one.
+    pub fn fresh_nodes(&self) -> Result<(), Refusal>
+        ensures { outcome result ≡ fresh [] (judged self.now).nodes }
+    {
+        let mut ids = [0u16; NODE_LIMIT];
+        for j in 0..self.head.count {
+            let at = self.node(j);
+            let id = u16_at(self.s, at) as u16;
+            if ids[..j].contains(&id) {
+                return Err(Fault::Repeated.at(at));
+            }
+            ids[j] = id;
         }
-        i += 1;
+        Ok(())
     }
-    met
 }
 
-// No node has the id of an earlier one.
-pub fn fresh_nodes(s: &[u8], f: Head, places: &[u32; NODE_LIMIT]) -> Seen
-    requires { ReadsNodes f.count s.now f.first × (f.count ≤ node_limit) × PlacesHeld s.now f places.now }
-    ensures { result ≡ seen (fresh [] (nodes_at f.count s.now f.first)) }
-{
-    let mut ids = [0u16; NODE_LIMIT];
-    let mut j = 0;
-    while j < f.count {
-        let at = wide32(places[j]);
-        let id = u16_at(s, at) as u16;
-        if id_before(&ids, j, id) {
-            return Seen::Refused(9, at);
+// ---- calls
+
+impl Scene<'_> {
+    // The node at `at` is no call, or a call of an earlier function with its count of arguments.
+    fn call_good(&self, at: usize) -> bool
+        requires { ReadsNode self.now.s.now at }
+        ensures { call_ok (early self.now) at (node_at self.now.s.now at).payload ≡ need result 10 at }
+    {
+        let form = ports::ports_of(self.s[at + 2]).form;
+        if !form.is_call() {
+            return true;
         }
-        ids[j] = id;
-        j += 1;
+        let Some(place) = self.earlier(reader::callee_at(self.s, at)) else {
+            return false;
+        };
+        reader::arguments_at(self.s, at).count == usize::from(self.s[place + 2])
     }
-    Seen::Passed
-}
 
-// ---- 10
-
-// The node at `at` is no call, or a call of one of the first k functions with its count of arguments.
-fn call_good(s: &[u8], at: usize, starts: &[usize; FUNCTION_LIMIT], k: usize) -> bool
-    requires { ReadsNode s.now at × ReadsStarts s.now starts.now k × (k ≤ function_limit) }
-    ensures { call_ok (known s.now starts.now k) at (node_at s.now at).payload ≡ need result 10 at }
-{
-    let row = ports::ports_of(s[at + 2]);
-    let form = row.form;
-    match form {
-        Form::Absent => true,
-        Form::Constant => true,
-        Form::References => true,
-        Form::Call => {
-            let found = reader::find_function(s, starts, k, reader::callee_at(s, at));
-            let arguments = reader::arguments_at(s, at);
-            match found {
-                Found::At(_, p) => arguments.count == wide(s[p + 2]),
-                Found::Nothing => false,
+    // Each call is good.
+    pub fn calls_good(&self) -> Result<(), Refusal>
+        ensures { outcome result ≡ calls_checked (early self.now) (judged self.now) }
+    {
+        for j in 0..self.head.count {
+            let at = self.node(j);
+            if !self.call_good(at) {
+                return Err(Fault::Callee.at(at));
             }
         }
+        Ok(())
     }
-}
-
-// Each call is good.
-pub fn calls_good(
-    s: &[u8],
-    starts: &[usize; FUNCTION_LIMIT],
-    k: usize,
-    f: Head,
-    places: &[u32; NODE_LIMIT],
-) -> Seen
-    requires { ReadsNodes f.count s.now f.first × (f.count ≤ node_limit) × PlacesHeld s.now f places.now × ReadsStarts s.now starts.now k × (k ≤ function_limit) }
-    ensures { result ≡ seen (each (λ n. call_ok (known s.now starts.now k) n.place n.payload) (nodes_at f.count s.now f.first)) }
-{
-    let mut j = 0;
-    while j < f.count {
-        let at = wide32(places[j]);
-        if call_good(s, at, starts, k) {
-            j += 1;
-        } else {
-            return Seen::Refused(10, at);
-        }
-    }
-    Seen::Passed
 }

@@ -463,14 +463,15 @@ module _ {ver : Version} {s : List ℕ} {k c : ℕ} {acc : Accepted s (suc k)} {
               (el ∙ ap (λ (q : ℕ). sets allocated (8 * q) (node_codes s outs locations' k p here d)) b) ed refl,
         )
 
-    pub finished : State ver s k c acc outs ts places index order₀ locations₀ order locations allocated here d m → node_count s (place_of s k) ≤ m → NodesAllocated ver s k c order₀ order locations₀ locations allocated here
-    finished (x ∷ xs, left, located, st) ge = let a = st.count in absurd (omega arith)
-    finished ([], left, located, st) ge =
+    pub finished : {begins₀ begins ins₀ ins : List ℕ} → State ver s k c acc outs ts places index order₀ locations₀ order locations allocated here d m → node_count s (place_of s k) ≤ m → begins ≡ begins₀
+        → NodesAllocated ver s k c (record { outs = outs; order = order₀; locations = locations₀; begins = begins₀; ins = ins₀ }) (record { outs = outs; order = order; locations = locations; begins = begins; ins = ins }) allocated here
+    finished (x ∷ xs, left, located, st) ge eb = let a = st.count in absurd (omega arith)
+    finished ([], left, located, st) ge eb =
         record {
           placed = st.placed order locations (λ q l. refl) (λ q l. refl) tt;
           known = subst (λ (b : Allocation). PortsKnown (function_in s k).nodes allocated b.located) (sym st.final) st.known;
           end = let a = st.unread in omega arith;
-          sizes = (st.sizes.0, st.sizes.1);
+          same = (refl, eb);
           old-order = st.old-order;
           old-locations = st.old-locations;
         }

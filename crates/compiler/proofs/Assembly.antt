@@ -32,6 +32,7 @@ use Rattle.sums.proofs.Widths.{outputs-are}
 use Rattle.compiler.specs.declared.Pass.{Pass}
 use Rattle.compiler.specs.declared.Pass.TheVariants.{Survey, Sequential, Addressed}
 use Rattle.compiler.specs.declared.Reached.{Reached}
+use Rattle.compiler.specs.declared.Layout.{Layout}
 use Rattle.compiler.specs.Static.{Location, nowhere, input, offset, address_at, summary}
 use Rattle.compiler.specs.Units.{units_at, unit_bound}
 use Rattle.compiler.specs.Emit.{Stands, addresses_in, address_of, naming_of, function_inlined, bytes_by, notes_by, CodeRoom, Walks, summary_at}
@@ -107,7 +108,13 @@ inputs-counted s k = types-length (input_count s (place_of s k)) s (place_of s k
 -- ---- the whole
 
 module _ (pass : Pass) {s : List ℕ} {k : ℕ} (acc : Accepted s (suc k)) {count inputs outputs : ℕ} (ms : Measured (naming_of pass) s k count inputs outputs)
-    {outs order locations begins ins : List ℕ} (pr : Prepared (naming_of pass) s k outs order locations begins ins) where
+    {lay : Layout} (pr : Prepared (naming_of pass) s k lay) where
+  abbrev outs : List ℕ
+  outs = lay.outs
+
+  abbrev ins : List ℕ
+  ins = lay.ins
+
   abbrev ver : Version
   ver = naming_of pass
 
@@ -226,10 +233,10 @@ module _ (pass : Pass) {s : List ℕ} {k : ℕ} (acc : Accepted s (suc k)) {coun
         (map_same (relocate_by pass place₂) (relocate_by pass place)
         (λ a. ap (λ (ps : List ℕ). relocate_by pass ps a) e₂.noted ∙ relocate-steady pass m place (function_inlined ver s k ins first).code a) list.ports)
 
-    pub assembled : {code₃ : List ℕ} → code₃ ≡ sets code₂ r.at (all_bytes 2 (spans (types_by 4 n s q) (map (relocate_by pass place₂) (addresses_in outs ins first (8 * k) n))))
+    pub assembled : {xs : List ℕ} {c : ℕ} {code₃ : List ℕ} → xs ≡ addresses_in outs ins first (8 * k) n → c ≡ n → code₃ ≡ sets code₂ r.at (all_bytes 2 (spans (types_by 4 c s q) (map (relocate_by pass place₂) xs)))
         → code₃ ≡ sets code 0 (text_of pass place s k words)
     unfolding text_of
-    assembled e₃ =
+    assembled {xs} ex en e₃ =
         let h = header_code (number ver) (widths f.inputs) (widths (output_types f.outputs)) (length list.code) words in
         let i = bytes_by pass place list.code in
         let o = all_bytes 2 (outputs_by pass place s k) in
@@ -240,6 +247,8 @@ module _ (pass : Pass) {s : List ℕ} {k : ℕ} (acc : Accepted s (suc k)) {coun
         let ec : code₁ ≡ sets code 0 h = e₁ ∙ ap (sets code 0) eh in
         let ed : code₂ ≡ sets code₁ 12 i = e₂.written ∙ ap (λ (x : Inlined). sets code₁ 12 (bytes_by pass place x.code)) inlined-is in
         e₃
+        ∙ ap (λ (m : ℕ). sets code₂ r.at (all_bytes 2 (spans (types_by 4 m s q) (map (relocate_by pass place₂) xs)))) en
+        ∙ ap (λ (ys : List ℕ). sets code₂ r.at (all_bytes 2 (spans (types_by 4 n s q) (map (relocate_by pass place₂) ys)))) ex
         ∙ ap (λ (ws : List ℕ). sets code₂ r.at (all_bytes 2 ws)) spans-are
         ∙ ap (λ (m : ℕ). sets code₂ m o) end_is
         ∙ ap (λ (l : List ℕ). sets l (12 + length i) o) ed
@@ -248,6 +257,6 @@ module _ (pass : Pass) {s : List ℕ} {k : ℕ} (acc : Accepted s (suc k)) {coun
         ∙ sym (sets-append h (i ++ o) code 0)
 
 -- a survey asks for no room
-pub survey-room : {s : List ℕ} {k : ℕ} → Accepted s (suc k) → {count inputs outputs : ℕ} → Measured V2 s k count inputs outputs → {outs order locations begins ins : List ℕ}
-    → Prepared V2 s k outs order locations begins ins → {code place : List ℕ} → CodeRoom Survey code place 0 (first_by V2 (function_in s k).inputs) (function_inlined V2 s k ins (first_by V2 (function_in s k).inputs))
+pub survey-room : {s : List ℕ} {k : ℕ} → Accepted s (suc k) → {count inputs outputs : ℕ} → Measured V2 s k count inputs outputs → {lay : Layout}
+    → Prepared V2 s k lay → {code place : List ℕ} → CodeRoom Survey code place 0 (first_by V2 (function_in s k).inputs) (function_inlined V2 s k lay.ins (first_by V2 (function_in s k).inputs))
 survey-room acc ms pr = room_for Survey acc ms pr (omega arith)

@@ -157,7 +157,7 @@ module _ (pass : Pass) (s order locations : List ℕ) (k : ℕ) (ins : List ℕ)
   pub words-fit : CodeRoom pass code₀ place₀ at next₀ whole → (next₀ ≤ unit_bound) × ((summary_at ver s k).words ≤ unit_limit ver)
   words-fit h = let w = whole_words in let l = h.end in let o = h.own in let b = end-bound ver in (omega arith, omega arith)
 
-  pub start : {begins : List ℕ} {cell n : ℕ} → CodeRoom pass code₀ place₀ at next₀ whole → Allocated ver s begins order locations k → cell ≡ get_or begins k 0 → n ≡ node_count s (place_of s k)
+  pub start : {outs begins ins₀ : List ℕ} {cell n : ℕ} → CodeRoom pass code₀ place₀ at next₀ whole → Allocated ver s (record { outs = outs; order = order; locations = locations; begins = begins; ins = ins₀ }) k → cell ≡ get_or begins k 0 → n ≡ node_count s (place_of s k)
       → State code₀ place₀ wide₀ cell at next₀ 0 n
   unfolding function_inlined
   start room l es en =

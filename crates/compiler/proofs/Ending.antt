@@ -3,7 +3,7 @@ use Prim.Native.Nat.{ℕ, zero, suc, ◌+◌, ◌-◌, ◌*◌, ◌/◌, ◌%◌
 use mathlib.Core.Path.{◌≡◌, refl, sym, ap, ◌∙◌}
 use mathlib.Core.List.{List, [], ◌∷◌, ◌++◌, map, append_assoc}
 use native.Mathlib.Omega.{arith}
-use lib.ListN.{length, get_or, set}
+use lib.ListN.{length, get_or, set, drop}
 use lib.Seq.{sets}
 use Rattle.ports.specs.Ports.{width, widths}
 use Rattle.base.specs.Limits.{address_limit}
@@ -11,11 +11,10 @@ use Rattle.base.specs.Lists.{span}
 use Rattle.base.specs.Bytes.{byte, bytes_of, all_bytes}
 use Rattle.bytecode.specs.Run.{spans}
 use Rattle.bytecode.specs.Code.{header_code}
-use Rattle.compiler.specs.Emit.{address_of, addresses_in}
 use Rattle.sums.specs.Answers.{types_by}
 use Rattle.base.proofs.Stands.{cons}
 use Rattle.base.proofs.Stores.{sets-append, Run, run-start, run_more, run-done, none_left}
-use Rattle.compiler.proofs.Filling.{types-next, addresses-next}
+use Rattle.compiler.proofs.Filling.{types-next, map-next}
 
 -- ---- the header
 
@@ -45,46 +44,47 @@ address-bytes x =
     let e : x / 256 ≡ 256 * (x / address_limit) + x % address_limit / 256 = omega arith in
     cons (omega arith) (cons (byte-beyond (x / address_limit) (x % address_limit / 256) (x / 256) e) refl)
 
--- g of each address is written
-module _ (s outs ins : List ℕ) (g : ℕ → ℕ) (first b n entries : ℕ) (code₀ : List ℕ) (at : ℕ) where
-  abbrev left : ℕ → ℕ → List ℕ
-  left j q = spans (types_by 4 (n - j) s q) (map g (addresses_in outs ins first (b + j) (n - j)))
+-- g of each address is written, where f gives the address of a location
+module _ (s : List ℕ) (f g : ℕ → ℕ) (xs : List ℕ) (entries : ℕ) (code₀ : List ℕ) (at : ℕ) where
+  abbrev types : ℕ → List ℕ
+  types j = types_by 4 (length xs - j) s (entries + 4 * j)
 
-  -- j of the n outputs are written, and those at q come next
-  pub record Outgoing (code : List ℕ) (q here j : ℕ) : Type 0 where
-    pub index : j ≤ n
-    pub place : q ≡ entries + 4 * j
-    pub end : here + 2 * widths (types_by 4 (n - j) s q) ≡ at + 2 * widths (types_by 4 n s entries)
-    pub run : Run (all_bytes 2 (spans (types_by 4 n s entries) (map g (addresses_in outs ins first b n)))) code₀ at code here (all_bytes 2 (left j q))
+  -- the first j outputs are written
+  pub record Outgoing (code : List ℕ) (here j : ℕ) : Type 0 where
+    pub end : here + 2 * widths (types j) ≡ at + 2 * widths (types_by 4 (length xs) s entries)
+    pub run : Run (all_bytes 2 (spans (types_by 4 (length xs) s entries) (map g (map f xs)))) code₀ at code here (all_bytes 2 (spans (types j) (map g (map f (drop j xs)))))
 
-  pub out-start : Outgoing code₀ entries at 0
+  pub out-start : Outgoing code₀ at 0
   out-start =
-      let z : n - 0 ≡ n = omega arith in
-      let y : b + 0 ≡ b = omega arith in
-      record { index = omega arith; place = omega arith; end = rw z refl; run = run-start refl (rw (z, y)) }
+      let z : length xs - 0 ≡ length xs = omega arith in
+      let y : entries + 0 ≡ entries = omega arith in
+      record { end = rw (z, y) refl; run = run-start refl (rw (z, y)) }
 
-module _ {s outs ins : List ℕ} {g : ℕ → ℕ} {first b n entries : ℕ} {code₀ : List ℕ} {at : ℕ} {code : List ℕ} {q here j : ℕ} (h : Outgoing s outs ins g first b n entries code₀ at code q here j) where
+module _ {s : List ℕ} {f g : ℕ → ℕ} {xs : List ℕ} {entries : ℕ} {code₀ : List ℕ} {at : ℕ} {code : List ℕ} {here j : ℕ} (h : Outgoing s f g xs entries code₀ at code here j) where
+  types-step : j < length xs → types_by 4 (length xs - j) s (entries + 4 * j) ≡ byte s (entries + 4 * j) ∷ types_by 4 (length xs - (j + 1)) s (entries + 4 * (j + 1))
+  types-step lt =
+      let z : entries + 4 * j + 4 ≡ entries + 4 * (j + 1) = omega arith in
+      types-next 4 s (entries + 4 * j) lt ∙ ap (λ (q : ℕ). byte s (entries + 4 * j) ∷ types_by 4 (length xs - (j + 1)) s q) z
+
   -- the words of the output at hand
-  pub out-room : j < n → {w : ℕ} → w ≡ width (byte s q) → here + 2 * w ≤ at + 2 * widths (types_by 4 n s entries)
-  out-room lt ew = let e = ap widths (types-next 4 s q lt) in let d = h.end in omega arith
+  pub out-room : j < length xs → {w : ℕ} → w ≡ width (byte s (entries + 4 * j)) → here + 2 * w ≤ at + 2 * widths (types_by 4 (length xs) s entries)
+  out-room lt ew = let e = ap widths (types-step lt) in let d = h.end in omega arith
 
-  pub out_step : j < n → {w : ℕ} → w ≡ width (byte s q) → {a : ℕ} → a ≡ g (address_of ins first (get_or outs (b + j) 0)) → {code' : List ℕ} → code' ≡ sets code here (all_bytes 2 (span a w))
-      → Outgoing s outs ins g first b n entries code₀ at code' (q + 4) (here + 2 * w) (j + 1)
+  pub out_step : j < length xs → {w : ℕ} → w ≡ width (byte s (entries + 4 * j)) → {a : ℕ} → a ≡ g (f (get_or xs j 0)) → {code' : List ℕ} → code' ≡ sets code here (all_bytes 2 (span a w))
+      → Outgoing s f g xs entries code₀ at code' (here + 2 * w) (j + 1)
   out_step lt {w} ew {a} ea {code'} ec =
-      let later = map g (addresses_in outs ins first (b + (j + 1)) (n - (j + 1))) in
-      let rest = spans (types_by 4 (n - (j + 1)) s (q + 4)) later in
-      let now : map g (addresses_in outs ins first (b + j) (n - j)) ≡ a ∷ later =
-      ap (map g) (addresses-next outs ins first b lt refl) ∙ ap (λ (x : ℕ). x ∷ later) (sym ea) in
-      let next : spans (types_by 4 (n - j) s q) (map g (addresses_in outs ins first (b + j) (n - j))) ≡ span a w ++ rest =
-      ap (λ (ts : List ℕ). spans ts (map g (addresses_in outs ins first (b + j) (n - j)))) (types-next 4 s q lt)
-      ∙ ap (spans (byte s q ∷ types_by 4 (n - (j + 1)) s (q + 4))) now
+      let later = map g (map f (drop (j + 1) xs)) in
+      let rest = spans (types_by 4 (length xs - (j + 1)) s (entries + 4 * (j + 1))) later in
+      let now : map g (map f (drop j xs)) ≡ a ∷ later =
+      ap (map g) (map-next f xs lt refl) ∙ ap (λ (x : ℕ). x ∷ later) (sym ea) in
+      let next : spans (types_by 4 (length xs - j) s (entries + 4 * j)) (map g (map f (drop j xs))) ≡ span a w ++ rest =
+      ap (λ (ts : List ℕ). spans ts (map g (map f (drop j xs)))) (types-step lt)
+      ∙ ap (spans (byte s (entries + 4 * j) ∷ types_by 4 (length xs - (j + 1)) s (entries + 4 * (j + 1)))) now
       ∙ ap (λ (x : ℕ). span a x ++ rest) (sym ew) in
       record {
-        index = omega arith;
-        place = let m = h.place in omega arith;
-        end = let e = ap widths (types-next 4 s q lt) in let d = h.end in omega arith;
+        end = let e = ap widths (types-step lt) in let d = h.end in omega arith;
         run = run_more h.run (all_bytes 2 (span a w)) (ap (all_bytes 2) next ∙ bytes-append (span a w) rest) ec (ap (λ (x : ℕ). here + x) (sym (span-bytes a w)));
       }
 
-  pub out-done : n ≤ j → code ≡ sets code₀ at (all_bytes 2 (spans (types_by 4 n s entries) (map g (addresses_in outs ins first b n))))
-  out-done le = run-done h.run (ap (λ (ts : List ℕ). all_bytes 2 (spans ts (map g (addresses_in outs ins first (b + j) (n - j))))) (none_left (λ m. types_by 4 m s q) le refl))
+  pub out-done : length xs ≤ j → code ≡ sets code₀ at (all_bytes 2 (spans (types_by 4 (length xs) s entries) (map g (map f xs))))
+  out-done le = run-done h.run (ap (λ (ts : List ℕ). all_bytes 2 (spans ts (map g (map f (drop j xs))))) (none_left (λ m. types_by 4 m s (entries + 4 * j)) le refl))

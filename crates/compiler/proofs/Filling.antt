@@ -1,12 +1,13 @@
 -- The loops that fill the layout's arrays, in plain terms.
-use Prim.Native.Nat.{ℕ, suc, ◌+◌, ◌-◌, ◌*◌, ◌/◌, ◌%◌, ◌≤◌, ◌<◌}
+use Prim.Native.Nat.{ℕ, zero, suc, ◌+◌, ◌-◌, ◌*◌, ◌/◌, ◌%◌, ◌≤◌, ◌<◌}
 use mathlib.Core.Path.{◌≡◌, refl, sym, ap, ◌∙◌, subst}
 use mathlib.Core.Bool.{Bool, true, false, cond}
 use mathlib.Core.List.{List, [], ◌∷◌, map}
 use mathlib.Core.Option.{some}
 use native.Mathlib.Omega.{arith}
 use lib.Dec.{eqb}
-use lib.ListN.{length, get_or, set, replicate, length-set, length-replicate, get_or-eq_default}
+use lib.ListN.{length, get_or, set, replicate, take, drop, length-set, length-replicate, get_or-eq_default}
+use Rattle.std.proofs.lemmas.List.{drop_more, drop_all, length-take, length-drop}
 use lib.Seq.{sets}
 use Rattle.base.specs.Limits.{node_limit, slot_limit, no_node}
 use Rattle.base.proofs.Numbers.{one_less}
@@ -15,9 +16,9 @@ use Rattle.base.specs.Lists.{span}
 use Rattle.graph.specs.Graph.{Node}
 use Rattle.graph.specs.Read.{reference}
 use Rattle.reader.specs.Layout.{nodes_at}
-use Rattle.reader.specs.Find.{node_found}
+use Rattle.std.specs.Prelude.{Option, Some, None}
+use Rattle.reader.specs.Find.{node_found, found_at}
 use Rattle.reader.specs.declared.Found.{Found}
-use Rattle.reader.specs.declared.Found.TheVariants.{At, Nothing}
 use Rattle.order.specs.Indices.{slot}
 use Rattle.order.specs.Resolve.{index_from, index_of, target}
 use Rattle.sums.specs.Answers.{types_by}
@@ -30,19 +31,22 @@ use Rattle.resolver.proofs.Rows.{length-nodes, place_at, row-slot, rows-size}
 
 -- ---- what is stored next, where j of n elements are stored
 
-pub addresses-next : (locations ins : List ℕ) (first b : ℕ) {n j a : ℕ} → j < n → a ≡ address_of ins first (get_or locations (b + j) 0)
-    → addresses_in locations ins first (b + j) (n - j) ≡ a ∷ addresses_in locations ins first (b + (j + 1)) (n - (j + 1))
-unfolding addresses_in
-addresses-next locations ins first b {n} {j} h e =
-    let z : b + (j + 1) ≡ b + j + 1 = omega arith in
-    rw (z, e) (ap (λ (m : ℕ). addresses_in locations ins first (b + j) m) (one_less n j h))
+-- over a list, from its j-th element on
+pub map-next : (f : ℕ → ℕ) (xs : List ℕ) {j a : ℕ} → j < length xs → a ≡ f (get_or xs j 0) → map f (drop j xs) ≡ a ∷ map f (drop (j + 1) xs)
+map-next f xs {j} h e = ap (map f) (drop_more xs j 0 h) ∙ ap (λ (y : ℕ). y ∷ map f (drop (j + 1) xs)) (sym e)
 
--- by their places
-pub places-next : (place locations ins : List ℕ) (first b : ℕ) {n j a w x : ℕ} → j < n → a ≡ address_of ins first (get_or locations (b + j) 0) → w ≡ a → x ≡ relocate place w
-    → map (relocate place) (addresses_in locations ins first (b + j) (n - j)) ≡ x ∷ map (relocate place) (addresses_in locations ins first (b + (j + 1)) (n - (j + 1)))
-places-next place locations ins first b {n} {j} h e ew ex =
-    let tail = map (relocate place) (addresses_in locations ins first (b + (j + 1)) (n - (j + 1))) in
-    ap (map (relocate place)) (addresses-next locations ins first b h e) ∙ ap (λ (y : ℕ). y ∷ tail) (sym (ex ∙ ap (relocate place) ew))
+pub map-none : (f : ℕ → ℕ) (xs : List ℕ) {j : ℕ} → length xs ≤ j → map f (drop j xs) ≡ []
+map-none f xs {j} h = ap (map f) (drop_all j xs h)
+
+-- the locations from c on, as a part of them
+pub addresses-part : (xs ins : List ℕ) (first n c : ℕ) → c + n ≤ length xs → {k : ℕ} → k ≡ n → addresses_in xs ins first c n ≡ map (address_of ins first) (take k (drop c xs))
+unfolding addresses_in
+addresses-part xs ins first zero c l {k} e = rw e refl
+addresses-part xs ins first (suc n) c l {k} e =
+    rw (e, drop_more xs c 0 (omega arith)) (ap (λ (ys : List ℕ). address_of ins first (get_or xs c 0) ∷ ys) (addresses-part xs ins first n (c + 1) (omega arith) refl))
+
+pub part-length : (xs : List ℕ) (n c : ℕ) → c + n ≤ length xs → {k : ℕ} → k ≡ n → length (take k (drop c xs)) ≡ n
+part-length xs n c l {k} e = grind (arith, length-take, length-drop)
 
 pub span-next : (a : ℕ) {n j : ℕ} → j < n → span (a + j) (n - j) ≡ (a + j) ∷ span (a + (j + 1)) (n - (j + 1))
 span-next a {n} {j} h = let z : a + (j + 1) ≡ suc (a + j) = omega arith in rw z (ap (span (a + j)) (one_less n j h))
@@ -101,26 +105,26 @@ module _ {place₀ : List ℕ} {x : ℕ} {names place left : List ℕ} (h : Noti
 -- ---- the index of an id
 
 -- what the search gives is the index v, which is below m, or none
-abbrev Indexed : ℕ → ℕ → Found → Type 0
-Indexed v m (At j p) = (j ≡ v) × (v < m)
-Indexed v m Nothing = v ≡ no_node
+abbrev Indexed : ℕ → ℕ → Option Found → Type 0
+Indexed v m (Some f) = (f.index ≡ v) × (v < m)
+Indexed v m None = v ≡ no_node
 
 indexed : (i id : ℕ) (ns : List Node) → Indexed (index_from i id ns) (i + length ns) (node_found i id ns)
 indexed i id [] = refl
 indexed i id (n ∷ ns) = pick_one (eqb n.id id) (node_found (i + 1) id ns) (indexed (i + 1) id ns)
   where
-    pick_one : (b : Bool) (r : Found) → Indexed (index_from (i + 1) id ns) (i + 1 + length ns) r
-        → Indexed (cond b i (index_from (i + 1) id ns)) (i + suc (length ns)) (cond b (At i n.place) r)
+    pick_one : (b : Bool) (r : Option Found) → Indexed (index_from (i + 1) id ns) (i + 1 + length ns) r
+        → Indexed (cond b i (index_from (i + 1) id ns)) (i + suc (length ns)) (cond b (found_at i n.place) r)
     pick_one true r h = (refl, omega arith)
-    pick_one false (At j p) (e, l) = (e, omega arith)
-    pick_one false Nothing h = h
+    pick_one false (Some f) (e, l) = (e, omega arith)
+    pick_one false None h = h
 
-pub found-index : (id : ℕ) (ns : List Node) (j p : ℕ) → At j p ≡ node_found 0 id ns → (j ≡ index_of id ns) × (index_of id ns < length ns)
-found-index id ns j p e =
+pub found-index : (id : ℕ) (ns : List Node) (f : Found) → Some f ≡ node_found 0 id ns → (f.index ≡ index_of id ns) × (index_of id ns < length ns)
+found-index id ns f e =
     let (a, b) = subst (Indexed (index_of id ns) (0 + length ns)) (sym e) (indexed 0 id ns) in
     (a, omega arith)
 
-pub none-index : (id : ℕ) (ns : List Node) → Nothing ≡ node_found 0 id ns → index_of id ns ≡ no_node
+pub none-index : (id : ℕ) (ns : List Node) → None ≡ node_found 0 id ns → index_of id ns ≡ no_node
 none-index id ns e = subst (Indexed (index_of id ns) (0 + length ns)) (sym e) (indexed 0 id ns)
 
 -- ---- what the resolver gives

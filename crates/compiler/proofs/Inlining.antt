@@ -6,7 +6,7 @@ use mathlib.Core.List.{List, [], ◌∷◌, map}
 use mathlib.Core.Logic.{⊎_elim}
 use native.Mathlib.Omega.{arith}
 use lib.Dec.{eqb}
-use lib.ListN.{length, get_or, replicate, length-replicate, get_or-replicate, get_or-eq_default}
+use lib.ListN.{length, get_or, replicate, take, drop, length-replicate, get_or-replicate, get_or-eq_default}
 use lib.Seq.{sets}
 use Rattle.base.proofs.Numbers.{lt-or-le}
 use Rattle.ports.specs.Ports.{ports_of, form_of, calling}
@@ -18,11 +18,12 @@ use Rattle.graph.proofs.Formed.{refs-length}
 use Rattle.reader.specs.Layout.{kind_at, node_at, function_at, earlier}
 use Rattle.lowering.specs.Compile.{Written, ports_at, address, Inlined, Inline, single, inline_node, Body, also, behind, inline_nodes, inline_function, inlined}
 use Rattle.sums.specs.Position.{place_of, function_in, before, position_of}
-use Rattle.compiler.specs.Emit.{addresses_in, inline_with, node_inlined, function_inlined, Walks}
+use Rattle.compiler.specs.Emit.{address_of, addresses_in, inline_with, node_inlined, function_inlined, Walks}
 use Rattle.base.proofs.Stores.{sets-in, sets-above}
 use Rattle.sums.proofs.Nodes.{call-payload}
 use Rattle.sums.proofs.Positions.{at_position, no-position}
 use Rattle.compiler.proofs.Locations.{map_same}
+use Rattle.compiler.proofs.Filling.{addresses-part}
 use Rattle.compiler.proofs.Single.{addresses-length}
 use Rattle.base.specs.Limits.{function_limit}
 use Rattle.bytecode.specs.declared.Version.{Version}
@@ -128,12 +129,13 @@ module _ (ver : Version) (s locations : List ℕ) (k p cell : ℕ) (ins : List �
       ∙ ap (λ (d : ℕ). inlined (sizing ver) (before s k) d given next) (sym ec)
 
   -- the call is the function at its callee's position, on these addresses; where there is none, nothing
-  pub callee-is : {args : List ℕ} {g : ℕ} → args ≡ sets (replicate 8 0) 0 given → n ≤ 8 → g ≡ position_of s k c
+  pub callee-is : {args : List ℕ} {g m : ℕ} → cell + n ≤ length locations → m ≡ n → args ≡ sets (replicate 8 0) 0 (map (address_of ins first) (take m (drop cell locations))) → n ≤ 8 → g ≡ position_of s k c
       → (k ≤ function_limit → g < k → node_inlined ver s locations k p cell ins first next ≡ function_inlined ver s g args next)
       × (k ≤ g → node_inlined ver s locations k p cell ins first next ≡ nothing next)
   unfolding function_inlined
-  callee-is {args} {g} ea few eg =
-      let l : length given ≡ n = addresses-length locations ins first cell n in (
+  callee-is {args} {g} fits em er few eg =
+      let l : length given ≡ n = addresses-length locations ins first cell n in
+      let ea : args ≡ sets (replicate 8 0) 0 given = er ∙ ap (sets (replicate 8 0) 0) (sym (addresses-part locations ins first n cell fits em)) in (
         λ b lt. inlined-here
             ∙ inlined-at ver s given next k c b (subst (λ (q : ℕ). q < k) eg lt)
             ∙ ap (λ (q : ℕ). function_inlined ver s q given next) (sym eg)

@@ -15,5 +15,6 @@ pub mod Tables
 pub mod Ending
 pub mod Inputs
 pub mod Assembly
+pub mod Head
 pub mod Placing
 pub mod Texts

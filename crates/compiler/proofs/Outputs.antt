@@ -5,8 +5,9 @@ use mathlib.Core.List.{List, [], ◌∷◌, map}
 use mathlib.Core.Logic.{◌⊎◌}
 use native.Mathlib.Omega.{arith}
 use lib.ListN.{length, get_or}
-use lib.Seq.{sets, length-sets}
+use lib.Seq.{sets}
 use Rattle.compiler.specs.Sizes.{output_limit}
+use Rattle.compiler.specs.declared.Layout.{Layout}
 use Rattle.base.specs.Limits.{node_limit}
 use Rattle.base.specs.Lists.{Is, Each}
 use Rattle.graph.specs.Graph.{Ref, Node, Function}
@@ -44,14 +45,14 @@ outputs-coded s allocated ns located few named known zero q h = tt
 outputs-coded s allocated ns located few named known (suc m) q (h, hs) =
     (port-coded ns few named allocated located known (reference s (q + 1)) h, outputs-coded s allocated ns located few named known m (q + 4) hs)
 
-module _ (ver : Version) (s : List ℕ) (k c : ℕ) (acc : Accepted s (suc k)) (order₀ order locations₀ locations outs₀ outs allocated : List ℕ) (r : ℕ) where
+module _ (ver : Version) (s : List ℕ) (k c : ℕ) (acc : Accepted s (suc k)) (lay₀ lay : Layout) (outs allocated : List ℕ) (r : ℕ) where
   abbrev p : ℕ
   p = place_of s k
 
   abbrev codes : List ℕ
   codes = output_codes s allocated (nodes_at (node_count s p) s (nodes_place s p)) (output_count s p) (outputs_place s p)
 
-  codes-are : NodesAllocated ver s k c order₀ order locations₀ locations allocated r → AllCodes codes (summary_at ver s k).outputs
+  codes-are : NodesAllocated ver s k c lay₀ lay allocated r → AllCodes codes (summary_at ver s k).outputs
   unfolding function_at earlier
   codes-are h =
       let l : length (nodes_at (node_count s p) s (nodes_place s p)) ≡ node_count s p = length-nodes (node_count s p) s (nodes_place s p) in
@@ -61,10 +62,10 @@ module _ (ver : Version) (s : List ℕ) (k c : ℕ) (acc : Accepted s (suc k)) (
       outputs-coded s allocated (function_in s k).nodes (allocate ver (summary ver (before s k)) (schedule (function_in s k).nodes) [] 0).located (omega arith) (nodes-named s (node_count s p) (nodes_place s p) o.nodes) h.known (output_count s p) (outputs_place s p)
       (wired-inside (before s k) (function_in s k) (output_types (function_in s k).outputs) (output_refs (function_in s k).outputs) sound.resolved.answers)
 
-  pub function-allocated : NodesAllocated ver s k c order₀ order locations₀ locations allocated r → {q n at : ℕ} → q ≡ p → n ≡ node_count s p → at ≡ nodes_place s p
-      → outs ≡ sets outs₀ (8 * k) (output_codes s allocated (nodes_at n s at) (output_count s q) (outputs_place s q)) → length outs₀ ≡ output_limit → FunctionAllocated ver s k c order₀ order locations₀ locations outs₀ outs r
-  function-allocated h eq en ea eo l =
-      let e : outs ≡ sets outs₀ (8 * k) codes = eo ∙ rw (eq, en, ea) in
+  pub function-allocated : NodesAllocated ver s k c lay₀ lay allocated r → {q n at : ℕ} → q ≡ p → n ≡ node_count s p → at ≡ nodes_place s p
+      → outs ≡ sets lay.outs (8 * k) (output_codes s allocated (nodes_at n s at) (output_count s q) (outputs_place s q)) → length lay.outs ≡ output_limit → FunctionAllocated ver s k c lay₀ (record lay { outs = outs }) r
+  function-allocated h eq en ea eo size =
+      let e : outs ≡ sets lay.outs (8 * k) codes = eo ∙ rw (eq, en, ea) in
       let a : length codes ≡ length (summary_at ver s k).outputs = codes-length codes (summary_at ver s k).outputs (codes-are h) in
       let b : length (summary_at ver s k).outputs ≡ output_count s p = summary-size ver s k in
       let f = (few-ports s p (read_below s (suc k) acc k (omega arith))).1 in
@@ -74,11 +75,11 @@ module _ (ver : Version) (s : List ℕ) (k c : ℕ) (acc : Accepted s (suc k)) (
         ports =
             record {
               few = omega arith;
-              coded = λ q ql. subst (λ (ys : List ℕ). Codes (get_or ys (8 * k + q) 0) (get_or (summary_at ver s k).outputs q nowhere)) (sym e) (codes-stored outs₀ (8 * k) codes (summary_at ver s k).outputs (codes-are h) (omega arith) q);
+              coded = λ q ql. subst (λ (ys : List ℕ). Codes (get_or ys (8 * k + q) 0) (get_or (summary_at ver s k).outputs q nowhere)) (sym e) (codes-stored lay.outs (8 * k) codes (summary_at ver s k).outputs (codes-are h) (omega arith) q);
             };
         end = h.end;
-        sizes = (ap length e ∙ length-sets outs₀ (8 * k) codes ∙ l, h.sizes.0, h.sizes.1);
+        same = h.same.1;
         old-order = h.old-order;
         old-locations = h.old-locations;
-        old-outs = λ q ql. ap (λ (ys : List ℕ). get_or ys q 0) e ∙ sets_below codes outs₀ (8 * k) q ql;
+        old-outs = λ q ql. ap (λ (ys : List ℕ). get_or ys q 0) e ∙ sets_below codes lay.outs (8 * k) q ql ∙ ap (λ (ys : List ℕ). get_or ys q 0) h.same.0;
       }

@@ -17,7 +17,7 @@ use Rattle.ports.specs.Ports.{width, widths, takes, gives}
 use Rattle.bytecode.specs.Run.{Instruction, BoardList, spans}
 use Rattle.bytecode.specs.Origin.{result_width}
 use Rattle.bytecode.specs.Ranges.{Range, result_value}
-use Rattle.placement.specs.declared.Extent.{Extent}
+use Rattle.std.specs.Prelude.{Option}
 use Rattle.placement.specs.Live.{input_values}
 use Rattle.placement.specs.Place.{Placed, places_of, rename, renamed, reusing}
 use Rattle.placement.specs.OneValue.{Placeable}
@@ -226,7 +226,7 @@ module _ (inputs : List ℕ) (b : BoardList) (p : Placeable inputs b) (few : len
 
   -- ---- with the places
 
-  module _ (place until wide : List ℕ) (r : Extent) (w : Widths wide m inputs b) (pl : Placement m (length b.instructions) place until r inputs b) (fits : (reusing inputs b).words ≤ word_limit) where
+  module _ (place until wide : List ℕ) (r : Option ℕ) (w : Widths wide m inputs b) (pl : Placement m (length b.instructions) place until r inputs b) (fits : (reusing inputs b).words ≤ word_limit) where
     abbrev ps : List Placed
     ps = places_of inputs b
 

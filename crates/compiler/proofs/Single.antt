@@ -4,7 +4,7 @@ use mathlib.Core.Path.{◌≡◌, refl, sym, ap, ◌∙◌, subst}
 use mathlib.Core.List.{List, [], ◌∷◌, ◌++◌, map, append-nil}
 use native.Mathlib.Omega.{arith}
 use native.Mathlib.Numerals.{add-one, add-two}
-use lib.ListN.{length, set, length-set, length-append, length-map}
+use lib.ListN.{length, set, length-set, length-append, length-map, take, drop}
 use lib.Seq.{sets}
 use Rattle.base.specs.Bytes.{Bytes, bytes_of, all_bytes}
 use Rattle.base.specs.Lists.{Each}
@@ -31,7 +31,8 @@ use Rattle.lowering.specs.Compile.{Inlined, single, inlined}
 use Rattle.sums.specs.Position.{before}
 use Rattle.sums.proofs.CodeSizes.{single-length}
 use Rattle.compiler.specs.declared.Reached.{Reached}
-use Rattle.compiler.specs.Emit.{addresses_in, inline_with, node_inlined, naming_of, relocate, bytes_by, noted, CodeRoom, Walks}
+use Rattle.compiler.specs.Emit.{address_of, addresses_in, inline_with, node_inlined, naming_of, relocate, bytes_by, noted, CodeRoom, Walks}
+use Rattle.compiler.proofs.Filling.{addresses-part}
 use Rattle.compiler.proofs.References.{constant-is, references-are}
 use Rattle.bytecode.specs.declared.Version.{Version}
 use Rattle.bytecode.specs.declared.Version.TheVariants.{V1, V2}
@@ -195,13 +196,20 @@ module _ (ver : Version) (s locations : List ℕ) (k p c : ℕ) (ins : List ℕ)
       let (a, b) = by-payload (consts (words_of v)) c in
       (a ∙ own-bytes [] (words_of v), b, finite)
 
-  pub operation-inlined : (r : Reads) → n.payload ≡ Payloads.Payload.References r
+  operation-is : (r : Reads) → n.payload ≡ Payloads.Payload.References r
       → (node_inlined ver s locations k p c ins first next ≡ single (sizing ver) n.kind n.ty (addresses_in locations ins first c r.count) [] next)
       × (length (reads (node_at s p)) ≡ r.count)
-  operation-inlined r q =
+  operation-is r q =
       let (rs, x, l) = references-are s p n e r q in
       let (a, b) = by-payload (refs rs) x in (
         a ∙ ap (λ (m : ℕ). single (sizing ver) (node_at s p).kind (node_at s p).type (addresses_in locations ins first c m) [] next) l
             ∙ own-bytes (addresses_in locations ins first c r.count) [],
         b ∙ l,
       )
+
+  -- what it reads, as a part of all locations
+  pub operation-inlined : (r : Reads) → n.payload ≡ Payloads.Payload.References r → (length (reads (node_at s p)) ≡ r.count)
+      × (c + r.count ≤ length locations → (m : ℕ) → m ≡ r.count → node_inlined ver s locations k p c ins first next ≡ single (sizing ver) n.kind n.ty (map (address_of ins first) (take m (drop c locations))) [] next)
+  operation-inlined r q =
+      let (o, l) = operation-is r q in
+      (l, λ fits m em. o ∙ ap (λ (xs : List ℕ). single (sizing ver) n.kind n.ty xs [] next) (addresses-part locations ins first r.count c fits em))

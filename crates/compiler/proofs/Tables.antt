@@ -6,9 +6,9 @@ use mathlib.Core.Path.{◌≡◌, sym, ap, ◌∙◌, subst}
 use mathlib.Core.List.{List, [], ◌∷◌}
 use mathlib.Core.Logic.{⊎_elim}
 use native.Mathlib.Omega.{arith}
-use lib.ListN.{length, get_or, set, length-set}
+use lib.ListN.{length, get_or, set}
 use lib.Seq.{get_or-set_same, get_or-set_other}
-use Rattle.compiler.specs.Sizes.{order_limit, output_limit}
+use Rattle.compiler.specs.declared.Layout.{Layout}
 use Rattle.base.specs.Limits.{node_limit, table_limit, reference_limit, function_limit}
 use Rattle.base.proofs.Numbers.{lt-or-eq}
 use Rattle.ports.specs.declared.Form.{Form}
@@ -109,7 +109,7 @@ module _ (ver : Version) (s : List ℕ) (j : ℕ) (acc : Accepted s (suc j)) whe
       let right = scheduled (before s j) (function_in s j) (sound-below s (suc j) acc j (omega arith)).0 in
       (right.size ∙ length-nodes (node_count s (place_of s j)) s (nodes_place s (place_of s j)), right.total size_of)
 
-module _ {ver : Version} {s : List ℕ} {j : ℕ} (acc : Accepted s (suc j)) {outs order locations begins : List ℕ} {cell : ℕ} (st : AllocatedTo ver s j outs order locations begins cell) where
+module _ {ver : Version} {s : List ℕ} {j : ℕ} (acc : Accepted s (suc j)) {lay : Layout} {cell : ℕ} (st : AllocatedTo ver s j lay cell) where
   -- there is room for one function more
   pub room-here : (cell + read_count s j ≤ reference_limit) × (cell < 65536) × (j < function_limit)
   room-here =
@@ -119,7 +119,7 @@ module _ {ver : Version} {s : List ℕ} {j : ℕ} (acc : Accepted s (suc j)) {ou
       (omega arith, omega arith, omega arith)
 
   -- a function over the limit is passed over
-  pub passed_over : unit_limit ver < units_at ver s j → AllocatedTo ver s (suc j) outs order locations begins cell
+  pub passed_over : unit_limit ver < units_at ver s j → AllocatedTo ver s (suc j) lay cell
   passed_over over =
       let (a, b) = function-space ver s j acc in
       let e = st.room in
@@ -129,27 +129,27 @@ module _ {ver : Version} {s : List ℕ} {j : ℕ} (acc : Accepted s (suc j)) {ou
         ports = λ g l w. ⊎_elim (λ h. st.ports g h w) (λ q. absurd (let z = ap (units_at ver s) q in omega arith)) (lt-or-eq g j l);
         room = omega arith;
         ends = λ g l w. ⊎_elim (λ h. st.ends g h w) (λ q. absurd (let z = ap (λ (x : ℕ). (summary_at ver s x).words) q in omega arith)) (lt-or-eq g j l);
-        sizes = st.sizes;
       }
 
-  module _ {outs' order' locations' begins' : List ℕ} {r : ℕ} (f : FunctionAllocated ver s j cell order order' locations locations' outs outs' r) (eb : begins' ≡ set begins j cell) where
-    begin-here : get_or begins' j 0 ≡ cell
-    begin-here = ap (λ (ys : List ℕ). get_or ys j 0) eb ∙ get_or-set_same begins j cell 0 (let a = st.sizes.3 in let b = few s (suc j) acc in omega arith)
+  -- the place of the function's locations is stored, and it is allocated
+  module _ {lay' : Layout} {r : ℕ} (size : length lay.begins ≡ function_limit) (f : FunctionAllocated ver s j cell (record lay { begins = set lay.begins j cell }) lay' r) where
+    begin-here : get_or lay'.begins j 0 ≡ cell
+    begin-here = ap (λ (ys : List ℕ). get_or ys j 0) f.same ∙ get_or-set_same lay.begins j cell 0 (let b = few s (suc j) acc in omega arith)
 
-    begin-below : (g : ℕ) → g < j → get_or begins' g 0 ≡ get_or begins g 0
-    begin-below g l = ap (λ (ys : List ℕ). get_or ys g 0) eb ∙ get_or-set_other begins j g cell 0 (λ e. omega arith)
+    begin-below : (g : ℕ) → g < j → get_or lay'.begins g 0 ≡ get_or lay.begins g 0
+    begin-below g l = ap (λ (ys : List ℕ). get_or ys g 0) f.same ∙ get_or-set_other lay.begins j g cell 0 (λ e. omega arith)
 
-    here : Allocated ver s begins' order' locations' j
+    here : Allocated ver s lay' j
     unfolding earlier
     here =
         record {
           count = (function-holds s (place_of s j) (read_below s (suc j) acc j (omega arith))).few;
           size = (schedule-size ver s j acc).0;
-          nodes = subst (λ (b : ℕ). Placed s order' locations' (location_table ver s j) (node_limit * j) b (schedule (function_in s j).nodes)) (sym begin-here) f.placed;
+          nodes = subst (λ (b : ℕ). Placed s lay'.order lay'.locations (location_table ver s j) (node_limit * j) b (schedule (function_in s j).nodes)) (sym begin-here) f.placed;
           agrees = function-agrees ver (summary ver (before s j)) (before s j) (function_in s j) (sound-below s (suc j) acc j (omega arith)).0 (single-at s (suc j) acc j (omega arith));
         }
 
-    below : (g : ℕ) → g < j → (summary_at ver s g).words ≤ unit_limit ver → Allocated ver s begins' order' locations' g
+    below : (g : ℕ) → g < j → (summary_at ver s g).words ≤ unit_limit ver → Allocated ver s lay' g
     below g l w =
         let x = st.allocated g l w in
         let e = st.ends g l w in
@@ -159,31 +159,30 @@ module _ {ver : Version} {s : List ℕ} {j : ℕ} (acc : Accepted s (suc j)) {ou
           count = x.count;
           size = x.size;
           nodes =
-              subst (λ (q : ℕ). Placed s order' locations' (location_table ver s g) (node_limit * g) q (schedule (function_in s g).nodes)) (sym (begin-below g l))
-              (placed-keep s order order' locations locations' (location_table ver s g) (node_limit * g) (get_or begins g 0) (schedule (function_in s g).nodes) (λ q ql. f.old-order q (omega arith)) (λ q ql. f.old-locations q (omega arith)) x.nodes);
+              subst (λ (q : ℕ). Placed s lay'.order lay'.locations (location_table ver s g) (node_limit * g) q (schedule (function_in s g).nodes)) (sym (begin-below g l))
+              (placed-keep s lay.order lay'.order lay.locations lay'.locations (location_table ver s g) (node_limit * g) (get_or lay.begins g 0) (schedule (function_in s g).nodes) (λ q ql. f.old-order q (omega arith)) (λ q ql. f.old-locations q (omega arith)) x.nodes);
           agrees = x.agrees;
         }
 
-    ports-below : (g : ℕ) → g < j → units_at ver s g ≤ unit_limit ver → PortsCoded (summary_at ver s g).outputs outs' (8 * g)
+    ports-below : (g : ℕ) → g < j → units_at ver s g ≤ unit_limit ver → PortsCoded (summary_at ver s g).outputs lay'.outs (8 * g)
     ports-below g l w =
         let x = st.ports g l w in
         record { few = x.few; coded = λ q ql. subst (λ (e : ℕ). Codes e (get_or (summary_at ver s g).outputs q nowhere)) (sym (f.old-outs (8 * g + q) (omega arith))) (x.coded q ql) }
 
-    pub one_more : AllocatedTo ver s (suc j) outs' order' locations' begins' r
+    pub one_more : AllocatedTo ver s (suc j) lay' r
     one_more =
         let (a, b) = function-space ver s j acc in
         let e = st.room in
         let n = f.end in
         record {
-          allocated = λ g l w. ⊎_elim (λ h. below g h w) (λ q. subst (Allocated ver s begins' order' locations') (sym q) here) (lt-or-eq g j l);
-          ports = λ g l w. ⊎_elim (λ h. ports-below g h w) (λ q. subst (λ (x : ℕ). PortsCoded (summary_at ver s x).outputs outs' (8 * x)) (sym q) f.ports) (lt-or-eq g j l);
+          allocated = λ g l w. ⊎_elim (λ h. below g h w) (λ q. subst (Allocated ver s lay') (sym q) here) (lt-or-eq g j l);
+          ports = λ g l w. ⊎_elim (λ h. ports-below g h w) (λ q. subst (λ (x : ℕ). PortsCoded (summary_at ver s x).outputs lay'.outs (8 * x)) (sym q) f.ports) (lt-or-eq g j l);
           room = omega arith;
           ends = λ g l w. ⊎_elim (λ h. let z = st.ends g h w in let y = begin-below g h in omega arith)
-              (λ q. let z : get_or begins' g 0 ≡ cell = ap (λ (x : ℕ). get_or begins' x 0) q ∙ begin-here in let y = ap (read_count s) q in omega arith) (lt-or-eq g j l);
-          sizes = (f.sizes.0, f.sizes.1, f.sizes.2, ap length eb ∙ length-set begins j cell ∙ st.sizes.3);
+              (λ q. let z : get_or lay'.begins g 0 ≡ cell = ap (λ (x : ℕ). get_or lay'.begins x 0) q ∙ begin-here in let y = ap (read_count s) q in omega arith) (lt-or-eq g j l);
         }
 
 -- at the start nothing is allocated
-pub allocated-none : (ver : Version) → {s outs order locations begins : List ℕ} → (length outs ≡ output_limit) × (length order ≡ order_limit) × (length locations ≡ reference_limit) × (length begins ≡ 16) → AllocatedTo ver s 0 outs order locations begins 0
-allocated-none ver h =
-    record { allocated = λ g l w. absurd (omega arith); ports = λ g l w. absurd (omega arith); room = omega arith; ends = λ g l w. absurd (omega arith); sizes = h }
+pub allocated-none : (ver : Version) → {s : List ℕ} {lay : Layout} → AllocatedTo ver s 0 lay 0
+allocated-none ver =
+    record { allocated = λ g l w. absurd (omega arith); ports = λ g l w. absurd (omega arith); room = omega arith; ends = λ g l w. absurd (omega arith) }

@@ -20,8 +20,7 @@ use Rattle.bytecode.specs.declared.Version.TheVariants.{V1, V2}
 use Rattle.bytecode.specs.Run.{Instruction, BoardList, places, spans}
 use Rattle.bytecode.specs.Ranges.{Range}
 use Rattle.bytecode.specs.Code.{header_code, instructions_code, encode}
-use Rattle.placement.specs.declared.Extent.{Extent}
-use Rattle.placement.specs.declared.Extent.TheVariants.{Words, Over}
+use Rattle.std.specs.Prelude.{Option, Some, None}
 use Rattle.placement.specs.Live.{input_values}
 use Rattle.placement.specs.Place.{places_of, rename, renamed}
 use Rattle.placement.specs.OneValue.{Placeable}
@@ -37,6 +36,7 @@ use Rattle.sums.specs.Position.{place_of, function_in, before, Accepted}
 use Rattle.sums.proofs.Accepted.{sound-below}
 use Rattle.compiler.specs.declared.Pass.TheVariants.{Survey, Sequential, Addressed}
 use Rattle.compiler.specs.declared.Reached.{Reached}
+use Rattle.compiler.specs.declared.Layout.{Layout}
 use Rattle.compiler.specs.Emit.{addresses_in, relocate, relocated, function_inlined, noted, notes, measures, Walks}
 use Rattle.compiler.specs.Whole.{code_at, first_by, inlined_at, text_of, Measured, Prepared, source_at, reused_at, Surveyed, Places}
 use Rattle.compiler.proofs.Assembly.{inlined-is, ports-are}
@@ -52,18 +52,18 @@ input-wides at (t ∷ ts) zero l = refl
 input-wides at (t ∷ ts) (suc v) l = input-wides (at + width t) ts v (omega arith)
 
 -- an extent that is a number
-pub extent-words : (n w : ℕ) → Words n ≡ extent_of w → (n ≡ w) × (w ≤ word_limit)
+pub extent-words : (n w : ℕ) → Some n ≡ extent_of w → (n ≡ w) × (w ≤ word_limit)
 extent-words n w e = pick (leb w word_limit) refl e
   where
-    number : Extent → ℕ
-    number (Words m) = m
-    number Over = 0
+    number : Option ℕ → ℕ
+    number (Some m) = m
+    number None = 0
 
-    is-words : Extent → ℕ
-    is-words (Words m) = 0
-    is-words Over = 1
+    is-words : Option ℕ → ℕ
+    is-words (Some m) = 0
+    is-words None = 1
 
-    pick : (c : Bool) → leb w word_limit ≡ c → Words n ≡ cond c (Words w) Over → (n ≡ w) × (w ≤ word_limit)
+    pick : (c : Bool) → leb w word_limit ≡ c → Some n ≡ cond c (Some w) None → (n ≡ w) × (w ≤ word_limit)
     pick true q e = (ap number e, leb-true w word_limit q)
     pick false q e = absurd (let z : ◌≡◌ {A = ℕ} 0 1 = ap is-words e in omega arith)
 
@@ -104,24 +104,24 @@ module _ {s : List ℕ} {k : ℕ} (acc : Accepted s (suc k)) where
     few-values : length f.inputs + length b.instructions ≤ placed_limit
     few-values = let l = sound.0.resolved.formed.inputs in let c = count-is in let n = ms.few in omega arith
 
-    module _ {outs order locations begins ins : List ℕ} (pr : Prepared V2 s k outs order locations begins ins) where
+    module _ {lay : Layout} (pr : Prepared V2 s k lay) where
       pub surveyed :
           {m n first x at : ℕ} {code code' place₀ wide₁ place₁ wide₂ place₂ : List ℕ} {r : Reached} → place₀ ≡ replicate placed_limit 0 → m ≡ length f.inputs → first ≡ first_by V2 f.inputs
           → wide₁ ≡ sets (replicate placed_limit 0) 0 (map width f.inputs)
-          → Walks Survey m code place₀ wide₁ code' place₁ wide₂ at (function_inlined V2 s k ins first) r → n ≡ output_count s (place_of s k) → x ≡ count + 1
-          → place₂ ≡ noted place₁ x (addresses_in outs ins first (8 * k) n) → Surveyed s k place₂ wide₂
-      surveyed {m} {n} {first} {x} {wide₁ = wide₁} {place₁} {wide₂} {place₂} e₀ em ef ew w en ex ep =
+          → Walks Survey m code place₀ wide₁ code' place₁ wide₂ at (function_inlined V2 s k lay.ins first) r → n ≡ output_count s (place_of s k) → x ≡ count + 1
+          → {xs : List ℕ} → xs ≡ addresses_in lay.outs lay.ins first (8 * k) n → place₂ ≡ noted place₁ x xs → Surveyed s k place₂ wide₂
+      surveyed {m} {n} {first} {x} {wide₁ = wide₁} {place₁} {wide₂} {place₂} e₀ em ef ew w en ex {xs} el ep =
           let zeros : List ℕ = replicate placed_limit 0 in
           let code = (named_of (before s k) f).code in
           let ports = (named_of (before s k) f).ports in
           let h = naming (before s k) f sound in
           let l = sound.0.resolved.formed.inputs in
-          let walked : function_inlined V2 s k ins first ≡ named_of (before s k) f =
-          ap (function_inlined V2 s k ins) ef ∙ inlined-is Survey acc ms pr ∙ named-is in
-          let stood : addresses_in outs ins first (8 * k) n ≡ ports =
-          ap₂ (λ (q c : ℕ). addresses_in outs ins q (8 * k) c) ef en ∙ ports-are Survey acc ms pr ∙ ap (λ (o : Inlined). o.ports) named-is in
+          let walked : function_inlined V2 s k lay.ins first ≡ named_of (before s k) f =
+          ap (function_inlined V2 s k lay.ins) ef ∙ inlined-is Survey acc ms pr ∙ named-is in
+          let stood : xs ≡ ports =
+          el ∙ ap₂ (λ (q c : ℕ). addresses_in lay.outs lay.ins q (8 * k) c) ef en ∙ ports-are Survey acc ms pr ∙ ap (λ (o : Inlined). o.ports) named-is in
           let last : place₁ ≡ notes (length f.inputs) zeros code =
-          w.noted ∙ ap (λ (l : List ℕ). notes m l (function_inlined V2 s k ins first).code) e₀ ∙ ap₂ (λ (o : Inlined) (i : ℕ). notes i zeros o.code) walked em in
+          w.noted ∙ ap (λ (l : List ℕ). notes m l (function_inlined V2 s k lay.ins first).code) e₀ ∙ ap₂ (λ (o : Inlined) (i : ℕ). notes i zeros o.code) walked em in
           let place : place₂ ≡ noted (notes (length f.inputs) zeros code) x ports = ep ∙ ap₂ (λ (l ps : List ℕ). noted l x ps) last stood in
           let wide : wide₂ ≡ measures wide₁ code = w.measured ∙ ap (λ (o : Inlined). measures wide₁ o.code) walked in
           let size : length wide₁ ≡ placed_limit = ap length ew ∙ length-sets zeros 0 (map width f.inputs) ∙ length-replicate {A = ℕ} placed_limit 0 in
@@ -147,7 +147,7 @@ module _ {s : List ℕ} {k : ℕ} (acc : Accepted s (suc k)) where
         subst (Wide wide) (ap₂ (λ (x y : ℕ). x + y) (sym em) (sym count-is)) (all-wide wide (length f.inputs) f.inputs b own-placeable su.widths)
 
     pub placed-texts :
-        {last wide place until : List ℕ} {m : ℕ} {r : Extent} → Surveyed s k last wide → m ≡ length f.inputs
+        {last wide place until : List ℕ} {m : ℕ} {r : Option ℕ} → Surveyed s k last wide → m ≡ length f.inputs
         → ((inputs : List ℕ) (b : BoardList) → count ≤ length b.instructions → Widths wide m inputs b → Lasting last m inputs b → Placement m count place until r inputs b)
         → Places s k place r
     unfolding text_of encode inlined_at
@@ -179,8 +179,8 @@ module _ {s : List ℕ} {k : ℕ} (acc : Accepted s (suc k)) where
             ∙ ap₂ (λ (is : List Instruction) (xs : List ℕ). head (length (map (rename ps) b.outputs)) (length (map (renamed ps) b.instructions)) ++ (instructions_code V2 is ++ all_bytes 2 xs)) code outs
 
 -- with the word count as the placement answers it
-pub words_placed : {s : List ℕ} {k : ℕ} {place : List ℕ} {n : ℕ} → Places s k place (Words n) → n ≤ word_limit → text_of Addressed place s k n ≡ encode V2 (reused_at s k)
+pub words_placed : {s : List ℕ} {k : ℕ} {place : List ℕ} {n : ℕ} → Places s k place (Some n) → n ≤ word_limit → text_of Addressed place s k n ≡ encode V2 (reused_at s k)
 words_placed {s} {k} {place} {n} p l = ap (text_of Addressed place s k) (words_are p.extent).0 ∙ p.text (words_are p.extent).1
   where
-    words_are : Words n ≡ extent_of (reused_at s k).words → (n ≡ (reused_at s k).words) × ((reused_at s k).words ≤ word_limit)
+    words_are : Some n ≡ extent_of (reused_at s k).words → (n ≡ (reused_at s k).words) × ((reused_at s k).words ≤ word_limit)
     words_are e = extent-words n (reused_at s k).words e

@@ -26,12 +26,12 @@ use Rattle.graph.specs.Schedule.{schedule}
 use Rattle.sums.specs.declared.Sums.{Sums}
 use Rattle.sums.specs.CodeSums.{node_instructions, node_bytes, function_instructions, instructions_of, bytes_of_function}
 use Rattle.sums.specs.Position.{function_in, before, position_of}
-use Rattle.sums.specs.Capped.{adds_sums, call_sums, no_sums, nodes_sums, capped_words, capped_instructions, result_words_at, instructions_at}
+use Rattle.sums.specs.Capped.{adds_sums, call_sums, no_sums, nodes_sums, capped_sums, result_words_at, instructions_at, SumsHeld}
 use Rattle.sums.proofs.Positions.{sums_of, sums-at, sums_none}
 use Rattle.sums.proofs.Summing.{added}
 use Rattle.sums.proofs.CodeSizes.{function-instructions, inlined-instructions}
 use Rattle.compiler.specs.Static.{Located, node_summary, function_summary, summary}
-use Rattle.compiler.specs.Units.{units_in, units_at, adds_units, unit_limit, end_limit, unit_bound, held_limit, scaled, Held}
+use Rattle.compiler.specs.Units.{units_in, units_at, adds_units, unit_limit, end_limit, unit_bound, Held, AllHeld}
 use Rattle.compiler.proofs.Locations.{inlined-follows, inlined-next, function-next}
 
 inlined-units : (v : Version) (early : List Function) → AllSound early → (c : ℕ) → (inlined (sizing v) early c [] 0).next ≡ 0 + units_in v (sums_of early c)
@@ -92,13 +92,15 @@ pub nodes-units : (v : Version) (s : List ℕ) (k : ℕ) (ns : List Node) → un
 nodes-units V1 s k ns = refl
 nodes-units V2 s k ns = names-sum (λ n. (adds_sums s k n).instructions) ns
 
--- ---- as they are held
+-- ---- as they are summed
 
-pub words-held : (s : List ℕ) (g x : ℕ) → x ≡ capped_words s g → Held V1 s g x
-words-held s g x e = record { over = λ l. omega arith; within = λ l. omega arith }
+pub sums-held : (v : Version) (s : List ℕ) (g : ℕ) {x : Sums} → x ≡ capped_sums s g → Held v s g (units_in v x)
+sums-held V1 s g e = let h = ap (λ (y : Sums). y.words) e in record { over = λ l. omega arith; within = λ l. omega arith }
+sums-held V2 s g e = let h = ap (λ (y : Sums). y.instructions) e in record { over = λ l. omega arith; within = λ l. omega arith }
 
-pub counts-held : (s : List ℕ) (g x : ℕ) → x ≡ capped_instructions s g → Held V2 s g x
-counts-held s g x e = record { over = λ l. omega arith; within = λ l. omega arith }
+-- so the sums of all functions before k are enough for both versions
+pub sums-held-all : (v : Version) {s : List ℕ} (xs : List Sums) {k : ℕ} → SumsHeld s xs k → AllHeld v s xs k
+sums-held-all v xs h = λ g l. sums-held v _ g (h g l)
 
 -- ---- what a node adds
 
@@ -143,10 +145,6 @@ node-units v early sound s k e located d n = by v n.payload
     by V2 (refs rs) = refl
     by V2 (calls c rs) = ap (λ (fs : List Function). name_step * instructions_of fs c) e ∙ sym (summary-units V2 early sound c)
 
--- what is held is exact where the function is within the limit
-pub held-exact : {v : Version} {s : List ℕ} {g x : ℕ} → Held v s g x → units_at v s g ≤ unit_limit v → scaled v x ≡ units_at v s g
-held-exact {v} {s} {g} {x} h l = ⊎_elim (λ a. absurd (let b = h.over a in omega arith)) (λ a. h.within a) (lt-or-le (held_limit v) x)
-
-pub scaled-limit : (v : Version) (x : ℕ) → x ≤ held_limit v → scaled v x ≤ unit_limit v
-scaled-limit V1 x l = l
-scaled-limit V2 x l = omega arith
+-- which is exact where the function is within the limit
+pub held-exact : {v : Version} {s : List ℕ} {g x : ℕ} → Held v s g x → units_at v s g ≤ unit_limit v → x ≡ units_at v s g
+held-exact {v} {x = x} h l = ⊎_elim (λ a. absurd (let b = h.over a in omega arith)) (λ a. h.within a) (lt-or-le (unit_limit v) x)

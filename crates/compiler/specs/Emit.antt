@@ -18,6 +18,7 @@ use Rattle.compiler.specs.declared.Pass.{Pass}
 use Rattle.compiler.specs.declared.Pass.TheVariants.{Survey, Sequential, Addressed}
 use Rattle.compiler.specs.Units.{unit_limit, end_limit, unit_bound}
 use Rattle.compiler.specs.declared.Reached.{Reached}
+use Rattle.compiler.specs.declared.Layout.{Layout}
 use Rattle.compiler.specs.Static.{Location, nowhere, input, offset, location_of, Summary, function_summary, summary, allocate, Agrees}
 use Rattle.sums.specs.Position.{place_of, function_in, before}
 
@@ -139,12 +140,12 @@ Placed s order locations table b c (n ∷ ns) =
 abbrev pub summary_at : Version → List ℕ → ℕ → Summary
 summary_at v s j = function_summary v (summary v (before s j)) (function_in s j)
 
-pub record Allocated (v : Version) (s begins order locations : List ℕ) (j : ℕ) : Type 0 where
+pub record Allocated (v : Version) (s : List ℕ) (l : Layout) (j : ℕ) : Type 0 where
   pub count : node_count s (place_of s j) ≤ node_limit
   pub size : length (schedule (function_in s j).nodes) ≡ node_count s (place_of s j)
-  pub nodes : Placed s order locations (location_table v s j) (node_limit * j) (get_or begins j 0) (schedule (function_in s j).nodes)
+  pub nodes : Placed s l.order l.locations (location_table v s j) (node_limit * j) (get_or l.begins j 0) (schedule (function_in s j).nodes)
   pub agrees : Agrees v (summary v (before s j)) (location_table v s j) (schedule (function_in s j).nodes) [] 0
 
 -- all functions before k that are within the limit
-abbrev pub AllAllocated : Version → List ℕ → List ℕ → List ℕ → List ℕ → ℕ → Type 0
-AllAllocated v s begins order locations k = (j : ℕ) → j < k → (summary_at v s j).words ≤ unit_limit v → Allocated v s begins order locations j
+abbrev pub AllAllocated : Version → List ℕ → Layout → ℕ → Type 0
+AllAllocated v s l k = (j : ℕ) → j < k → (summary_at v s j).words ≤ unit_limit v → Allocated v s l j

@@ -2,8 +2,7 @@
 use Rattle.std.specs.Prelude.{ℕ, zero, suc, ◌+◌, ◌*◌, ◌%◌, ◌≤◌, ◌<◌, ◌≡◌, cond, List, [], ◌∷◌, ltb, leb, length, get_or}
 use Rattle.std.proofs.Math.Option.{some}
 use Rattle.std.proofs.Math.ListN.{get_elem?}
-use Rattle.compiler.specs.Sizes.{order_limit, output_limit}
-use Rattle.base.specs.Limits.{function_limit, node_limit, operand_limit, port_limit, reference_limit, slot_limit, address_limit}
+use Rattle.base.specs.Limits.{node_limit, operand_limit, port_limit, slot_limit, address_limit}
 use Rattle.ports.specs.Ports.{width, own, ports_of, form_of, calling}
 use Rattle.base.specs.Bytes.{byte, u16}
 use Rattle.graph.specs.Graph.{Node}
@@ -17,6 +16,7 @@ use Rattle.order.specs.Resolve.{target}
 use Rattle.compiler.specs.Static.{Location, nowhere, input, offset, Located, locations_of, summary, allocate}
 use Rattle.sums.specs.Position.{place_of, function_in, before, position_of}
 use Rattle.bytecode.specs.declared.Version.{Version}
+use Rattle.compiler.specs.declared.Layout.{Layout}
 use Rattle.compiler.specs.Units.{units_at, unit_limit}
 use Rattle.compiler.specs.Emit.{location_table, Placed, summary_at, AllAllocated}
 
@@ -91,28 +91,27 @@ abbrev pub read_count : List ℕ → ℕ → ℕ
 read_count s k = sum (λ n. length (reads n)) (function_in s k).nodes
 
 -- all nodes in their order are allocated
-pub record NodesAllocated (v : Version) (s : List ℕ) (k c : ℕ) (order₀ order locations₀ locations allocated : List ℕ) (r : ℕ) : Type 0 where
-  pub placed : Placed s order locations (location_table v s k) (node_limit * k) c (schedule (function_in s k).nodes)
+pub record NodesAllocated (v : Version) (s : List ℕ) (k c : ℕ) (l₀ l : Layout) (allocated : List ℕ) (r : ℕ) : Type 0 where
+  pub placed : Placed s l.order l.locations (location_table v s k) (node_limit * k) c (schedule (function_in s k).nodes)
   pub known : PortsKnown (function_in s k).nodes allocated (allocate v (summary v (before s k)) (schedule (function_in s k).nodes) [] 0).located
   pub end : r ≡ c + read_count s k
-  pub sizes : (length order ≡ order_limit) × (length locations ≡ reference_limit)
-  pub old-order : (q : ℕ) → q < node_limit * k → get_or order q 0 ≡ get_or order₀ q 0
-  pub old-locations : (q : ℕ) → q < c → get_or locations q 0 ≡ get_or locations₀ q 0
+  pub same : (l.outs ≡ l₀.outs) × (l.begins ≡ l₀.begins)
+  pub old-order : (q : ℕ) → q < node_limit * k → get_or l.order q 0 ≡ get_or l₀.order q 0
+  pub old-locations : (q : ℕ) → q < c → get_or l.locations q 0 ≡ get_or l₀.locations q 0
 
 -- the function at position k is allocated
-pub record FunctionAllocated (v : Version) (s : List ℕ) (k c : ℕ) (order₀ order locations₀ locations outs₀ outs : List ℕ) (r : ℕ) : Type 0 where
-  pub placed : Placed s order locations (location_table v s k) (node_limit * k) c (schedule (function_in s k).nodes)
-  pub ports : PortsCoded (summary_at v s k).outputs outs (port_limit * k)
+pub record FunctionAllocated (v : Version) (s : List ℕ) (k c : ℕ) (l₀ l : Layout) (r : ℕ) : Type 0 where
+  pub placed : Placed s l.order l.locations (location_table v s k) (node_limit * k) c (schedule (function_in s k).nodes)
+  pub ports : PortsCoded (summary_at v s k).outputs l.outs (port_limit * k)
   pub end : r ≡ c + read_count s k
-  pub sizes : (length outs ≡ output_limit) × (length order ≡ order_limit) × (length locations ≡ reference_limit)
-  pub old-order : (q : ℕ) → q < node_limit * k → get_or order q 0 ≡ get_or order₀ q 0
-  pub old-locations : (q : ℕ) → q < c → get_or locations q 0 ≡ get_or locations₀ q 0
-  pub old-outs : (q : ℕ) → q < port_limit * k → get_or outs q 0 ≡ get_or outs₀ q 0
+  pub same : l.begins ≡ l₀.begins
+  pub old-order : (q : ℕ) → q < node_limit * k → get_or l.order q 0 ≡ get_or l₀.order q 0
+  pub old-locations : (q : ℕ) → q < c → get_or l.locations q 0 ≡ get_or l₀.locations q 0
+  pub old-outs : (q : ℕ) → q < port_limit * k → get_or l.outs q 0 ≡ get_or l₀.outs q 0
 
 -- all functions before j that are within the limit are allocated, and their locations end at `location`
-pub record AllocatedTo (v : Version) (s : List ℕ) (j : ℕ) (outs order locations begins : List ℕ) (cell : ℕ) : Type 0 where
-  pub allocated : AllAllocated v s begins order locations j
-  pub ports : AllOuts v s outs j
+pub record AllocatedTo (v : Version) (s : List ℕ) (j : ℕ) (l : Layout) (cell : ℕ) : Type 0 where
+  pub allocated : AllAllocated v s l j
+  pub ports : AllOuts v s l.outs j
   pub room : 13 * cell ≤ 4 * place_of s j
-  pub ends : (g : ℕ) → g < j → (summary_at v s g).words ≤ unit_limit v → get_or begins g 0 + read_count s g ≤ cell
-  pub sizes : (length outs ≡ output_limit) × (length order ≡ order_limit) × (length locations ≡ reference_limit) × (length begins ≡ function_limit)
+  pub ends : (g : ℕ) → g < j → (summary_at v s g).words ≤ unit_limit v → get_or l.begins g 0 + read_count s g ≤ cell

@@ -1,12 +1,12 @@
 -- What the compiler counts along a list: words in version 1, names in version 2.
-use Rattle.std.specs.Prelude.{ℕ, ◌+◌, ◌*◌, ◌≤◌, ◌<◌, ◌≡◌, List, get_or}
+use Rattle.std.specs.Prelude.{ℕ, ◌+◌, ◌*◌, ◌≤◌, ◌<◌, ◌≡◌, List}
 use Rattle.base.specs.Limits.{operation_limit, port_limit, word_limit}
 use Rattle.graph.specs.Graph.{Node}
 use Rattle.bytecode.specs.declared.Version.{Version}
 use Rattle.bytecode.specs.declared.Version.TheVariants.{V1, V2}
 use Rattle.lowering.specs.Naming.{name_step}
 use Rattle.sums.specs.declared.Sums.{Sums}
-use Rattle.sums.specs.Capped.{own_sums, adds_sums}
+use Rattle.sums.specs.Capped.{own_sums, adds_sums, sums_at}
 
 abbrev pub units_in : Version → Sums → ℕ
 units_in V1 x = x.words
@@ -33,20 +33,13 @@ end_limit V2 = name_step * (operation_limit + port_limit)
 abbrev pub unit_bound : ℕ
 unit_bound = name_step * (operation_limit + port_limit)
 
--- ---- as they are held: words in version 1, instructions in version 2
-
-abbrev pub held_limit : Version → ℕ
-held_limit V1 = word_limit
-held_limit V2 = operation_limit
-
-abbrev pub scaled : Version → ℕ → ℕ
-scaled V1 n = n
-scaled V2 n = name_step * n
+-- ---- as they are summed, up to a cap
 
 -- x is exact up to the limit
 pub record Held (v : Version) (s : List ℕ) (g x : ℕ) : Type 0 where
-  pub over : held_limit v < x → unit_limit v < units_at v s g
-  pub within : x ≤ held_limit v → scaled v x ≡ units_at v s g
+  pub over : unit_limit v < x → unit_limit v < units_at v s g
+  pub within : x ≤ unit_limit v → x ≡ units_at v s g
 
-abbrev pub AllHeld : Version → List ℕ → List ℕ → ℕ → Type 0
-AllHeld v s held k = (g : ℕ) → g < k → Held v s g (get_or held g 0)
+-- what is held of the functions before k, as the version needs it
+abbrev pub AllHeld : Version → List ℕ → List Sums → ℕ → Type 0
+AllHeld v s xs k = (g : ℕ) → g < k → Held v s g (units_in v (sums_at xs g))

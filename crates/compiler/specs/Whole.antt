@@ -1,5 +1,5 @@
 -- The whole code of a function, by what the compiler's arrays hold and by the definition.
-use Rattle.std.specs.Prelude.{ℕ, suc, ◌+◌, ◌*◌, ◌≤◌, ◌≡◌, List, ◌++◌, map, length, replicate}
+use Rattle.std.specs.Prelude.{ℕ, suc, Option, ◌+◌, ◌*◌, ◌≤◌, ◌≡◌, List, ◌++◌, map, length, replicate}
 use Rattle.std.proofs.lemmas.List.Edits.{sets}
 use Rattle.base.specs.Bytes.{all_bytes}
 use Rattle.base.specs.Limits.{operation_limit, placed_limit, port_limit, port_word_limit, word_limit}
@@ -12,12 +12,12 @@ use Rattle.bytecode.specs.Run.{BoardList, places, spans}
 use Rattle.bytecode.specs.Code.{header_code, encode}
 use Rattle.lowering.specs.Compile.{Inlined, inline_function, inlined, board_list_of}
 use Rattle.lowering.specs.Naming.{name_step, sizing, names}
-use Rattle.placement.specs.declared.Extent.{Extent}
 use Rattle.placement.specs.Place.{reusing}
 use Rattle.placement.specs.Arrays.{Widths, Lasting}
 use Rattle.placement.specs.Record.{extent_of}
 use Rattle.sums.specs.Position.{function_in, before}
 use Rattle.compiler.specs.declared.Pass.{Pass}
+use Rattle.compiler.specs.declared.Layout.{Layout}
 use Rattle.compiler.specs.declared.Pass.TheVariants.{Survey, Sequential, Addressed}
 use Rattle.compiler.specs.Units.{units_at, unit_limit, end_limit}
 use Rattle.compiler.specs.Emit.{naming_of, relocate, bytes_by, AllAllocated}
@@ -73,10 +73,10 @@ pub record Measured (v : Version) (s : List ℕ) (k count inputs outputs : ℕ) 
   pub end : first_by v (function_in s k).inputs + units_at v s k ≤ end_limit v
 
 -- what the walk is lent: the locations of all functions up to k, and the addresses of its inputs
-pub record Prepared (v : Version) (s : List ℕ) (k : ℕ) (outs order locations begins ins : List ℕ) : Type 0 where
-  pub allocated : AllAllocated v s begins order locations (suc k)
-  pub ports : AllOuts v s outs (suc k)
-  pub inputs : ins ≡ sets (replicate port_limit 0) 0 (inputs_by v (function_in s k).inputs)
+pub record Prepared (v : Version) (s : List ℕ) (k : ℕ) (l : Layout) : Type 0 where
+  pub allocated : AllAllocated v s l (suc k)
+  pub ports : AllOuts v s l.outs (suc k)
+  pub inputs : l.ins ≡ sets (replicate port_limit 0) 0 (inputs_by v (function_in s k).inputs)
 
 -- ---- version 2
 
@@ -94,11 +94,11 @@ pub record Surveyed (s : List ℕ) (k : ℕ) (last wide : List ℕ) : Type 0 whe
   pub size : length last ≡ placed_limit
 
 -- the word count, or more than the limit; within it, what is written with these places is the code of the list
-pub record Places (s : List ℕ) (k : ℕ) (place : List ℕ) (r : Extent) : Type 0 where
+pub record Places (s : List ℕ) (k : ℕ) (place : List ℕ) (r : Option ℕ) : Type 0 where
   pub extent : r ≡ extent_of (reused_at s k).words
   pub text : (reused_at s k).words ≤ word_limit → text_of Addressed place s k (reused_at s k).words ≡ encode V2 (reused_at s k)
 
 -- all that the writing of version 2 is lent
-pub record LaidOut (s : List ℕ) (k : ℕ) (outs order locations begins ins place : List ℕ) (r : Extent) : Type 0 where
-  pub prepared : Prepared V2 s k outs order locations begins ins
+pub record LaidOut (s : List ℕ) (k : ℕ) (l : Layout) (place : List ℕ) (r : Option ℕ) : Type 0 where
+  pub prepared : Prepared V2 s k l
   pub places : Places s k place r

@@ -1,24 +1,35 @@
-// The addresses of locations, and of the operands of an instruction, whose locations stand from `cell` on.
-ghost use Rattle.std.specs.Prelude.{◌≡◌, map, ◌+◌, ◌*◌, ◌<◌, ◌≤◌, length};
+// The addresses of locations, and of the operands of an instruction, by their locations.
+ghost use Rattle.std.specs.Prelude.{◌≡◌, map, ◌+◌, ◌*◌, ◌≤◌, length, replicate};
 ghost use Rattle.std.proofs.lemmas.List.Edits.{sets};
-ghost use Rattle.base.specs.Limits.{port_limit, reference_limit, address_limit};
+ghost use Rattle.base.specs.Limits.{port_limit};
 ghost use Rattle.base.specs.Bytes.{all_bytes};
 ghost use Rattle.compiler.specs.Units.{unit_bound};
 ghost use Rattle.compiler.specs.Emit as Emit;
-ghost use Rattle.compiler.specs.Emit.{address_of, addresses_in, noted};
+ghost use Rattle.compiler.specs.Emit.{address_of, noted};
+ghost use Rattle.compiler.specs.Whole.{relocate_by};
 
-use super::NAME_STEP;
-use base::{ADDRESS_LIMIT, PORT_LIMIT, REFERENCE_LIMIT, put16, wide16};
+use super::{NAME_STEP, Pass};
+use base::{ADDRESS_LIMIT, PORT_LIMIT, put16};
 
-// The address of a location.
-pub fn address(ins: &[u16; PORT_LIMIT], first: usize, e: usize) -> u16
-    requires { (first ≤ unit_bound) × (e < address_limit) }
-    ensures { result ≡ address_of ins.now first e }
-{
-    if e < PORT_LIMIT {
-        ins[e]
-    } else {
-        ((first + (e - PORT_LIMIT)) % ADDRESS_LIMIT) as u16
+// A function as a walk opens it: the addresses of its inputs, and the first of its results.
+#[derive(Clone, Copy)]
+pub struct Frame<'a> {
+    pub ins: &'a [u16; PORT_LIMIT],
+    pub first: usize,
+}
+
+impl Frame<'_> {
+    // The address of a location.
+    pub fn address(self, e: u16) -> u16
+        requires { self.first ≤ unit_bound }
+        ensures { result ≡ address_of self.entry.ins.now self.entry.first e }
+    {
+        let e = usize::from(e);
+        if e < PORT_LIMIT {
+            self.ins[e]
+        } else {
+            ((self.first + (e - PORT_LIMIT)) % ADDRESS_LIMIT) as u16
+        }
     }
 }
 
@@ -29,94 +40,61 @@ pub fn relocate(place: &[u16], a: usize) -> u16
     let v = a / NAME_STEP;
     let r = a % NAME_STEP;
     if v < place.len() {
-        ((wide16(place[v]) + r) % ADDRESS_LIMIT) as u16
+        ((usize::from(place[v]) + r) % ADDRESS_LIMIT) as u16
     } else {
         r as u16
     }
 }
 
-// The bytes of the addresses of n operands.
-pub fn operands(
-    locations: &[u16; REFERENCE_LIMIT],
-    cell: usize,
-    n: usize,
-    ins: &[u16; PORT_LIMIT],
-    first: usize,
-    code: &mut [u8],
-    at: usize,
-)
-    requires { (first ≤ unit_bound) × (cell + n ≤ reference_limit) × (at + 2 * n ≤ length code.old) }
-    ensures { code.new ≡ sets code.old at (all_bytes 2 (addresses_in locations.now ins.now first cell n)) }
+// The address that a pass writes for a location's.
+pub fn written(pass: Pass, place: &[u16], a: u16) -> u16
+    ensures { result ≡ relocate_by pass place.now a }
 {
-    let mut j = 0;
-    while j < n {
-        let a = address(ins, first, wide16(locations[cell + j]));
-        put16(code, at + 2 * j, a);
-        j += 1;
+    match pass {
+        Pass::Survey | Pass::Sequential => a,
+        Pass::Addressed => relocate(place, usize::from(a)),
     }
 }
 
-// The bytes of their places.
-pub fn placed_operands(
-    locations: &[u16; REFERENCE_LIMIT],
-    cell: usize,
-    n: usize,
-    ins: &[u16; PORT_LIMIT],
-    first: usize,
+// The bytes of the addresses of operands at these locations, as a pass writes them.
+pub fn operands(
+    pass: Pass,
+    cells: &[u16],
+    frame: Frame<'_>,
     place: &[u16],
     code: &mut [u8],
     at: usize,
 )
-    requires { (first ≤ unit_bound) × (cell + n ≤ reference_limit) × (at + 2 * n ≤ length code.old) }
+    requires { (frame.first ≤ unit_bound) × (at + 2 * length cells.now ≤ length code.old) }
     ensures { code.new ≡ sets code.old at
-        (all_bytes 2 (map (Emit.relocate place.now) (addresses_in locations.now ins.now first cell n))) }
+        (all_bytes 2 (map (relocate_by pass place.now) (map (address_of frame.entry.ins.now frame.entry.first) cells.now))) }
 {
-    let mut j = 0;
-    while j < n {
-        let a = wide16(address(ins, first, wide16(locations[cell + j])));
-        put16(code, at + 2 * j, relocate(place, a));
-        j += 1;
+    for (j, &e) in cells.iter().enumerate() {
+        put16(code, at + 2 * j, written(pass, place, frame.address(e)));
     }
 }
 
-// Their values have x.
-pub fn note_operands(
-    locations: &[u16; REFERENCE_LIMIT],
-    cell: usize,
-    n: usize,
-    ins: &[u16; PORT_LIMIT],
-    first: usize,
-    place: &mut [u16],
-    x: u16,
-)
-    requires { (first ≤ unit_bound) × (cell + n ≤ reference_limit) }
-    ensures { place.new ≡ noted place.old x (addresses_in locations.now ins.now first cell n) }
+// The values of operands at these locations have x.
+pub fn note_operands(cells: &[u16], frame: Frame<'_>, place: &mut [u16], x: u16)
+    requires { frame.first ≤ unit_bound }
+    ensures { place.new ≡ noted place.old x (map (address_of frame.entry.ins.now frame.entry.first) cells.now) }
 {
-    let mut j = 0;
-    while j < n {
-        let v = wide16(address(ins, first, wide16(locations[cell + j]))) / NAME_STEP;
+    for &e in cells {
+        let v = usize::from(frame.address(e)) / NAME_STEP;
         if v < place.len() {
             place[v] = x;
         }
-        j += 1;
     }
 }
 
-// The addresses of n arguments.
-pub fn arguments(
-    locations: &[u16; REFERENCE_LIMIT],
-    cell: usize,
-    n: usize,
-    ins: &[u16; PORT_LIMIT],
-    first: usize,
-    args: &mut [u16; PORT_LIMIT],
-)
-    requires { (first ≤ unit_bound) × (cell + n ≤ reference_limit) × (n ≤ port_limit) }
-    ensures { args.new ≡ sets args.old 0 (addresses_in locations.now ins.now first cell n) }
+// The addresses of arguments at these locations.
+pub fn arguments(cells: &[u16], frame: Frame<'_>) -> [u16; PORT_LIMIT]
+    requires { (frame.first ≤ unit_bound) × (length cells.now ≤ port_limit) }
+    ensures { result ≡ sets (replicate port_limit 0) 0 (map (address_of frame.entry.ins.now frame.entry.first) cells.now) }
 {
-    let mut j = 0;
-    while j < n {
-        args[j] = address(ins, first, wide16(locations[cell + j]));
-        j += 1;
+    let mut args = [0; PORT_LIMIT];
+    for (j, &e) in cells.iter().enumerate() {
+        args[j] = frame.address(e);
     }
+    args
 }

@@ -1,7 +1,7 @@
 // What stands around the instructions: the header, the addresses of the arguments and of the outputs.
-ghost use Rattle.std.specs.Prelude.{◌≡◌, map, ◌+◌, ◌*◌, ◌<◌, ◌≤◌, length};
+ghost use Rattle.std.specs.Prelude.{◌≡◌, map, ◌+◌, ◌*◌, ◌<◌, ◌≤◌, length, replicate};
 ghost use Rattle.std.proofs.lemmas.List.Edits.{sets};
-ghost use Rattle.base.specs.Limits.{function_limit, port_limit, value_limit, address_limit, header_length};
+ghost use Rattle.base.specs.Limits.{port_limit, value_limit, address_limit, header_length};
 ghost use Rattle.ports.specs.Ports.{widths};
 ghost use Rattle.base.specs.Bytes.{all_bytes};
 ghost use Rattle.base.specs.Lists.{span};
@@ -10,39 +10,37 @@ ghost use Rattle.bytecode.specs.Code.{header_code};
 ghost use Rattle.sums.specs.Answers.{types_by};
 ghost use Rattle.compiler.specs.Units.{unit_bound};
 ghost use Rattle.lowering.specs.Naming.{names};
-ghost use Rattle.compiler.specs.Emit.{addresses_in, noted};
+ghost use Rattle.compiler.specs.Emit.{address_of};
 ghost use Rattle.compiler.specs.Whole.{relocate_by};
 
-use super::addresses::{address, relocate};
-use super::{NAME_STEP, OUTPUT_LIMIT, Pass};
-use base::{ADDRESS_LIMIT, PORT_LIMIT, put16, wide16};
+use super::addresses::{Frame, written};
+use super::{NAME_STEP, Pass};
+use base::{ADDRESS_LIMIT, PORT_LIMIT, put16};
 
 // The addresses of n arguments, by their type bytes.
-pub fn input_places(table: &[u8], at: usize, n: usize, ins: &mut [u16; PORT_LIMIT])
+pub fn input_places(table: &[u8], at: usize, n: usize) -> [u16; PORT_LIMIT]
     requires { (at + n ≤ length table.now) × (n ≤ port_limit) }
-    ensures { ins.new ≡ sets ins.old 0 (places 0 (types_by 1 n table.now at)) }
+    ensures { result ≡ sets (replicate port_limit 0) 0 (places 0 (types_by 1 n table.now at)) }
 {
-    let mut q = at;
+    let mut ins = [0; PORT_LIMIT];
     let mut w = 0;
-    let mut j = 0;
-    while j < n {
+    for j in 0..n {
         ins[j] = w as u16;
-        w += ports::width(table[q]);
-        q += 1;
-        j += 1;
+        w += ports::width(table[at + j]);
     }
+    ins
 }
 
 // The names of n arguments.
-pub fn input_names(n: usize, ins: &mut [u16; PORT_LIMIT])
+pub fn input_names(n: usize) -> [u16; PORT_LIMIT]
     requires { n ≤ port_limit }
-    ensures { ins.new ≡ sets ins.old 0 (names 0 n) }
+    ensures { result ≡ sets (replicate port_limit 0) 0 (names 0 n) }
 {
-    let mut j = 0;
-    while j < n {
+    let mut ins = [0; PORT_LIMIT];
+    for j in 0..n {
         ins[j] = (NAME_STEP * j) as u16;
-        j += 1;
     }
+    ins
 }
 
 // n addresses, one after another.
@@ -50,78 +48,33 @@ fn put_span(code: &mut [u8], at: usize, a: usize, n: usize)
     requires { (at + 2 * n ≤ length code.old) × (a < address_limit) × (n ≤ value_limit) }
     ensures { code.new ≡ sets code.old at (all_bytes 2 (span a n)) }
 {
-    let mut j = 0;
-    while j < n {
+    for j in 0..n {
         put16(code, at + 2 * j, ((a + j) % ADDRESS_LIMIT) as u16);
-        j += 1;
     }
 }
 
-// The address that a pass writes for a location's.
-fn written(pass: Pass, place: &[u16], a: u16) -> u16
-    ensures { result ≡ relocate_by pass place.now a }
-{
-    match pass {
-        Pass::Survey => a,
-        Pass::Sequential => a,
-        Pass::Addressed => relocate(place, wide16(a)),
-    }
-}
-
-// The addresses of the output words of the function at position k, whose n output entries begin at `entries`.
+// The addresses of the output words, by the locations of the outputs and their entries, which begin at `entries`.
 pub fn put_outputs(
     pass: Pass,
     table: &[u8],
     entries: usize,
-    n: usize,
-    outs: &[u16; OUTPUT_LIMIT],
-    k: usize,
-    ins: &[u16; PORT_LIMIT],
-    first: usize,
+    cells: &[u16],
+    frame: Frame<'_>,
     place: &[u16],
     code: &mut [u8],
     at: usize,
 )
-    requires n_in_bounds { (entries + 4 * n ≤ length table.now) × (n ≤ port_limit) × (k < function_limit) × (first ≤ unit_bound) }
-    requires entries_in_bounds { at + 2 * widths (types_by 4 n table.now entries) ≤ length code.old }
+    requires n_in_bounds { (entries + 4 * length cells.now ≤ length table.now) × (length cells.now ≤ port_limit) × (frame.first ≤ unit_bound) }
+    requires entries_in_bounds { at + 2 * widths (types_by 4 (length cells.now) table.now entries) ≤ length code.old }
     ensures { code.new ≡ sets code.old at
-        (all_bytes 2 (spans (types_by 4 n table.now entries) (map (relocate_by pass place.now) (addresses_in outs.now ins.now first (port_limit * k) n)))) }
+        (all_bytes 2 (spans (types_by 4 (length cells.now) table.now entries) (map (relocate_by pass place.now) (map (address_of frame.entry.ins.now frame.entry.first) cells.now)))) }
 {
-    let mut q = entries;
     let mut here = at;
-    let mut j = 0;
-    while j < n {
-        let e = wide16(outs[PORT_LIMIT * k + j]);
-        let a = wide16(written(pass, place, address(ins, first, e)));
-        let w = ports::width(table[q]);
+    for (j, &e) in cells.iter().enumerate() {
+        let a = usize::from(written(pass, place, frame.address(e)));
+        let w = ports::width(table[entries + 4 * j]);
         put_span(code, here, a, w);
         here += 2 * w;
-        q += 4;
-        j += 1;
-    }
-}
-
-// The values of the n outputs of the function at position k have x.
-pub fn note_outputs(
-    n: usize,
-    outs: &[u16; OUTPUT_LIMIT],
-    k: usize,
-    ins: &[u16; PORT_LIMIT],
-    first: usize,
-    place: &mut [u16],
-    x: u16,
-)
-    requires { (n ≤ port_limit) × (k < function_limit) × (first ≤ unit_bound) }
-    ensures { place.new ≡ noted place.old x (addresses_in outs.now ins.now first (port_limit * k) n) }
-{
-    let mut j = 0;
-    while j < n {
-        let e = wide16(outs[PORT_LIMIT * k + j]);
-        let v = wide16(address(ins, first, e)) / NAME_STEP;
-        if v < place.len() {
-            place[v] = x;
-        }
-        j += 1;
     }
 }
 

@@ -1,4 +1,5 @@
-// A constant's words in the list, the lowest byte first. It is finite, so no float is tested for a NaN.
+// A constant's words in the list, the lowest byte first. It is finite, so no float is tested for a NaN. `Components::put` does not
+// serve here: it writes words of a memory, and these are bytes of a code.
 ghost use Rattle.std.specs.Prelude.{◌≡◌, ◌+◌, ◌*◌, ◌≤◌, length};
 ghost use Rattle.std.proofs.lemmas.List.Edits.{sets};
 ghost use Rattle.base.specs.Bytes.{bytes_of, all_bytes};

@@ -1,32 +1,32 @@
 // What the results of functions and nodes take: words in version 1, names in version 2.
-ghost use Rattle.std.specs.Prelude.{◌≡◌, ◌<◌, ◌^◌};
+ghost use Rattle.std.specs.Prelude.{◌≡◌, ◌≤◌, ◌^◌, ◌<◌, leb};
 ghost use Rattle.sums.specs.Capped.{plain_sums};
-ghost use Rattle.compiler.specs.Units as Units;
-ghost use Rattle.compiler.specs.Units.{units_in, held_limit};
+ghost use Rattle.compiler.specs.Units.{units_in, unit_limit};
 
 use super::NAME_STEP;
 use base::{OPERATION_LIMIT, WORD_LIMIT};
 use bytecode::Version;
 use ports::Ports;
+use sums::Sums;
 
-// The most that is held for a function that can be compiled: words, or instructions.
-pub fn held_limit(version: Version) -> usize
-    ensures { result ≡ held_limit version }
+// Whether a function of these sums is within the limit. Names are not multiplied here, so that any number may stand above it.
+pub fn fits(version: Version, sums: Sums) -> bool
+    ensures { result ≡ leb (units_in version sums) (unit_limit version) }
 {
     match version {
-        Version::V1 => WORD_LIMIT,
-        Version::V2 => OPERATION_LIMIT,
+        Version::V1 => sums.words <= WORD_LIMIT,
+        Version::V2 => sums.instructions <= OPERATION_LIMIT,
     }
 }
 
-// What is held, as words or as names.
-pub fn scaled(version: Version, n: usize) -> usize
-    requires { n < 2 ^ 32 }
-    ensures { result ≡ Units.scaled version n }
+// What a function of these sums takes, which is within the limit.
+pub fn units(version: Version, sums: Sums) -> usize
+    requires { units_in version sums ≤ unit_limit version }
+    ensures { result ≡ units_in version sums }
 {
     match version {
-        Version::V1 => n,
-        Version::V2 => NAME_STEP * n,
+        Version::V1 => sums.words,
+        Version::V2 => NAME_STEP * sums.instructions,
     }
 }
 
@@ -36,7 +36,7 @@ pub fn taken(version: Version, row: Ports, ty: u8) -> usize
     ensures bounded { result < 2 ^ 32 }
 {
     match version {
-        Version::V1 => ports::result_words(row, ty),
+        Version::V1 => row.result_words(ty),
         Version::V2 => NAME_STEP,
     }
 }

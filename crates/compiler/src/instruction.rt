@@ -1,5 +1,5 @@
 // One instruction: what a survey notes of it, and how it is written in version 1 and in version 2.
-ghost use Rattle.std.specs.Prelude.{◌≡◌, List, [], ◌∷◌, ℕ, suc, ◌+◌, ◌-◌, ◌/◌, ◌<◌, ◌≤◌, length, set};
+ghost use Rattle.std.specs.Prelude.{◌≡◌, List, [], ◌∷◌, ℕ, suc, ◌+◌, ◌-◌, ◌/◌, ◌<◌, ◌≤◌, length, map, set};
 ghost use Rattle.std.proofs.lemmas.List.Edits.{sets};
 ghost use Rattle.base.specs.Limits.{reference_limit};
 ghost use Rattle.base.specs.Bytes.{bytes_of};
@@ -11,12 +11,12 @@ ghost use Rattle.lowering.specs.Naming.{name_step, sizing};
 ghost use Rattle.bytecode.specs.declared.Version.TheVariants.{V1, V2};
 ghost use Rattle.compiler.specs.declared.Pass.TheVariants.{Survey, Sequential, Addressed};
 ghost use Rattle.compiler.specs.Units.{unit_bound};
-ghost use Rattle.compiler.specs.Emit.{addresses_in, CodeRoom, Walks};
+ghost use Rattle.compiler.specs.Emit.{address_of, CodeRoom, Walks};
 
-use super::addresses::{note_operands, operands, placed_operands, relocate};
+use super::addresses::{Frame, note_operands, operands, relocate};
 use super::constants::put_constant;
-use super::{NAME_STEP, Reached};
-use base::{PORT_LIMIT, REFERENCE_LIMIT, put16};
+use super::{NAME_STEP, Pass, Reached};
+use base::put16;
 use value::Value;
 
 // The number of the instruction behind the one whose result has this name, where m inputs come first.
@@ -50,65 +50,48 @@ fn put_addressed(code: &mut [u8], at: usize, kind: u8, ty: u8, res: u16) -> usiz
     at + 4
 }
 
-// A survey notes the readers of its n operands and the words of its result.
+// A survey notes the readers of its operands, which stand at these locations, and the words of its result.
 pub fn survey_instruction(
-    locations: &[u16; REFERENCE_LIMIT],
     kind: u8,
     ty: u8,
-    n: usize,
-    cell: usize,
-    ins: &[u16; PORT_LIMIT],
-    first: usize,
+    cells: &[u16],
+    frame: Frame<'_>,
     m: usize,
     place: &mut [u16],
     wide: &mut [u8],
-    at: usize,
-    next: usize,
+    from: Reached,
 ) -> Reached
-    requires { (first ≤ unit_bound) × (cell + n ≤ reference_limit) × (next ≤ unit_bound) }
-    ensures { ((code constants : List ℕ) → Walks Survey m code place.old wide.old code place.new wide.new at
-        (single (sizing V2) kind ty (addresses_in locations.now ins.now first cell n) constants next) result) × (result.cell ≡ cell + n) }
+    requires { (frame.first ≤ unit_bound) × (from.cell + length cells.now ≤ reference_limit) × (from.next ≤ unit_bound) }
+    ensures { ((code constants : List ℕ) → Walks Survey m code place.old wide.old code place.new wide.new from.at
+        (single (sizing V2) kind ty (map (address_of frame.entry.ins.now frame.entry.first) cells.now) constants from.next) result) × (result.cell ≡ from.cell + length cells.now) }
 {
-    let w = ports::result_words(ports::ports_of(kind), ty);
-    note_operands(
-        locations,
-        cell,
-        n,
-        ins,
-        first,
-        place,
-        reader_number(next, m),
-    );
-    note_width(wide, next, w);
+    let w = ports::ports_of(kind).result_words(ty);
+    note_operands(cells, frame, place, reader_number(from.next, m));
+    note_width(wide, from.next, w);
     Reached {
-        at,
-        next: next + NAME_STEP,
-        cell: cell + n,
+        at: from.at,
+        next: from.next + NAME_STEP,
+        cell: from.cell + cells.len(),
     }
 }
 
+// The versions differ in an instruction's head (no address in version 1, the result's in version 2) and in what the next result takes:
+// one function for both would be two arms around two shared lines.
+
 // The instruction of a constant in version 1.
-pub fn write_constant(
-    kind: u8,
-    ty: u8,
-    v: Value,
-    cell: usize,
-    code: &mut [u8],
-    at: usize,
-    next: usize,
-) -> Reached
-    requires { CodeRoom Sequential code.old [] at next (single (sizing V1) kind ty [] (words_of v) next) × Each Finite (words_of v) }
-    ensures { ((m : ℕ) (place wide : List ℕ) → Walks Sequential m code.old place wide code.new place wide at
-        (single (sizing V1) kind ty [] (words_of v) next) result) × (result.cell ≡ cell) }
+pub fn write_constant(kind: u8, ty: u8, v: Value, code: &mut [u8], from: Reached) -> Reached
+    requires { CodeRoom Sequential code.old [] from.at from.next (single (sizing V1) kind ty [] (words_of v) from.next) × Each Finite (words_of v) }
+    ensures { ((m : ℕ) (place wide : List ℕ) → Walks Sequential m code.old place wide code.new place wide from.at
+        (single (sizing V1) kind ty [] (words_of v) from.next) result) × (result.cell ≡ from.cell) }
 {
-    let w = ports::result_words(ports::ports_of(kind), ty);
-    code[at] = kind;
-    code[at + 1] = ty;
-    let end = put_constant(code, at + 2, v);
+    let w = ports::ports_of(kind).result_words(ty);
+    code[from.at] = kind;
+    code[from.at + 1] = ty;
+    let end = put_constant(code, from.at + 2, v);
     Reached {
         at: end,
-        next: next + w,
-        cell,
+        next: from.next + w,
+        cell: from.cell,
     }
 }
 
@@ -117,78 +100,68 @@ pub fn place_constant(
     kind: u8,
     ty: u8,
     v: Value,
-    cell: usize,
     place: &[u16],
     code: &mut [u8],
-    at: usize,
-    next: usize,
+    from: Reached,
 ) -> Reached
-    requires { CodeRoom Addressed code.old place.now at next (single (sizing V2) kind ty [] (words_of v) next) × Each Finite (words_of v) }
-    ensures { ((m : ℕ) (wide : List ℕ) → Walks Addressed m code.old place.now wide code.new place.now wide at
-        (single (sizing V2) kind ty [] (words_of v) next) result) × (result.cell ≡ cell) }
+    requires { CodeRoom Addressed code.old place.now from.at from.next (single (sizing V2) kind ty [] (words_of v) from.next) × Each Finite (words_of v) }
+    ensures { ((m : ℕ) (wide : List ℕ) → Walks Addressed m code.old place.now wide code.new place.now wide from.at
+        (single (sizing V2) kind ty [] (words_of v) from.next) result) × (result.cell ≡ from.cell) }
 {
-    let from = put_addressed(code, at, kind, ty, relocate(place, next));
-    let end = put_constant(code, from, v);
+    let start = put_addressed(code, from.at, kind, ty, relocate(place, from.next));
+    let end = put_constant(code, start, v);
     Reached {
         at: end,
-        next: next + NAME_STEP,
-        cell,
+        next: from.next + NAME_STEP,
+        cell: from.cell,
     }
 }
 
-// The instruction of a node that reads n values, in version 1.
+// The instruction of a node that reads the values at these locations, in version 1.
 pub fn write_operation(
-    locations: &[u16; REFERENCE_LIMIT],
     kind: u8,
     ty: u8,
-    n: usize,
-    cell: usize,
-    ins: &[u16; PORT_LIMIT],
-    first: usize,
+    cells: &[u16],
+    frame: Frame<'_>,
     code: &mut [u8],
-    at: usize,
-    next: usize,
+    from: Reached,
 ) -> Reached
-    requires first_le_unit_bound { (first ≤ unit_bound) × (cell + n ≤ reference_limit) }
-    requires code_room { CodeRoom Sequential code.old [] at next (single (sizing V1) kind ty (addresses_in locations.now ins.now first cell n) [] next) }
-    ensures { ((m : ℕ) (place wide : List ℕ) → Walks Sequential m code.old place wide code.new place wide at
-        (single (sizing V1) kind ty (addresses_in locations.now ins.now first cell n) [] next) result) × (result.cell ≡ cell + n) }
+    requires first_le_unit_bound { (frame.first ≤ unit_bound) × (from.cell + length cells.now ≤ reference_limit) }
+    requires code_room { CodeRoom Sequential code.old [] from.at from.next (single (sizing V1) kind ty (map (address_of frame.ins.now frame.first) cells.now) [] from.next) }
+    ensures { ((m : ℕ) (place wide : List ℕ) → Walks Sequential m code.old place wide code.new place wide from.at
+        (single (sizing V1) kind ty (map (address_of frame.entry.ins.now frame.entry.first) cells.now) [] from.next) result) × (result.cell ≡ from.cell + length cells.now) }
 {
-    let w = ports::result_words(ports::ports_of(kind), ty);
-    code[at] = kind;
-    code[at + 1] = ty;
-    operands(locations, cell, n, ins, first, code, at + 2);
+    let w = ports::ports_of(kind).result_words(ty);
+    code[from.at] = kind;
+    code[from.at + 1] = ty;
+    operands(Pass::Sequential, cells, frame, &[], code, from.at + 2);
     Reached {
-        at: at + 2 + 2 * n,
-        next: next + w,
-        cell: cell + n,
+        at: from.at + 2 + 2 * cells.len(),
+        next: from.next + w,
+        cell: from.cell + cells.len(),
     }
 }
 
 // In version 2.
 pub fn place_operation(
-    locations: &[u16; REFERENCE_LIMIT],
     kind: u8,
     ty: u8,
-    n: usize,
-    cell: usize,
-    ins: &[u16; PORT_LIMIT],
-    first: usize,
+    cells: &[u16],
+    frame: Frame<'_>,
     place: &[u16],
     code: &mut [u8],
-    at: usize,
-    next: usize,
+    from: Reached,
 ) -> Reached
-    requires first_le_unit_bound { (first ≤ unit_bound) × (cell + n ≤ reference_limit) }
-    requires code_room { CodeRoom Addressed code.old place.now at next (single (sizing V2) kind ty (addresses_in locations.now ins.now first cell n) [] next) }
-    ensures { ((m : ℕ) (wide : List ℕ) → Walks Addressed m code.old place.now wide code.new place.now wide at
-        (single (sizing V2) kind ty (addresses_in locations.now ins.now first cell n) [] next) result) × (result.cell ≡ cell + n) }
+    requires first_le_unit_bound { (frame.first ≤ unit_bound) × (from.cell + length cells.now ≤ reference_limit) }
+    requires code_room { CodeRoom Addressed code.old place.now from.at from.next (single (sizing V2) kind ty (map (address_of frame.ins.now frame.first) cells.now) [] from.next) }
+    ensures { ((m : ℕ) (wide : List ℕ) → Walks Addressed m code.old place.now wide code.new place.now wide from.at
+        (single (sizing V2) kind ty (map (address_of frame.entry.ins.now frame.entry.first) cells.now) [] from.next) result) × (result.cell ≡ from.cell + length cells.now) }
 {
-    let from = put_addressed(code, at, kind, ty, relocate(place, next));
-    placed_operands(locations, cell, n, ins, first, place, code, from);
+    let start = put_addressed(code, from.at, kind, ty, relocate(place, from.next));
+    operands(Pass::Addressed, cells, frame, place, code, start);
     Reached {
-        at: from + 2 * n,
-        next: next + NAME_STEP,
-        cell: cell + n,
+        at: start + 2 * cells.len(),
+        next: from.next + NAME_STEP,
+        cell: from.cell + cells.len(),
     }
 }

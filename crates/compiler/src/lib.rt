@@ -1,30 +1,26 @@
 // The compiler: from a table and a function to the board list.
 #![tactic(auto)]
 
-ghost use Rattle.std.specs.Prelude.{◌≡◌, suc, ◌≤◌, length, replicate};
+ghost use Rattle.std.specs.Prelude.{◌≡◌, suc, Some, ◌≤◌, length, replicate};
 ghost use Rattle.std.proofs.lemmas.List.Edits.{sets};
 ghost use Rattle.base.specs.Limits.{function_limit, placed_limit, port_limit, reference_limit, word_limit};
+ghost use Rattle.compiler.specs.Sizes.{order_limit, output_limit};
 ghost use Rattle.bytecode.specs.declared.Version.TheVariants.{V1, V2};
 ghost use Rattle.bytecode.specs.Code.{encode};
-ghost use Rattle.placement.specs.declared.Extent.TheVariants.{Words};
-ghost use Rattle.sums.specs.Capped.{WordsHeld, CountsHeld};
 ghost use Rattle.bytecode.specs.Version.{number};
 ghost use Rattle.sums.specs.Position.{Accepted, Started};
-ghost use Rattle.compiler.specs.Sizes.{order_limit, output_limit};
-ghost use Rattle.compiler.specs.Units.{AllHeld};
 ghost use Rattle.compiler.specs.Emit.{naming_of};
+ghost use Rattle.compiler.specs.Units.{AllHeld};
 ghost use Rattle.compiler.specs.Whole.{code_at, first_behind, text_of, Measured, Prepared, source_at, reused_at, LaidOut};
 
-use allocate::{allocate_functions, allocate_next};
+use addresses::Frame;
+use allocate::Functions;
 use assemble::{input_names, input_places, put_header, put_outputs};
-use base::{
-    FUNCTION_LIMIT, HEADER_LENGTH, NODE_LIMIT, PLACED_LIMIT, PORT_LIMIT, REFERENCE_LIMIT, wide,
-};
+use base::{FUNCTION_LIMIT, HEADER_LENGTH, NODE_LIMIT, PLACED_LIMIT, PORT_LIMIT, REFERENCE_LIMIT};
 use bytecode::Version;
 use placed::place;
-use placement::Extent;
-use sums::Sizes;
-use walk::walk;
+use sums::{Sizes, Sums};
+use walk::Walk;
 
 mod addresses;
 mod allocate;
@@ -50,12 +46,36 @@ const NAME_STEP: usize = 4;
 // ---- what functions answer
 
 // What a walk over the instructions does with each: note who reads a value last and how wide it is, or write it, in version 1
-// or 2.
+// or 2. It is an enum, as the theorems go by its values in `bytes_by`, `notes_by` and `Walks` of `specs/Emit.antt`; as a type
+// parameter it would have the recursion of `Walk` stand three times in the library.
 #[derive(Clone, Copy)]
 pub enum Pass {
     Survey,
     Sequential,
     Addressed,
+}
+
+impl Pass {
+    // The number of the version that is written.
+    fn version_number(self) -> u8
+        ensures { result ≡ number (naming_of self) }
+    {
+        match self {
+            Pass::Sequential => 1,
+            Pass::Survey | Pass::Addressed => 2,
+        }
+    }
+
+    // The first address behind n inputs of so many words.
+    fn first_behind(self, words: usize, n: usize) -> usize
+        requires { n ≤ port_limit }
+        ensures { result ≡ first_behind (naming_of self) words n }
+    {
+        match self {
+            Pass::Sequential => words,
+            Pass::Survey | Pass::Addressed => NAME_STEP * n,
+        }
+    }
 }
 
 // The byte behind what was written, the next address, and the location behind those that were read.
@@ -66,236 +86,190 @@ pub struct Reached {
     pub cell: usize,
 }
 
+// The function that is compiled, at position k of an accepted table, and its sizes.
+#[derive(Clone, Copy)]
+struct Chosen<'a> {
+    table: &'a [u8],
+    starts: &'a [usize; FUNCTION_LIMIT],
+    k: usize,
+    sizes: Sizes,
+}
+
+// What is found out before anything is written, in arrays for all functions up to the one that is compiled.
+#[derive(Drop)]
+pub struct Layout {
+    // The locations of the outputs.
+    pub outs: [u16; OUTPUT_LIMIT],
+    // The places of the nodes, in their order.
+    pub order: [u16; ORDER_LIMIT],
+    // The locations of what the nodes read, and where those of a function begin.
+    pub locations: [u16; REFERENCE_LIMIT],
+    pub begins: [u16; FUNCTION_LIMIT],
+    // The addresses of the inputs of the function that is compiled.
+    pub ins: [u16; PORT_LIMIT],
+}
+
+impl Layout {
+    // With nothing in it, to be filled by `prepare`.
+    pub fn new() -> Layout
+        ensures { (result.outs ≡ replicate output_limit 0) × (result.order ≡ replicate order_limit 0) × (result.locations ≡ replicate reference_limit 0) × (result.begins ≡ replicate function_limit 0) × (result.ins ≡ replicate port_limit 0) }
+    {
+        Layout {
+            outs: [0; OUTPUT_LIMIT],
+            order: [0; ORDER_LIMIT],
+            locations: [0; REFERENCE_LIMIT],
+            begins: [0; FUNCTION_LIMIT],
+            ins: [0; PORT_LIMIT],
+        }
+    }
+}
+
 // ---- the whole
 
-// The number of the version that a pass writes.
-fn version_number(pass: Pass) -> u8
-    ensures { result ≡ number (naming_of pass) }
-{
-    match pass {
-        Pass::Survey => 2,
-        Pass::Sequential => 1,
-        Pass::Addressed => 2,
-    }
-}
-
-// The first address behind n inputs of so many words.
-fn first_behind(pass: Pass, words: usize, n: usize) -> usize
-    requires { n ≤ port_limit }
-    ensures { result ≡ first_behind (naming_of pass) words n }
-{
-    match pass {
-        Pass::Survey => NAME_STEP * n,
-        Pass::Sequential => words,
-        Pass::Addressed => NAME_STEP * n,
-    }
-}
-
 // Before anything is written: the locations of all functions up to position k of an accepted table, and the addresses of its
-// inputs. `held` has the words of these functions, or in version 2 their instructions.
+// inputs. `sums` has the words of these functions, or in version 2 their instructions.
 pub fn prepare(
     version: Version,
     table: &[u8],
     starts: &[usize; FUNCTION_LIMIT],
-    held: &[u32; FUNCTION_LIMIT],
+    sums: &[Sums; FUNCTION_LIMIT],
     k: usize,
-    outs: &mut [u16; OUTPUT_LIMIT],
-    order: &mut [u16; ORDER_LIMIT],
-    locations: &mut [u16; REFERENCE_LIMIT],
-    begins: &mut [u16; FUNCTION_LIMIT],
-    ins: &mut [u16; PORT_LIMIT],
+    layout: &mut Layout,
 )
-    requires accepted { Accepted table.now (suc k) × Started table.now starts.now (suc k) × AllHeld version table.now held.now (suc k) }
-    requires outs_len { (length outs.old ≡ output_limit) × (length order.old ≡ order_limit) × (length locations.old ≡ reference_limit) × (length begins.old ≡ function_limit) × (ins.old ≡ replicate port_limit 0) }
-    ensures { Prepared version table.now k outs.new order.new locations.new begins.new ins.new }
+    requires accepted { Accepted table.now (suc k) × Started table.now starts.now (suc k) × AllHeld version table.now sums.now (suc k) }
+    ensures { Prepared version table.now k layout.new }
 {
+    let functions = Functions {
+        version,
+        table,
+        starts,
+        sums,
+    };
     let p = starts[k];
-    let n = wide(table[p + 2]);
-    let cell = allocate_functions(
-        table, starts, version, held, k, outs, order, locations, begins,
-    );
-    allocate_next(
-        table, starts, version, held, k, outs, order, locations, begins, cell,
-    );
-    match version {
-        Version::V1 => input_places(table, p + 6, n, ins),
-        Version::V2 => input_names(n, ins),
-    }
+    let n = usize::from(table[p + 2]);
+    functions.allocate(k + 1, layout);
+    layout.ins = match version {
+        Version::V1 => input_places(table, p + 6, n),
+        Version::V2 => input_names(n),
+    };
 }
 
 // Writes the list: header, instructions and output words.
 fn write(
     pass: Pass,
-    table: &[u8],
-    starts: &[usize; FUNCTION_LIMIT],
-    k: usize,
-    sizes: Sizes,
+    chosen: Chosen<'_>,
     words: usize,
-    outs: &[u16; OUTPUT_LIMIT],
-    order: &[u16; ORDER_LIMIT],
-    locations: &[u16; REFERENCE_LIMIT],
-    begins: &[u16; FUNCTION_LIMIT],
-    ins: &[u16; PORT_LIMIT],
+    layout: &Layout,
     place: &mut [u16],
-    widths: &mut [u8],
     code: &mut [u8],
 )
-    requires accepted { Accepted table.now (suc k) × Started table.now starts.now (suc k) × Prepared (naming_of pass) table.now k outs.now order.now locations.now begins.now ins.now }
-    requires measured { Measured (naming_of pass) table.now k sizes.instructions sizes.arguments sizes.outputs × (words ≤ word_limit) × (length (text_of pass place.old table.now k words) ≤ length code.old) }
-    ensures { code.new ≡ sets code.old 0 (text_of pass place.old table.now k words) }
+    requires accepted { Accepted chosen.table.now (suc chosen.k) × Started chosen.table.now chosen.starts.now (suc chosen.k) × Prepared (naming_of pass) chosen.table.now chosen.k layout.now }
+    requires measured { Measured (naming_of pass) chosen.table.now chosen.k chosen.sizes.instructions chosen.sizes.arguments chosen.sizes.outputs × (words ≤ word_limit) × (length (text_of pass place.old chosen.table.now chosen.k words) ≤ length code.old) }
+    ensures { code.new ≡ sets code.old 0 (text_of pass place.old chosen.entry.table.now chosen.entry.k words) }
 {
+    let Chosen {
+        table,
+        starts,
+        k,
+        sizes,
+    } = chosen;
     let p = starts[k];
-    let input_count = wide(table[p + 2]);
-    let output_count = wide(table[p + 3]);
-    let first = first_behind(pass, sizes.arguments, input_count);
+    let inputs = usize::from(table[p + 2]);
+    let outputs = usize::from(table[p + 3]);
+    let first = pass.first_behind(sizes.arguments, inputs);
     put_header(
         code,
-        version_number(pass),
+        pass.version_number(),
         sizes.arguments as u8,
         sizes.outputs as u8,
         sizes.instructions as u16,
         words as u16,
     );
-    let r = walk(
+    let walk = Walk {
         pass,
         table,
         starts,
-        begins,
-        order,
-        locations,
-        k,
-        ins,
-        input_count,
-        code,
-        place,
-        widths,
-        HEADER_LENGTH,
-        first,
-    );
-    put_outputs(
-        pass,
-        table,
-        p + 6 + input_count,
-        output_count,
-        outs,
-        k,
-        ins,
-        first,
-        place,
-        code,
-        r.at,
-    );
+        layout,
+        inputs,
+    };
+    let ins = &layout.ins;
+    let r = walk.function(k, ins, code, place, &mut [], HEADER_LENGTH, first);
+    let outs = &layout.outs[..];
+    let cells = &outs[PORT_LIMIT * k..PORT_LIMIT * k + outputs];
+    let frame = Frame { ins, first };
+    put_outputs(pass, table, p + 6 + inputs, cells, frame, place, code, r.at);
 }
 
-// ---- the entry points
+// ---- the entry points. `table`, `starts`, `sums`, `k` and `sizes` stay parts: callers have them so, and a struct would ask more.
 
 // Writes the list of version 1 of the function at position k of an accepted table, which was found to be within the limits
-// and to fit the buffer. `words` has those of the functions up to it.
+// and to fit the buffer. `sums` has the words of the functions up to it. Inlined, so that an evaluation has one frame with the
+// arrays and not two.
+#[inline(always)]
 pub fn compile(
     table: &[u8],
     starts: &[usize; FUNCTION_LIMIT],
-    words: &[u32; FUNCTION_LIMIT],
+    sums: &[Sums; FUNCTION_LIMIT],
     k: usize,
     sizes: Sizes,
     code: &mut [u8],
 )
-    requires accepted { Accepted table.now (suc k) × Started table.now starts.now (suc k) × WordsHeld table.now words.now (suc k) }
+    requires accepted { Accepted table.now (suc k) × Started table.now starts.now (suc k) × AllHeld V1 table.now sums.now (suc k) }
     requires measured { Measured V1 table.now k sizes.instructions sizes.arguments sizes.outputs × (sizes.words ≡ (source_at table.now k).words) × (sizes.words ≤ word_limit) × (length (code_at table.now k) ≤ length code.old) }
     ensures { code.new ≡ sets code.old 0 (code_at table.now k) }
 {
-    let mut order = [0u16; ORDER_LIMIT];
-    let mut locations = [0u16; REFERENCE_LIMIT];
-    let mut outs = [0u16; OUTPUT_LIMIT];
-    let mut begins = [0u16; FUNCTION_LIMIT];
-    let mut ins = [0u16; PORT_LIMIT];
-    prepare(
-        Version::V1,
-        table,
-        starts,
-        words,
-        k,
-        &mut outs,
-        &mut order,
-        &mut locations,
-        &mut begins,
-        &mut ins,
-    );
-    compile_prepared(
-        table, starts, k, sizes, &outs, &order, &locations, &begins, &ins, code,
-    );
+    let mut layout = Layout::new();
+    prepare(Version::V1, table, starts, sums, k, &mut layout);
+    compile_prepared(table, starts, k, sizes, &layout, code);
 }
 
-// The same where the list was prepared: in arrays that are lent, which the caller may use again.
+// The same where the list was prepared: in a layout that is lent, whose arrays the caller may use again.
 pub fn compile_prepared(
     table: &[u8],
     starts: &[usize; FUNCTION_LIMIT],
     k: usize,
     sizes: Sizes,
-    outs: &[u16; OUTPUT_LIMIT],
-    order: &[u16; ORDER_LIMIT],
-    locations: &[u16; REFERENCE_LIMIT],
-    begins: &[u16; FUNCTION_LIMIT],
-    ins: &[u16; PORT_LIMIT],
+    layout: &Layout,
     code: &mut [u8],
 )
-    requires accepted { Accepted table.now (suc k) × Started table.now starts.now (suc k) × Prepared V1 table.now k outs.now order.now locations.now begins.now ins.now }
+    requires accepted { Accepted table.now (suc k) × Started table.now starts.now (suc k) × Prepared V1 table.now k layout.now }
     requires measured { Measured V1 table.now k sizes.instructions sizes.arguments sizes.outputs × (sizes.words ≡ (source_at table.now k).words) × (sizes.words ≤ word_limit) × (length (code_at table.now k) ≤ length code.old) }
     ensures { code.new ≡ sets code.old 0 (code_at table.now k) }
 {
-    let mut no_places = [0u16; 1];
-    let mut no_widths = [0u8; 1];
-    write(
-        Pass::Sequential,
+    let chosen = Chosen {
         table,
         starts,
         k,
         sizes,
-        sizes.words,
-        outs,
-        order,
-        locations,
-        begins,
-        ins,
-        &mut no_places[0..0],
-        &mut no_widths[0..0],
-        code,
-    );
+    };
+    write(Pass::Sequential, chosen, sizes.words, layout, &mut [], code);
 }
 
 // Version 2, before anything is written: the words of the list of the function at position k, unless they pass the limit.
-// `counts` has the instructions of the functions up to it; what the writing needs is left in the arrays.
+// `sums` has the instructions of the functions up to it; what the writing needs is left in the layout and in `places`.
 pub fn lay_out(
     table: &[u8],
     starts: &[usize; FUNCTION_LIMIT],
-    counts: &[u32; FUNCTION_LIMIT],
+    sums: &[Sums; FUNCTION_LIMIT],
     k: usize,
     sizes: Sizes,
-    outs: &mut [u16; OUTPUT_LIMIT],
-    order: &mut [u16; ORDER_LIMIT],
-    locations: &mut [u16; REFERENCE_LIMIT],
-    begins: &mut [u16; FUNCTION_LIMIT],
-    ins: &mut [u16; PORT_LIMIT],
+    layout: &mut Layout,
     places: &mut [u16; PLACED_LIMIT],
-) -> Extent
-    requires accepted { Accepted table.now (suc k) × Started table.now starts.now (suc k) × CountsHeld table.now counts.now (suc k) }
-    requires measured { Measured V2 table.now k sizes.instructions sizes.arguments sizes.outputs }
-    requires outs_len { (length outs.old ≡ output_limit) × (length order.old ≡ order_limit) × (length locations.old ≡ reference_limit) × (length begins.old ≡ function_limit) × (ins.old ≡ replicate port_limit 0) × (places.old ≡ replicate placed_limit 0) }
-    ensures { LaidOut table.now k outs.new order.new locations.new begins.new ins.new places.new result }
+) -> Option<usize>
+    requires accepted { Accepted table.now (suc k) × Started table.now starts.now (suc k) × AllHeld V2 table.now sums.now (suc k) }
+    requires measured { Measured V2 table.now k sizes.instructions sizes.arguments sizes.outputs × (places.old ≡ replicate placed_limit 0) }
+    ensures { LaidOut table.now k layout.new places.new result }
 {
-    prepare(
-        Version::V2,
-        table,
-        starts,
-        counts,
-        k,
-        outs,
-        order,
-        locations,
-        begins,
-        ins,
-    );
+    prepare(Version::V2, table, starts, sums, k, layout);
     place(
-        table, starts, k, sizes, outs, order, locations, begins, ins, places,
+        Chosen {
+            table,
+            starts,
+            k,
+            sizes,
+        },
+        layout,
+        places,
     )
 }
 
@@ -306,33 +280,26 @@ pub fn compile_placed(
     k: usize,
     sizes: Sizes,
     words: usize,
-    outs: &[u16; OUTPUT_LIMIT],
-    order: &[u16; ORDER_LIMIT],
-    locations: &[u16; REFERENCE_LIMIT],
-    begins: &[u16; FUNCTION_LIMIT],
-    ins: &[u16; PORT_LIMIT],
+    layout: &Layout,
     places: &mut [u16; PLACED_LIMIT],
     code: &mut [u8],
 )
-    requires accepted { Accepted table.now (suc k) × Started table.now starts.now (suc k) × LaidOut table.now k outs.now order.now locations.now begins.now ins.now places.old (Words words) }
+    requires accepted { Accepted table.now (suc k) × Started table.now starts.now (suc k) × LaidOut table.now k layout.now places.old (Some words) }
     requires measured { Measured V2 table.now k sizes.instructions sizes.arguments sizes.outputs × (words ≤ word_limit) × (length (encode V2 (reused_at table.now k)) ≤ length code.old) }
     ensures { code.new ≡ sets code.old 0 (encode V2 (reused_at table.now k)) }
 {
-    let mut no_widths = [0u8; 1];
-    write(
-        Pass::Addressed,
+    let chosen = Chosen {
         table,
         starts,
         k,
         sizes,
+    };
+    write(
+        Pass::Addressed,
+        chosen,
         words,
-        outs,
-        order,
-        locations,
-        begins,
-        ins,
+        layout,
         &mut places[..],
-        &mut no_widths[0..0],
         code,
     );
 }

@@ -1,4 +1,5 @@
-// One location: of a port in its function, and of a callee's result seen from its caller.
+// One location: of a port in its function, and of a callee's result seen from its caller. It is a number, an input below `PORT_LIMIT`
+// and an offset from there on, as it stands in `u16` arrays of fixed size that are lent.
 ghost use Rattle.std.specs.Prelude.{◌≡◌, ◌+◌, ◌<◌, ◌≤◌};
 ghost use Rattle.base.specs.Limits.{reference_limit, address_limit};
 ghost use Rattle.compiler.specs.Locating.{port_code, rebased_code};

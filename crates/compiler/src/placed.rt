@@ -8,108 +8,74 @@ ghost use Rattle.sums.specs.Answers.{types_by};
 ghost use Rattle.sums.specs.Position.{Accepted, Started};
 ghost use Rattle.compiler.specs.Whole.{Measured, Prepared, Surveyed, Places};
 
-use super::assemble::note_outputs;
-use super::walk::walk;
-use super::{NAME_STEP, ORDER_LIMIT, OUTPUT_LIMIT, Pass};
-use base::{FUNCTION_LIMIT, PLACED_LIMIT, PORT_LIMIT, REFERENCE_LIMIT, WORD_LIMIT, wide};
-use placement::Extent;
-use sums::Sizes;
+use super::addresses::{Frame, note_operands};
+use super::walk::Walk;
+use super::{Chosen, Layout, NAME_STEP, Pass};
+use base::{PLACED_LIMIT, PORT_LIMIT, WORD_LIMIT};
 
 // The widths of n inputs, by their type bytes.
 fn input_widths(table: &[u8], at: usize, n: usize, widths: &mut [u8; PLACED_LIMIT])
     requires { (at + n ≤ length table.now) × (n ≤ port_limit) }
     ensures { widths.new ≡ sets widths.old 0 (map width (types_by 1 n table.now at)) }
 {
-    let mut j = 0;
-    while j < n {
+    for j in 0..n {
         widths[j] = ports::width(table[at + j]) as u8;
-        j += 1;
     }
 }
 
-// The width of each value of the function at position k, and in `place` the instruction before which it is no longer held.
+// The width of each value of the chosen function, and in `place` the instruction before which it is no longer held.
 fn survey(
-    table: &[u8],
-    starts: &[usize; FUNCTION_LIMIT],
-    k: usize,
-    sizes: Sizes,
-    outs: &[u16; OUTPUT_LIMIT],
-    order: &[u16; ORDER_LIMIT],
-    locations: &[u16; REFERENCE_LIMIT],
-    begins: &[u16; FUNCTION_LIMIT],
-    ins: &[u16; PORT_LIMIT],
+    chosen: Chosen<'_>,
+    layout: &Layout,
     place: &mut [u16; PLACED_LIMIT],
     widths: &mut [u8; PLACED_LIMIT],
 )
-    requires accepted { Accepted table.now (suc k) × Started table.now starts.now (suc k) × Prepared V2 table.now k outs.now order.now locations.now begins.now ins.now }
-    requires measured { Measured V2 table.now k sizes.instructions sizes.arguments sizes.outputs × (place.old ≡ replicate placed_limit 0) × (widths.old ≡ replicate placed_limit 0) }
-    ensures { Surveyed table.now k place.new widths.new }
+    requires accepted { Accepted chosen.table.now (suc chosen.k) × Started chosen.table.now chosen.starts.now (suc chosen.k) × Prepared V2 chosen.table.now chosen.k layout.now }
+    requires measured { Measured V2 chosen.table.now chosen.k chosen.sizes.instructions chosen.sizes.arguments chosen.sizes.outputs × (place.old ≡ replicate placed_limit 0) × (widths.old ≡ replicate placed_limit 0) }
+    ensures { Surveyed chosen.entry.table.now chosen.entry.k place.new widths.new }
 {
-    let p = starts[k];
-    let input_count = wide(table[p + 2]);
-    let output_count = wide(table[p + 3]);
-    let first = NAME_STEP * input_count;
-    let mut no_code = [0u8; 1];
-    input_widths(table, p + 6, input_count, widths);
-    walk(
-        Pass::Survey,
-        table,
-        starts,
-        begins,
-        order,
-        locations,
-        k,
-        ins,
-        input_count,
-        &mut no_code[0..0],
-        &mut place[..],
-        &mut widths[..],
-        0,
-        first,
-    );
-    note_outputs(
-        output_count,
-        outs,
-        k,
-        ins,
-        first,
-        &mut place[..],
-        (sizes.instructions + 1) as u16,
-    );
-}
-
-// The places of the values of the function at position k: the words of its list of version 2, unless they pass the limit.
-pub fn place(
-    table: &[u8],
-    starts: &[usize; FUNCTION_LIMIT],
-    k: usize,
-    sizes: Sizes,
-    outs: &[u16; OUTPUT_LIMIT],
-    order: &[u16; ORDER_LIMIT],
-    locations: &[u16; REFERENCE_LIMIT],
-    begins: &[u16; FUNCTION_LIMIT],
-    ins: &[u16; PORT_LIMIT],
-    place: &mut [u16; PLACED_LIMIT],
-) -> Extent
-    requires accepted { Accepted table.now (suc k) × Started table.now starts.now (suc k) × Prepared V2 table.now k outs.now order.now locations.now begins.now ins.now }
-    requires measured { Measured V2 table.now k sizes.instructions sizes.arguments sizes.outputs × (place.old ≡ replicate placed_limit 0) }
-    ensures { Places table.now k place.new result }
-{
-    let mut widths = [0u8; PLACED_LIMIT];
-    let mut until = [0u16; WORD_LIMIT];
-    let m = wide(table[starts[k] + 2]);
-    survey(
+    let Chosen {
         table,
         starts,
         k,
         sizes,
-        outs,
-        order,
-        locations,
-        begins,
-        ins,
-        place,
-        &mut widths,
-    );
+    } = chosen;
+    let p = starts[k];
+    let inputs = usize::from(table[p + 2]);
+    let outputs = usize::from(table[p + 3]);
+    let first = NAME_STEP * inputs;
+    input_widths(table, p + 6, inputs, widths);
+    let pass = Pass::Survey;
+    let walk = Walk {
+        pass,
+        table,
+        starts,
+        layout,
+        inputs,
+    };
+    let ins = &layout.ins;
+    walk.function(k, ins, &mut [], &mut place[..], &mut widths[..], 0, first);
+    let outs = &layout.outs[..];
+    let cells = &outs[PORT_LIMIT * k..PORT_LIMIT * k + outputs];
+    let end = (sizes.instructions + 1) as u16;
+    note_operands(cells, Frame { ins, first }, &mut place[..], end);
+}
+
+// The places of the values of the chosen function: the words of its list of version 2, unless they pass the limit.
+pub fn place(chosen: Chosen<'_>, layout: &Layout, place: &mut [u16; PLACED_LIMIT]) -> Option<usize>
+    requires accepted { Accepted chosen.table.now (suc chosen.k) × Started chosen.table.now chosen.starts.now (suc chosen.k) × Prepared V2 chosen.table.now chosen.k layout.now }
+    requires measured { Measured V2 chosen.table.now chosen.k chosen.sizes.instructions chosen.sizes.arguments chosen.sizes.outputs × (place.old ≡ replicate placed_limit 0) }
+    ensures { Places chosen.entry.table.now chosen.entry.k place.new result }
+{
+    let mut widths = [0u8; PLACED_LIMIT];
+    let mut until = [0u16; WORD_LIMIT];
+    let Chosen {
+        table,
+        starts,
+        k,
+        sizes,
+    } = chosen;
+    let m = usize::from(table[starts[k] + 2]);
+    survey(chosen, layout, place, &mut widths);
     placement::place_all(&widths, m, sizes.instructions, &mut until, place)
 }

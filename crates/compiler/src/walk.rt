@@ -1,7 +1,8 @@
 // A walk over the instructions of a function, each call opened where it stands. It comes by them in the order of the list,
 // and does with each what its pass says.
-ghost use Rattle.std.specs.Prelude.{◌≡◌, [], suc, ◌+◌, ◌<◌, ◌≤◌, length};
+ghost use Rattle.std.specs.Prelude.{◌≡◌, [], suc, ◌+◌, ◌<◌, ◌≤◌, length, map};
 ghost use Rattle.base.specs.Limits.{function_limit, reference_limit};
+ghost use Rattle.base.specs.Bytes.{Bytes};
 ghost use Rattle.base.specs.Lists.{Each};
 ghost use Rattle.value.specs.Values.{words_of};
 ghost use Rattle.value.specs.Typed.{Finite};
@@ -12,206 +13,152 @@ ghost use Rattle.sums.specs.Position.{Started};
 ghost use Rattle.lowering.specs.Compile.{single};
 ghost use Rattle.lowering.specs.Naming.{sizing};
 ghost use Rattle.compiler.specs.Units.{unit_bound};
-ghost use Rattle.compiler.specs.Emit.{addresses_in, naming_of, node_inlined, function_inlined, CodeRoom, Walks, AllAllocated};
+ghost use Rattle.compiler.specs.Emit.{address_of, naming_of, node_inlined, function_inlined, CodeRoom, Walks, AllAllocated};
 
-use super::addresses::arguments;
+use super::addresses::{Frame, arguments};
 use super::instruction::{
     place_constant, place_operation, survey_instruction, write_constant, write_operation,
 };
-use super::{ORDER_LIMIT, Pass, Reached};
-use base::{FUNCTION_LIMIT, NODE_LIMIT, PORT_LIMIT, REFERENCE_LIMIT, u16_at, wide16};
+use super::{Layout, Pass, Reached};
+use base::{FUNCTION_LIMIT, NODE_LIMIT, PORT_LIMIT, u16_at};
 use reader::Payload;
 use value::Value;
 
-// The instruction of a constant.
-fn walk_constant(
-    pass: Pass,
-    locations: &[u16; REFERENCE_LIMIT],
-    kind: u8,
-    ty: u8,
-    v: Value,
-    cell: usize,
-    ins: &[u16; PORT_LIMIT],
-    first: usize,
-    m: usize,
-    code: &mut [u8],
-    place: &mut [u16],
-    wide: &mut [u8],
-    at: usize,
-    next: usize,
-) -> Reached
-    requires first_le_unit_bound { (first ≤ unit_bound) × (cell ≤ reference_limit) }
-    requires code_room { CodeRoom pass code.old place.old at next (single (sizing (naming_of pass)) kind ty [] (words_of v) next) × Each Finite (words_of v) }
-    ensures walks { Walks pass m code.old place.old wide.old code.new place.new wide.new at
-        (single (sizing (naming_of pass)) kind ty [] (words_of v) next) result }
-    ensures cell_value { result.cell ≡ cell }
-{
-    match pass {
-        Pass::Survey => survey_instruction(
-            locations, kind, ty, 0, cell, ins, first, m, place, wide, at, next,
-        ),
-        Pass::Sequential => write_constant(kind, ty, v, cell, code, at, next),
-        Pass::Addressed => place_constant(kind, ty, v, cell, place, code, at, next),
-    }
+// What is walked over, and what is done on the way. `inputs` counts those of the outermost function.
+#[derive(Clone, Copy)]
+pub struct Walk<'a> {
+    pub pass: Pass,
+    pub table: &'a [u8],
+    pub starts: &'a [usize; FUNCTION_LIMIT],
+    pub layout: &'a Layout,
+    pub inputs: usize,
 }
 
-// The instruction of a node that reads n values.
-fn walk_operation(
-    pass: Pass,
-    locations: &[u16; REFERENCE_LIMIT],
-    kind: u8,
-    ty: u8,
-    n: usize,
-    cell: usize,
-    ins: &[u16; PORT_LIMIT],
-    first: usize,
-    m: usize,
-    code: &mut [u8],
-    place: &mut [u16],
-    wide: &mut [u8],
-    at: usize,
-    next: usize,
-) -> Reached
-    requires first_le_unit_bound { (first ≤ unit_bound) × (cell + n ≤ reference_limit) }
-    requires code_room { CodeRoom pass code.old place.old at next (single (sizing (naming_of pass)) kind ty (addresses_in locations.now ins.now first cell n) [] next) }
-    ensures walks { Walks pass m code.old place.old wide.old code.new place.new wide.new at
-        (single (sizing (naming_of pass)) kind ty (addresses_in locations.now ins.now first cell n) [] next) result }
-    ensures cell_value { result.cell ≡ cell + n }
-{
-    match pass {
-        Pass::Survey => survey_instruction(
-            locations, kind, ty, n, cell, ins, first, m, place, wide, at, next,
-        ),
-        Pass::Sequential => {
-            write_operation(locations, kind, ty, n, cell, ins, first, code, at, next)
+// `code`, `place` and `wide` are lent one by one: a struct of `&mut`s would have to say of each whose reference it still is.
+impl Walk<'_> {
+    // The instruction of a constant.
+    fn constant(
+        self,
+        kind: u8,
+        ty: u8,
+        v: Value,
+        frame: Frame<'_>,
+        code: &mut [u8],
+        place: &mut [u16],
+        wide: &mut [u8],
+        from: Reached,
+    ) -> Reached
+        requires first_le_unit_bound { (frame.first ≤ unit_bound) × (from.cell ≤ reference_limit) }
+        requires code_room { CodeRoom self.pass code.old place.old from.at from.next (single (sizing (naming_of self.pass)) kind ty [] (words_of v) from.next) × Each Finite (words_of v) }
+        ensures walks { Walks self.entry.pass self.entry.inputs code.old place.old wide.old code.new place.new wide.new from.at
+            (single (sizing (naming_of self.entry.pass)) kind ty [] (words_of v) from.next) result }
+        ensures cell_value { result.cell ≡ from.cell }
+    {
+        match self.pass {
+            Pass::Survey => {
+                survey_instruction(kind, ty, &[], frame, self.inputs, place, wide, from)
+            }
+            Pass::Sequential => write_constant(kind, ty, v, code, from),
+            Pass::Addressed => place_constant(kind, ty, v, place, code, from),
         }
-        Pass::Addressed => place_operation(
-            locations, kind, ty, n, cell, ins, first, place, code, at, next,
-        ),
     }
-}
 
-// The node at p of the function at position k, whose results begin at `first`.
-#[cycle(walk_walk_node)]
-fn walk_node(
-    pass: Pass,
-    table: &[u8],
-    starts: &[usize; FUNCTION_LIMIT],
-    begins: &[u16; FUNCTION_LIMIT],
-    order: &[u16; ORDER_LIMIT],
-    locations: &[u16; REFERENCE_LIMIT],
-    k: usize,
-    p: usize,
-    cell: usize,
-    ins: &[u16; PORT_LIMIT],
-    first: usize,
-    m: usize,
-    code: &mut [u8],
-    place: &mut [u16],
-    wide: &mut [u8],
-    at: usize,
-    next: usize,
-) -> Reached
-    requires k_lt_function_limit { (k < function_limit) × Started table.now starts.now k × ReadsNode table.now p }
-    requires first_le_unit_bound { (first ≤ unit_bound) × (cell + length (reads (node_at table.now p)) ≤ reference_limit) }
-    requires all_allocated { AllAllocated (naming_of pass) table.now begins.now order.now locations.now k }
-    requires code_room { CodeRoom pass code.old place.old at next (node_inlined (naming_of pass) table.now locations.now k p cell ins.now first next) }
-    ensures walks { Walks pass m code.old place.old wide.old code.new place.new wide.new at
-        (node_inlined (naming_of pass) table.now locations.now k p cell ins.now first next) result }
-    ensures cell_value { result.cell ≡ cell + length (reads (node_at table.now p)) }
-{
-    let node = reader::node_at(table, p);
-    let payload = node.payload;
-    match payload {
-        Payload::Constant(v) => walk_constant(
-            pass, locations, node.kind, node.ty, v, cell, ins, first, m, code, place, wide, at,
-            next,
-        ),
-        Payload::References(reads) => walk_operation(
-            pass,
-            locations,
-            node.kind,
-            node.ty,
-            reads.count,
-            cell,
-            ins,
-            first,
-            m,
-            code,
-            place,
-            wide,
-            at,
-            next,
-        ),
-        Payload::Call(callee, reads) => {
-            let n = reads.count;
-            let mut args = [0u16; PORT_LIMIT];
-            arguments(locations, cell, n, ins, first, &mut args);
-            let g = sums::position_of(table, starts, k, callee);
-            if g < k {
-                let r = walk(
-                    pass, table, starts, begins, order, locations, g, &args, m, code, place, wide,
-                    at, next,
-                );
-                Reached {
-                    at: r.at,
-                    next: r.next,
-                    cell: cell + n,
-                }
-            } else {
-                Reached {
-                    at,
-                    next,
-                    cell: cell + n,
-                }
+    // The instruction of a node that reads the values at these locations.
+    fn operation(
+        self,
+        kind: u8,
+        ty: u8,
+        cells: &[u16],
+        frame: Frame<'_>,
+        code: &mut [u8],
+        place: &mut [u16],
+        wide: &mut [u8],
+        from: Reached,
+    ) -> Reached
+        requires first_le_unit_bound { (frame.first ≤ unit_bound) × (from.cell + length cells.now ≤ reference_limit) }
+        requires code_room { CodeRoom self.pass code.old place.old from.at from.next (single (sizing (naming_of self.pass)) kind ty (map (address_of frame.ins.now frame.first) cells.now) [] from.next) }
+        ensures walks { Walks self.entry.pass self.entry.inputs code.old place.old wide.old code.new place.new wide.new from.at
+            (single (sizing (naming_of self.entry.pass)) kind ty (map (address_of frame.entry.ins.now frame.entry.first) cells.now) [] from.next) result }
+        ensures cell_value { result.cell ≡ from.cell + length cells.now }
+    {
+        match self.pass {
+            Pass::Survey => {
+                survey_instruction(kind, ty, cells, frame, self.inputs, place, wide, from)
+            }
+            Pass::Sequential => write_operation(kind, ty, cells, frame, code, from),
+            Pass::Addressed => place_operation(kind, ty, cells, frame, place, code, from),
+        }
+    }
+
+    // The node at p of the function at position k, which is opened as `frame` says.
+    #[cycle(function_node)]
+    fn node(
+        self,
+        k: usize,
+        p: usize,
+        frame: Frame<'_>,
+        code: &mut [u8],
+        place: &mut [u16],
+        wide: &mut [u8],
+        from: Reached,
+    ) -> Reached
+        requires k_lt_function_limit { (k < function_limit) × Started self.table.now self.starts.now k × ReadsNode self.table.now p × Bytes self.table.now }
+        requires first_le_unit_bound { (frame.first ≤ unit_bound) × (from.cell + length (reads (node_at self.table.now p)) ≤ reference_limit) }
+        requires all_allocated { AllAllocated (naming_of self.pass) self.table.now self.layout.now k }
+        requires code_room { CodeRoom self.pass code.old place.old from.at from.next (node_inlined (naming_of self.pass) self.table.now self.layout.now.locations k p from.cell frame.ins.now frame.first from.next) }
+        ensures walks { Walks self.entry.pass self.entry.inputs code.old place.old wide.old code.new place.new wide.new from.at
+            (node_inlined (naming_of self.entry.pass) self.entry.table.now self.entry.layout.now.locations k p from.cell frame.entry.ins.now frame.entry.first from.next) result }
+        ensures cell_value { result.cell ≡ from.cell + length (reads (node_at self.entry.table.now p)) }
+    {
+        let table = self.table;
+        let node = reader::node_at(table, p);
+        let locations = &self.layout.locations[..];
+        match node.payload {
+            Payload::Constant(v) => {
+                self.constant(node.kind, node.ty, v, frame, code, place, wide, from)
+            }
+            Payload::References(reads) => {
+                let cells = &locations[from.cell..from.cell + reads.count];
+                self.operation(node.kind, node.ty, cells, frame, code, place, wide, from)
+            }
+            Payload::Call(callee, reads) => {
+                let cell = from.cell + reads.count;
+                let args = arguments(&locations[from.cell..cell], frame);
+                let reached = match sums::position_of(table, self.starts, k, callee) {
+                    Some(g) => self.function(g, &args, code, place, wide, from.at, from.next),
+                    None => from,
+                };
+                Reached { cell, ..reached }
             }
         }
     }
-}
 
-// The function at position k, with the addresses of its arguments.
-#[cycle(walk_walk_node)]
-pub fn walk(
-    pass: Pass,
-    table: &[u8],
-    starts: &[usize; FUNCTION_LIMIT],
-    begins: &[u16; FUNCTION_LIMIT],
-    order: &[u16; ORDER_LIMIT],
-    locations: &[u16; REFERENCE_LIMIT],
-    k: usize,
-    ins: &[u16; PORT_LIMIT],
-    m: usize,
-    code: &mut [u8],
-    place: &mut [u16],
-    wide: &mut [u8],
-    at: usize,
-    next: usize,
-) -> Reached
-    requires k_lt_function_limit { (k < function_limit) × Started table.now starts.now (suc k) }
-    requires all_allocated { AllAllocated (naming_of pass) table.now begins.now order.now locations.now (suc k) }
-    requires code_room { CodeRoom pass code.old place.old at next (function_inlined (naming_of pass) table.now k ins.now next) }
-    ensures { Walks pass m code.old place.old wide.old code.new place.new wide.new at
-        (function_inlined (naming_of pass) table.now k ins.now next) result }
-{
-    let n = u16_at(table, starts[k] + 4);
-    let mut cell = wide16(begins[k]);
-    let mut here = at;
-    let mut word = next;
-    let mut i = 0;
-    while i < n {
-        let p = wide16(order[NODE_LIMIT * k + i]);
-        let r = walk_node(
-            pass, table, starts, begins, order, locations, k, p, cell, ins, next, m, code, place,
-            wide, here, word,
-        );
-        here = r.at;
-        word = r.next;
-        cell = r.cell;
-        i += 1;
-    }
-    Reached {
-        at: here,
-        next: word,
-        cell,
+    // The function at position k, with the addresses of its arguments.
+    #[cycle(function_node)]
+    pub fn function(
+        self,
+        k: usize,
+        ins: &[u16; PORT_LIMIT],
+        code: &mut [u8],
+        place: &mut [u16],
+        wide: &mut [u8],
+        at: usize,
+        next: usize,
+    ) -> Reached
+        requires k_lt_function_limit { (k < function_limit) × Started self.table.now self.starts.now (suc k) × Bytes self.table.now }
+        requires all_allocated { AllAllocated (naming_of self.pass) self.table.now self.layout.now (suc k) }
+        requires code_room { CodeRoom self.pass code.old place.old at next (function_inlined (naming_of self.pass) self.table.now k ins.now next) }
+        ensures { Walks self.entry.pass self.entry.inputs code.old place.old wide.old code.new place.new wide.new at
+            (function_inlined (naming_of self.entry.pass) self.entry.table.now k ins.now next) result }
+    {
+        let frame = Frame { ins, first: next };
+        let n = u16_at(self.table, self.starts[k] + 4);
+        let cell = usize::from(self.layout.begins[k]);
+        let mut reached = Reached { at, next, cell };
+        for i in 0..n {
+            let p = usize::from(self.layout.order[NODE_LIMIT * k + i]);
+            reached = self.node(k, p, frame, code, place, wide, reached);
+        }
+        reached
     }
 }

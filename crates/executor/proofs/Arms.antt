@@ -1,44 +1,26 @@
 -- The arms of a `match` on the kind: what the code of a kind asks and gives, and which kind the last arm has.
-use Prim.Native.Nat.{ℕ, ◌+◌, ◌≤◌, ◌<◌}
+use Prim.Native.Nat.{ℕ, ◌≤◌, ◌<◌}
 use mathlib.Core.Path.{◌≡◌, refl, ap, sym, subst}
 use mathlib.Core.Bool.{Bool, true, false, not, ◌&&◌, ◌||◌, cond}
 use mathlib.Core.List.{List, [], ◌∷◌}
 use native.Mathlib.Omega.{arith}
 use borrow.Author.Tests.{eqb-true, leb-true, leb-false}
 use lib.Dec.{eqb, leb}
-use lib.ListN.{length, replicate}
 use Rattle.ports.specs.Kinds.{kind_of}
 use Rattle.ports.specs.declared.Ports.{Ports}
-use Rattle.ports.specs.Ports.{width, arity, is_type, has_type, type_fits, ports_of, executable, legal_instruction}
+use Rattle.ports.specs.Ports.{is_type, has_type, type_fits, ports_of, executable, legal_instruction}
 use Rattle.ports.proofs.Laws.{no_kind}
 use Rattle.ports.proofs.Table.{upto, upto-at, NoneOf, any_of, last_of}
-use Rattle.value.specs.declared.Operator.{Operator}
+use mathlib.Core.Logic.{◌⊎◌, inl, inr}
+use Rattle.value.specs.declared.Value.{Value}
+use Rattle.value.specs.declared.Value.TheVariants.{Scalar, Vector, Matrix}
+use Rattle.value.specs.Values.{type_of}
+use Rattle.value.specs.Typed.{TypeCode}
+use Rattle.value.proofs.Laws.{type-cases}
 use Rattle.base.specs.Limits.{kind_limit}
 use Rattle.base.proofs.Bools.{and-inv}
-use Rattle.bytecode.specs.Run.{execute}
-use Rattle.bytecode.specs.Code.{addresses}
 use Rattle.executor.specs.declared.Extent.{Extent}
-use Rattle.executor.specs.Execution.{instruction_at, end_of, code_bytes, words_given, kind_for, AllLoadable, Ready, Executable, Operands, Executed}
-use Rattle.executor.proofs.Stored.{carried}
-
--- ---- kinds with T
-
--- the code of an operator's kind asks for its operands alone
-operands-of : {o : Operator} {n t : ℕ} {s : List ℕ} {at result : ℕ} {m : List ℕ} → Ready (kind_for o) t s at result m → arity (kind_of (kind_for o)) ≡ n
-    → Operands o n t s at result m
-operands-of {o} {n} {t} {s} {at} {result} {m} h e =
-    let c = carried o in
-    let k = kind_for o in
-    let f : end_of k at ≤ length s = h.fits in
-    let r : result + words_given k t ≤ length m = h.room in
-    let g : words_given k t ≡ width t + 0 = c.gives t in
-    record {
-      count = e;
-      fits = omega arith;
-      operands = subst (λ (i : ℕ). AllLoadable m (replicate i t) (addresses i s at)) e
-          (subst (λ (ts : List ℕ). AllLoadable m ts (addresses (arity (kind_of k)) s at)) (c.takes t) h.operands);
-      room = omega arith;
-    }
+use Rattle.executor.specs.Execution.{Ready, Executable, Executed}
 
 -- ---- an arm: its number k stands for the kind byte x
 
@@ -46,13 +28,8 @@ module _ {x t : ℕ} {s : List ℕ} {at result : ℕ} {m : List ℕ} (h : Execut
   pub plain_ready : {k : ℕ} → x ≡ k → Ready k t s at result m
   plain_ready e = subst (λ (i : ℕ). Ready i t s at result m) e h.ready
 
-  pub typed-ready : (o : Operator) {n : ℕ} → x ≡ kind_for o → arity (kind_of (kind_for o)) ≡ n → Operands o n t s at result m
-  typed-ready o e c = operands-of (plain_ready e) c
-
-pub carried-out : {x k t : ℕ} {s : List ℕ} {at result : ℕ} {m after : List ℕ} {y : Extent} → x ≡ k
-    → after ≡ execute (instruction_at k t s at result) m → y.bytes ≡ code_bytes k → y.words ≡ words_given k t → Executed x t s at result m after y
-carried-out {x} {k} {t} {s} {at} {result} {m} {after} {y} e w b g =
-    subst (λ (i : ℕ). Executed i t s at result m after y) (sym e) (record { words = w; bytes = b; given = g })
+pub of-kind : {x k t : ℕ} {s : List ℕ} {at result : ℕ} {m after : List ℕ} {y : Extent} → x ≡ k → Executed k t s at result m after y → Executed x t s at result m after y
+of-kind {x} {k} {t} {s} {at} {result} {m} {after} {y} e d = subst (λ (i : ℕ). Executed i t s at result m after y) (sym e) d
 
 -- the same of the type byte t, which is u
 pub with-type : {k t u : ℕ} {s : List ℕ} {at result : ℕ} {m : List ℕ} → t ≡ u → Executable k t s at result m → Executable k u s at result m
@@ -92,14 +69,22 @@ module _ {k : ℕ} {s : List ℕ} {at result : ℕ} {m : List ℕ} where
   pub last-plain : Executable k 0 s at result m → NoneOf plain_arms k → k ≡ 17
   last-plain h r = last_of 17 plain_arms k (among (17 ∷ plain_arms) 0 refl k h.legal) r
 
-  pub last-scalars : Executable k 1 s at result m → NoneOf typed_arms k → k ≡ 23
-  last-scalars h r = last_of 23 typed_arms k (among (23 ∷ typed_arms) 1 refl k h.legal) r
+  pub last-typed : {t : ℕ} → TypeCode t → Executable k t s at result m → NoneOf typed_arms k → k ≡ 23
+  last-typed {t} c h r = by (type-cases t c)
+    where
+      for : (u : ℕ) → upto (covered (23 ∷ typed_arms) u) kind_limit ≡ true → t ≡ u → k ≡ 23
+      for u q e = last_of 23 typed_arms k (among (23 ∷ typed_arms) u q k (subst (λ (i : ℕ). legal_instruction (kind_of k) i ≡ true) e h.legal)) r
 
-  pub last-vectors : Executable k 2 s at result m → NoneOf typed_arms k → k ≡ 23
-  last-vectors h r = last_of 23 typed_arms k (among (23 ∷ typed_arms) 2 refl k h.legal) r
+      by : (t ≡ 1) ⊎ ((t ≡ 2) ⊎ (t ≡ 3)) → k ≡ 23
+      by (inl e) = for 1 refl e
+      by (inr (inl e)) = for 2 refl e
+      by (inr (inr e)) = for 3 refl e
 
-  pub last-matrices : Executable k 3 s at result m → NoneOf typed_arms k → k ≡ 23
-  last-matrices h r = last_of 23 typed_arms k (among (23 ∷ typed_arms) 3 refl k h.legal) r
+-- a value's type is one of the three
+pub type-code : {t : ℕ} (v : Value) → type_of v ≡ t → TypeCode t
+type-code (Scalar a) e = (omega arith, omega arith)
+type-code (Vector a) e = (omega arith, omega arith)
+type-code (Matrix a) e = (omega arith, omega arith)
 
 last_fits : (b : Bool) (t : ℕ) → cond b (is_type t) (eqb t 0) ≡ true → NoneOf (2 ∷ 1 ∷ 0 ∷ []) t → t ≡ 3
 last_fits true t e r =

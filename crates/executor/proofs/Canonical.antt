@@ -39,11 +39,11 @@ use Rattle.executor.specs.Instructions.{CanonicalReads}
 -- ---- one word
 
 -- fmod by zero
-pub remainder-nan : (x : Ieee.Float) → Ieee.rem binary64 x (Ieee.of_bits binary64 0) ≡ nan
+pub remainder_nan : (x : Ieee.Float) → Ieee.rem binary64 x (Ieee.of_bits binary64 0) ≡ nan
 unfolding Ieee.rem Ieee.of_bits
-remainder-nan nan = refl
-remainder-nan (inf s) = refl
-remainder-nan (fin s m e) = refl
+remainder_nan nan = refl
+remainder_nan (inf s) = refl
+remainder_nan (fin s m e) = refl
 
 -- ---- the words of values
 
@@ -146,10 +146,10 @@ all-loadable v written m r c (t ∷ ts) (a ∷ xs) l h =
     let each : (i : ℕ) → a ≤ i → i < a + width t → ok i ≡ true = every-span ok (width t) a x in
     let w : 1 ≤ width t = width_some t in
     let last : a + (width t - 1) < behind written = readable-behind v written (a + (width t - 1)) (each (a + (width t - 1)) (omega arith) (omega arith)) in
-    (record { room = omega arith; canonical = λ i p q. c i (each i p q) }, all-loadable v written m r c ts xs (omega arith) y)
+    (record { room = omega arith; each = λ i p q. c i (each i p q) }, all-loadable v written m r c ts xs (omega arith) y)
 
 -- some of the words
 pub part : {m : List ℕ} {at n a w : ℕ} → Loadable m at n → at ≤ a → a + w ≤ at + n → Loadable m a w
 part {m} {at} {n} {a} {w} h l u =
     let r : at + n ≤ length m = h.room in
-    record { room = omega arith; canonical = λ i p q. h.canonical i (omega arith) (omega arith) }
+    record { room = omega arith; each = λ i p q. h.each i (omega arith) (omega arith) }

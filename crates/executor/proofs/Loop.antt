@@ -220,6 +220,10 @@ module _ (b : Bool) {s : List ℕ} {left at next : ℕ} {m end : List ℕ} (h : 
         (subst (λ (r : ℕ). Running v s (left - 1) (operands_at v at + x.bytes) (r + x.words) after end) (sym placed)
         (next_of v h.written s (left - 1) at m end after x (less v s left at next m end h more) d'))
 
+-- with as many left
+pub left-is : {v : Version} {s : List ℕ} {i j at next : ℕ} {m end : List ℕ} → i ≡ j → Running v s i at next m end → Running v s j at next m end
+left-is {v} {s} {i} {j} {at} {next} {m} {end} e h = subst (λ (n : ℕ). Running v s n at next m end) e h
+
 pub done : (v : Version) (s : List ℕ) (left at next : ℕ) (m end : List ℕ) → Running v s left at next m end → left ≡ 0 → m ≡ end
 done v s zero at next m end h z = ap (λ (x : Listed). execute_all x.instructions m) (some_is h.reads) ∙ h.same
 done v s (suc left) at next m end h z = absurd (omega arith)

@@ -1,18 +1,19 @@
 -- One instruction of a code: what it must have to be carried out, and what it does. `at` is the place behind its kind and type
 -- bytes. Nothing here says where the next instruction's result goes.
-use Rattle.std.specs.Prelude.{ℕ, ◌+◌, ◌*◌, ◌≤◌, ◌<◌, ◌≡◌, true, List, [], ◌∷◌, Float, length, replicate}
+use Rattle.std.specs.Prelude.{ℕ, ◌+◌, ◌*◌, ◌≤◌, ◌≡◌, true, List, [], ◌∷◌, Float, length, replicate}
 use Rattle.std.specs.Float.Ieee as Ieee
 use Rattle.std.specs.Float.{binary64}
 use Rattle.ports.specs.Kinds.{kind_of}
 use Rattle.ports.specs.Ports.{width, widths, takes, gives, arity, constant_words, legal_instruction}
 use Rattle.value.specs.declared.Row.{Row}
+use Rattle.value.specs.declared.Value.{Value}
 use Rattle.value.specs.declared.Operator.{Operator}
 use Rattle.value.specs.declared.Operator.TheVariants.{Add, Subtract, Multiply, Divide, Minimum, Maximum, Absolute, Remainder, Select, Clamp}
 use Rattle.value.specs.Values.{row, float_at}
-use Rattle.value.specs.Typed.{Canonical}
-use Rattle.base.specs.Lists.{word_at}
+use Rattle.value.specs.Steps.{operands_of}
+use Rattle.value.specs.Typed.{Canonical, Standing}
 use Rattle.base.specs.Bytes.{u16, u64, constants}
-use Rattle.bytecode.specs.Run.{Instruction, execute}
+use Rattle.bytecode.specs.Run.{Instruction, execute, values_at}
 use Rattle.bytecode.specs.Code.{addresses}
 use Rattle.executor.specs.declared.Extent.{Extent}
 
@@ -66,9 +67,8 @@ scalars_row m s at = row (float_at m (u16 s at)) (float_at m (u16 s (at + 2))) (
 -- ---- canonical words
 
 -- n words at an address of m, all of them canonical
-pub record Loadable (m : List ℕ) (at n : ℕ) : Type 0 where
-  pub room : at + n ≤ length m
-  pub canonical : (i : ℕ) → at ≤ i → i < at + n → Canonical (word_at m i)
+abbrev pub Loadable : List ℕ → ℕ → ℕ → Type 0
+Loadable = Standing Canonical
 
 -- values of these types at these addresses
 abbrev pub AllLoadable : List ℕ → List ℕ → List ℕ → Type 0
@@ -91,12 +91,13 @@ pub record Executable (k t : ℕ) (s : List ℕ) (at result : ℕ) (m : List ℕ
   pub legal : legal_instruction (kind_of k) t ≡ true
   pub ready : Ready k t s at result m
 
--- an operator of n operands, operands of one type, and room for a result of that type
-pub record Operands (o : Operator) (n t : ℕ) (s : List ℕ) (at result : ℕ) (m : List ℕ) : Type 0 where
-  pub count : arity (kind_of (kind_for o)) ≡ n
-  pub fits : at + 2 * n ≤ length s
-  pub operands : AllLoadable m (replicate n t) (addresses n s at)
-  pub room : result + width t ≤ length m
+-- the operands of an operator, of one type
+pub record Operands (o : Operator) (t : ℕ) (s : List ℕ) (at : ℕ) (m : List ℕ) : Type 0 where
+  pub fits : at + 2 * operands_of o ≤ length s
+  pub operands : AllLoadable m (replicate (operands_of o) t) (addresses (operands_of o) s at)
+
+abbrev pub operands_given : Operator → ℕ → List ℕ → ℕ → List ℕ → List Value
+operands_given o t s at m = values_at m (replicate (operands_of o) t) (addresses (operands_of o) s at)
 
 -- four scalars
 pub record ScalarsReady (s : List ℕ) (at : ℕ) (m : List ℕ) : Type 0 where

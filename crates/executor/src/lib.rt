@@ -10,6 +10,7 @@ ghost use Rattle.executor.specs.Execution.{Executable, Executed};
 ghost use Rattle.executor.specs.Instructions.{version_by, Instructions, after_all};
 
 use base::HEADER_LENGTH;
+use value::{Mat4, Vec3};
 
 mod dispatch;
 mod operands;
@@ -23,7 +24,8 @@ pub struct Extent {
     pub words: usize,
 }
 
-// The instruction whose kind byte stands at `at`, and its operands at `from`.
+// The instruction whose kind byte stands at `at`, and its operands at `from`. Code, place, result and memory stay four parameters, here and
+// in what is called: each function takes them all apart at once, and a struct of a `&mut` memory would have to say whose it still is.
 pub fn execute(code: &[u8], at: usize, from: usize, res: usize, work: &mut [u64]) -> Extent
     requires { (at + 2 ≤ from) × Executable (byte code.now at) (byte code.now (at + 1)) code.now from res work.old }
     ensures { Executed (byte code.now at) (byte code.now (at + 1)) code.now from res work.old work.new result }
@@ -32,9 +34,9 @@ pub fn execute(code: &[u8], at: usize, from: usize, res: usize, work: &mut [u64]
     let t = code[at + 1];
     match t {
         0 => dispatch::execute_plain(k, code, from, res, work),
-        1 => dispatch::execute_scalars(k, code, from, res, work),
-        2 => dispatch::execute_vectors(k, code, from, res, work),
-        _ => dispatch::execute_matrices(k, code, from, res, work),
+        1 => dispatch::execute_typed::<f64>(k, code, from, res, work),
+        2 => dispatch::execute_typed::<Vec3>(k, code, from, res, work),
+        _ => dispatch::execute_typed::<Mat4>(k, code, from, res, work),
     }
 }
 
@@ -72,12 +74,10 @@ pub fn execute_all(code: &[u8], addressed: bool, count: usize, first: usize, wor
 {
     let mut at = HEADER_LENGTH;
     let mut next = first;
-    let mut left = count;
-    while 0 < left {
+    for _ in 0..count {
         let place = locate(code, at, addressed, next);
         let extent = execute(code, at, place.from, place.result, work);
         at = place.from + extent.bytes;
         next = place.result + extent.words;
-        left -= 1;
     }
 }

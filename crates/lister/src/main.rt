@@ -8,7 +8,8 @@ use std::io::{self, Read, Write};
 // The bytes that it reads of a table.
 const INPUT_LIMIT: usize = 65536;
 
-// Reads until `buffer` is full or the input ends, and gives the count.
+// Reads until `buffer` is full or the input ends, and gives the count. A loop over `read`: std's `read_to_end` takes a heap,
+// and `read_exact` fails where the input ends first.
 fn read_full<R: Read>(input: &mut R, buffer: &mut [u8]) -> io::Result<usize>
     ensures { IfOk result (λ n. n ≤ length buffer.new) }
 {

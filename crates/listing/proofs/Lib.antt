@@ -1,6 +1,5 @@
 pub mod Digits
-pub mod Text
+pub mod Runs
 pub mod Lines
 pub mod Table
 pub mod Functions
-pub mod Verdicts

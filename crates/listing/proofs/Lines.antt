@@ -1,6 +1,6 @@
 -- The lines: how their parts join, and how long they are.
 use Prim.Native.Nat.{ℕ, ◌+◌, ◌^◌, ◌≤◌, ◌<◌}
-use mathlib.Core.Path.{◌≡◌, refl, sym, ap}
+use mathlib.Core.Path.{◌≡◌, refl, sym, ap, ◌∙◌}
 use mathlib.Core.Bool.{Bool, true, false, cond}
 use mathlib.Core.List.{List, ◌++◌, append_assoc}
 use native.Mathlib.Omega.{arith}
@@ -11,7 +11,7 @@ use Rattle.base.specs.Bytes.{byte, u16}
 use Rattle.base.specs.Limits.{operation_limit, within_limits, word_limit}
 use Rattle.lowering.specs.Listing.{decimal, newline, accepted_text, refused_text, at_text, function_text, inputs_text, outputs_text, nodes_text, operations_text, words_text, code_text, none_text, limited}
 use Rattle.listing.specs.Lines.{head_text, counts_text, line_at, text_limit, first_limit, head_limit, counts_limit}
-use Rattle.listing.proofs.Text.{rooms}
+use Rattle.listing.proofs.Runs.{rooms}
 use Rattle.listing.proofs.Digits.{decimal-length, decimal-most}
 
 -- ---- the first line
@@ -25,8 +25,10 @@ accepted-rooms count h =
     let q = length-append (accepted_text ++ decimal count) newline in
     (omega arith, omega arith)
 
-pub refused-parts : (number place : ℕ) → (refused_text ++ decimal number) ++ (at_text ++ decimal place) ++ newline ≡ refused_text ++ decimal number ++ at_text ++ decimal place ++ newline
-refused-parts number place = ap (λ (xs : List ℕ). xs ++ newline) (sym (append_assoc (refused_text ++ decimal number) at_text (decimal place)))
+pub refused-parts : {number n : ℕ} (place : ℕ) → n ≡ number → (refused_text ++ decimal n) ++ (at_text ++ decimal place) ++ newline ≡ refused_text ++ decimal number ++ at_text ++ decimal place ++ newline
+refused-parts {number} {n} place e =
+    ap (λ (m : ℕ). (refused_text ++ decimal m) ++ (at_text ++ decimal place) ++ newline) e
+    ∙ ap (λ (xs : List ℕ). xs ++ newline) (sym (append_assoc (refused_text ++ decimal number) at_text (decimal place)))
 
 -- ---- a function
 

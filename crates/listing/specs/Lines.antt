@@ -1,6 +1,5 @@
 -- What is written into the text, and the two halves of a function's line by its numbers.
-use Rattle.std.specs.Prelude.{ℕ, ◌+◌, ◌≡◌, cond, List, ◌++◌, length}
-use Rattle.std.proofs.lemmas.List.Edits.{sets}
+use Rattle.std.specs.Prelude.{ℕ, ◌+◌, cond, List, ◌++◌}
 use Rattle.base.specs.Bytes.{byte, u16}
 use Rattle.base.specs.Limits.{operation_limit, within_limits, word_limit}
 use Rattle.lowering.specs.Listing.{decimal, newline, function_text, inputs_text, outputs_text, nodes_text, operations_text, words_text, code_text, none_text, limited}
@@ -22,11 +21,6 @@ counts_limit = 54
 
 abbrev pub line_limit : ℕ
 line_limit = head_limit + counts_limit
-
--- bytes written from a place on, and nothing else; r is the place behind them
-pub record Put (entry : List ℕ) (at : ℕ) (bytes exit : List ℕ) (r : ℕ) : Type 0 where
-  pub written : exit ≡ sets entry at bytes
-  pub end : r ≡ at + length bytes
 
 -- the id of a function and the counts of its head
 unfoldable pub head_text : ℕ → ℕ → ℕ → ℕ → List ℕ

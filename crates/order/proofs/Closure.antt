@@ -1,18 +1,17 @@
 -- `via` tells what `Path` says.
 use Prim.Native.Nat.{ℕ, zero, suc, ◌+◌, ◌≤◌, ◌<◌}
-use mathlib.Core.Path.{◌≡◌, refl, ap, sym, ◌∙◌}
-use mathlib.Core.Bool.{Bool, true, cond}
+use mathlib.Core.Path.{◌≡◌, refl, sym, ◌∙◌}
+use mathlib.Core.Bool.{true}
 use mathlib.Core.List.{List}
 use mathlib.Core.Logic.{inl, inr, ⊎_elim}
 use native.Mathlib.Omega.{arith}
 use lib.Dec.{eqb, ltb}
-use borrow.Author.Tests.{eqb-true, eq-eqb, ltb-true, lt-ltb, le-ltb}
+use borrow.Author.Tests.{eqb-true, eq-eqb, ltb-true, lt-ltb}
 use Rattle.base.specs.Lists.{Is, span}
 use Rattle.graph.proofs.Loops.{passing, passing-leads, passing-one, passing-trans}
 use Rattle.base.proofs.Bools.{and-inv, and_both}
-use Rattle.order.specs.declared.OnLoop.TheVariants.{At, Nothing}
-use Rattle.order.specs.Indices.{first_of, any_of, slot}
-use Rattle.order.specs.Paths.{reads_index, Path, one, more, via, on_loop, first_on_loop}
+use Rattle.order.specs.Indices.{any_of, slot}
+use Rattle.order.specs.Paths.{reads_index, Path, one, more, via, on_loop}
 use Rattle.order.proofs.Range.{eq-or-not, any_some, some-any}
 use Rattle.base.specs.Limits.{operand_limit}
 
@@ -61,13 +60,3 @@ module _ (ts : List ℕ) (n : ℕ) where
     λ e. passing-leads (reads_index ts n) (Path ts n) (λ i j r. one r) (λ i k j. follow) (span 0 n) i i (sym (via-passing n 0 i i) ∙ e),
     λ p. via-passing n 0 i i ∙ path-passing p,
   )
-
-  -- ---- the first node on a loop
-
-  pub loop-at : (i : ℕ) → i < n → first_of (on_loop ts n) 0 n ≡ i → first_on_loop ts n ≡ At i
-  unfolding first_on_loop
-  loop-at i l e = rw e (ap (λ (b : Bool). cond b (At i) Nothing) (lt-ltb i n l))
-
-  pub loop-nowhere : (i : ℕ) → n ≤ i → first_of (on_loop ts n) 0 n ≡ i → first_on_loop ts n ≡ Nothing
-  unfolding first_on_loop
-  loop-nowhere i l e = rw e (ap (λ (b : Bool). cond b (At i) Nothing) (le-ltb i n l))

@@ -1,7 +1,7 @@
 -- No node of the order lies on a loop; where every node is in the order, none does.
 use Prim.Native.Nat.{ℕ, ◌<◌}
 use mathlib.Core.Path.{◌≡◌, refl, ap, sym, ◌∙◌, subst}
-use mathlib.Core.Bool.{true, false, not}
+use mathlib.Core.Bool.{Bool, true, false, not, ◌&&◌}
 use mathlib.Core.List.{List, [], ◌∷◌}
 use mathlib.Core.Logic.{⊎_elim}
 use native.Mathlib.Omega.{arith}
@@ -70,3 +70,8 @@ module _ (ts : List ℕ) (n : ℕ) where
       let l = path-below p in
       let m = built-size ts n os b in
       (built-safe os b x x (missing-none n 0 os (omega arith) x (omega arith) (omega arith)) p).1 refl
+
+  -- so none need be looked for there
+  pub ordered-skip : (x : ℕ) (b : Bool) → b ≡ member x (index_order ts n) → not b && on_loop ts n x ≡ on_loop ts n x
+  ordered-skip x true e = sym (ordered-clear x (sym e))
+  ordered-skip x false e = refl

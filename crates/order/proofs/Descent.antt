@@ -1,20 +1,22 @@
 -- Descents along slots: what waits for nothing is taken, and what waits for itself never is.
 use Prim.Native.Nat.{ℕ, suc, ◌+◌, ◌-◌, ◌≤◌, ◌<◌}
 use mathlib.Core.Path.{◌≡◌, refl, ap, sym, ◌∙◌, subst}
-use mathlib.Core.Bool.{Bool, true, false, not, cond}
+use mathlib.Core.Bool.{Bool, true, false, not, ◌||◌, cond}
 use mathlib.Core.List.{List, [], ◌∷◌, ◌++◌}
 use mathlib.Core.Logic.{◌⊎◌, inl, inr, ⊎_elim}
 use native.Mathlib.Omega.{arith}
-use lib.Dec.{ltb}
+use lib.Dec.{leb, ltb}
+use Rattle.std.specs.Prelude.{Option, Some, None}
+use Rattle.std.specs.Option.{is_some}
 use lib.ListN.{length, get_or, set, replicate, length-set, length-replicate}
 use lib.Seq.{get_or-set_same, get_or-set_other}
-use borrow.Author.Tests.{lt-ltb, le-ltb, le-leb, lt-leb, not-true, not-false}
+use borrow.Author.Tests.{lt-ltb, le-ltb, lt-leb, leb-false, not-true, not-false}
 use Rattle.base.specs.Lists.{member}
 use Rattle.base.proofs.Bools.{and-inv, and_both}
 use Rattle.order.specs.Indices.{first_of, slot, settled, ready, eligible, waits, index_order, marked}
 use Rattle.order.specs.Paths.{reads_index}
 use Rattle.order.specs.Walk.{unmarked}
-use Rattle.order.proofs.Range.{eq-or-not, true-or-false, both, first-is, all-each, each_all}
+use Rattle.order.proofs.Range.{Missed, eq-or-not, true-or-false, both, first-is, first-here, first-nowhere, all-each, each_all}
 use Rattle.base.proofs.Numbers.{lt-or-le}
 use Rattle.order.proofs.Marks.{Marks, mark-same, mark-other, mark-keeps, mark-none, mark-one, ready-same}
 use Rattle.order.proofs.Closure.{read_below, read-slot, slot_read}
@@ -43,48 +45,82 @@ module _ (ts : List ℕ) (n : ℕ) where
     abbrev unsettled : ℕ → Bool
     unsettled j = not (settled n done (slot ts i j))
 
-    abbrev found : ℕ → ℕ
-    found j = cond (ltb j operand_limit) (slot ts i j) n
+    abbrev found : ℕ → Option ℕ
+    found j = cond (ltb j operand_limit) (Some (slot ts i j)) None
 
-    pub waits-at : (j : ℕ) → j < operand_limit → first_of unsettled 0 operand_limit ≡ j → slot ts i j ≡ waits ts n done i
-    waits-at j l e = ap (λ (b : Bool). cond b (slot ts i j) n) (sym (lt-ltb j operand_limit l)) ∙ ap found (sym e)
+    -- the first j slots are settled
+    abbrev pub Settled : ℕ → Type 0
+    Settled j = (k : ℕ) → k < j → settled n done (slot ts i k) ≡ true
 
-    pub waits-nowhere : (j : ℕ) → operand_limit ≤ j → first_of unsettled 0 operand_limit ≡ j → n ≡ waits ts n done i
-    waits-nowhere j l e = ap (λ (b : Bool). cond b (slot ts i j) n) (sym (le-ltb j operand_limit l)) ∙ ap found (sym e)
+    settled-missed : (j : ℕ) → Settled j → Missed unsettled 0 j
+    settled-missed j h v a b = ap not (h v b)
+
+    -- slot j holds v and is the first that is not
+    pub waits-at : (j v : ℕ) → v ≡ slot ts i j → j < operand_limit → Settled j → v < n → done v ≡ false → Some v ≡ waits ts n done i
+    waits-at j v s l m h e =
+        let q : not (settled n done v) ≡ true = rw (lt-leb n v h, e) refl in
+        ap Some s
+        ∙ (ap (λ (b : Bool). cond b (Some (slot ts i j)) None) (sym (lt-ltb j operand_limit l))
+        ∙ ap found
+        (first-here unsettled operand_limit 0 j (omega arith) l (settled-missed j m) (subst (λ (x : ℕ). not (settled n done x) ≡ true) s q)))
+
+    pub waits-nowhere : Settled operand_limit → None ≡ waits ts n done i
+    waits-nowhere m = ap found (first-nowhere unsettled operand_limit 0 (omega arith) (settled-missed operand_limit m))
 
     -- it waits for what a slot holds that is not settled, or it is ready
-    waits-cases : (w : ℕ) → w ≡ waits ts n done i
-        → ((j : ℕ) × (j < operand_limit) × (slot ts i j ≡ w) × (settled n done w ≡ false)) ⊎ ((w ≡ n) × (ready ts n done i ≡ true))
-    waits-cases w e =
+    waits-cases :
+        ((j : ℕ) × (j < operand_limit) × (waits ts n done i ≡ Some (slot ts i j)) × (settled n done (slot ts i j) ≡ false))
+        ⊎ ((waits ts n done i ≡ None) × (ready ts n done i ≡ true))
+    waits-cases =
         let j = first_of unsettled 0 operand_limit in
         let first = first-is unsettled operand_limit 0 in
         ⊎_elim
-        (λ l.
-        let q : slot ts i j ≡ w = waits-at j l refl ∙ sym e in
-        inl (j, l, q, subst (λ (v : ℕ). settled n done v ≡ false) q (not-true (settled n done (slot ts i j)) (first.hit (omega arith)))))
+        (λ l. inl (
+          j,
+          l,
+          ap (λ (b : Bool). cond b (Some (slot ts i j)) None) (lt-ltb j operand_limit l),
+          not-true (settled n done (slot ts i j)) (first.hit (omega arith)),
+        ))
         (λ h. inr (
-          e ∙ sym (waits-nowhere j h refl),
+          ap (λ (b : Bool). cond b (Some (slot ts i j)) None) (le-ltb j operand_limit h),
           each_all (λ k. settled n done (slot ts i k)) operand_limit 0 (λ k a b. not-false (settled n done (slot ts i k)) (first.miss k a (omega arith))),
         ))
         (lt-or-le j operand_limit)
 
-    module _ (w : ℕ) (e : w ≡ waits ts n done i) where
-      -- it reads it, and it is not done
-      waits-for : w < n → (reads_index ts n i w ≡ true) × (done w ≡ false)
-      waits-for l =
-          ⊎_elim (λ (j, a, q, u). (slot_read ts n i w j a q l, rw (lt-leb n w l) at u)) (λ (q, r). absurd (omega arith)) (waits-cases w e)
+    either-false : (a b : Bool) → a || b ≡ false → (a ≡ false) × (b ≡ false)
+    either-false true b e = both true refl e
+    either-false false b e = (refl, e)
 
-      pub waits-unready : w < n → ready ts n done i ≡ false
-      waits-unready l = ⊎_elim (λ r. both (done w) (done-read r) (waits-for l).1) (λ r. r) (true-or-false (ready ts n done i))
-        where
-          done-read : ready ts n done i ≡ true → done w ≡ true
-          done-read r =
-              let (s, a, q) = read-slot ts n i w (waits-for l).0 in
-              let t = all-each (λ j. settled n done (slot ts i j)) operand_limit 0 r s (omega arith) (omega arith) in
-              rw (q, lt-leb n w l) at t
+    -- it reads it, and it is not done
+    waits-for : (w : ℕ) → Some w ≡ waits ts n done i → (w < n) × (reads_index ts n i w ≡ true) × (done w ≡ false)
+    waits-for w e =
+        ⊎_elim
+        (λ (j, l, q, u).
+        let s : slot ts i j ≡ w = cc in
+        let t = either-false (leb n w) (done w) (subst (λ (v : ℕ). settled n done v ≡ false) s u) in
+        let h : w < n = omega (arith, leb-false n w t.0) in
+        (h, slot_read ts n i w j l s h, t.1))
+        (λ (q, r). let z : ◌≡◌ {A = ℕ} 0 1 = cc in absurd (omega arith)) waits-cases
 
-      pub waits-none : n ≤ w → ready ts n done i ≡ true
-      waits-none l = ⊎_elim (λ (j, a, q, u). both true refl (rw (le-leb n w l) at u)) (λ (q, r). r) (waits-cases w e)
+    pub waits-unready : (w : ℕ) → Some w ≡ waits ts n done i → ready ts n done i ≡ false
+    waits-unready w e = ⊎_elim (λ r. both (done w) (done-read r) (waits-for w e).2) (λ r. r) (true-or-false (ready ts n done i))
+      where
+        done-read : ready ts n done i ≡ true → done w ≡ true
+        done-read r =
+            let (l, h, f) = waits-for w e in
+            let (s, a, q) = read-slot ts n i w h in
+            let t = all-each (λ j. settled n done (slot ts i j)) operand_limit 0 r s (omega arith) (omega arith) in
+            rw (q, lt-leb n w l) at t
+
+    pub waits-none : None ≡ waits ts n done i → ready ts n done i ≡ true
+    waits-none e = ⊎_elim (λ (j, l, q, u). let z : ◌≡◌ {A = ℕ} 0 1 = cc in absurd (omega arith)) (λ (q, r). r) waits-cases
+
+    -- it is ready where it waits for nothing
+    pub waits-ready : (o : Option ℕ) (b : Bool) → o ≡ waits ts n done i → is_some o ≡ not b → b ≡ ready ts n done i
+    waits-ready (Some w) true e h = let z : ◌≡◌ {A = ℕ} 0 1 = cc in absurd (omega arith)
+    waits-ready (Some w) false e h = sym (waits-unready w e)
+    waits-ready None true e h = sym (waits-none e)
+    waits-ready None false e h = let z : ◌≡◌ {A = ℕ} 0 1 = cc in absurd (omega arith)
 
   -- ---- the path
 
@@ -337,72 +373,58 @@ module _ (ts : List ℕ) (n : ℕ) where
   -- the nodes below `root` were pushed
   pub record Searching (taken pushed : List Bool) (stack : List ℕ) (root depth count : ℕ) : Type 0 where
     pub bound : root ≤ n
-    pub idle : n ≤ root → depth ≡ 0
     pub begun : (v : ℕ) → v < root → marked pushed v ≡ true
     pub descent : Descent taken pushed stack depth count
 
   pub searching-none : Searching (replicate node_limit false) (replicate node_limit false) (replicate node_limit 0) 0 0 0
-  searching-none = record { bound = omega arith; idle = λ h. refl; begun = λ v h. absurd (omega arith); descent = descent-none }
+  searching-none = record { bound = omega arith; begun = λ v h. absurd (omega arith); descent = descent-none }
 
 module _
     {ts : List ℕ} {n : ℕ} (few : n ≤ node_limit) {taken pushed : List Bool} {stack : List ℕ} {root depth count : ℕ}
     (s : Searching ts n taken pushed stack root depth count) where
-  pub searching-size : (length pushed ≡ node_limit) × (depth + unmarked pushed ≤ node_limit) × (count ≤ n)
-  searching-size = let d = s.descent.1 in (d.sizes.1, d.room, descent-within ts n s.descent)
+  pub searching-size : (depth + unmarked pushed ≤ node_limit) × (count ≤ n)
+  searching-size = (s.descent.1.room, descent-within ts n s.descent)
 
   -- one mark less is missing
   pub searching-fewer : (w : ℕ) → w < n → marked pushed w ≡ false → unmarked pushed ≡ suc (unmarked (set pushed w true))
   searching-fewer w l e = unmarked-set pushed w (subst (λ (k : ℕ). w < k) (sym s.descent.1.sizes.1) (omega arith)) e
 
+  kept : (w : ℕ) → w < n → (v : ℕ) → v < root → marked (set pushed w true) v ≡ true
+  kept w l v h = mark-keeps pushed w v (subst (λ (k : ℕ). w < k) (sym s.descent.1.sizes.1) (omega arith)) (s.begun v h)
+
+  module _ (more : 0 < depth) (v : ℕ) (top : v ≡ get_or stack (depth - 1) 0) where
+    pub searching-below : v < n
+    searching-below = top_below ts n more v top s.descent
+
+    module _ (w : ℕ) (waiting : Some w ≡ waits ts n (marked taken) v) where
+      pub searching-push : marked pushed w ≡ false → Searching ts n taken (set pushed w true) (set stack depth w) root (depth + 1) count
+      searching-push e =
+          let (l, r, f) = waits-for ts n (marked taken) v w waiting in
+          record { bound = s.bound; begun = kept w l; descent = descent-push ts n more v top few s.descent w r f e }
+
+      pub searching-leave : marked pushed w ≡ true → Searching ts n taken pushed stack root 0 count
+      searching-leave e =
+          let (l, r, f) = waits-for ts n (marked taken) v w waiting in
+          record { bound = s.bound; begun = s.begun; descent = descent-leave ts n more v top s.descent w r f e }
+
+    pub searching-take : None ≡ waits ts n (marked taken) v → Searching ts n (set taken v true) pushed stack root (depth - 1) (count + 1)
+    searching-take e =
+        record { bound = s.bound; begun = s.begun; descent = descent-take ts n more v top few s.descent (waits-none ts n (marked taken) v e) }
+
+-- between two paths
+module _
+    {ts : List ℕ} {n : ℕ} (few : n ≤ node_limit) {taken pushed : List Bool} {stack : List ℕ} {root count : ℕ}
+    (s : Searching ts n taken pushed stack root 0 count) where
   pub searching-end : n ≤ root → (count ≡ length (index_order ts n)) × ((v : ℕ) → marked taken v ≡ member v (index_order ts n))
-  searching-end h = descent-end ts n s.descent (s.idle h) (λ v l. s.begun v (omega arith))
+  searching-end h = descent-end ts n s.descent refl (λ v l. s.begun v (omega arith))
 
   module _ (go : root < n) where
-    still : {P : Type 0} → n ≤ root → P
-    still h = absurd (omega arith)
-
-    pub searching-on : depth ≡ 0 → marked pushed root ≡ true → Searching ts n taken pushed stack (root + 1) depth count
-    searching-on z e =
+    pub searching-root : marked pushed root ≡ false → Searching ts n taken (set pushed root true) (set stack 0 root) (root + 1) 1 count
+    searching-root e =
+        let l : root < length pushed = subst (λ (k : ℕ). root < k) (sym s.descent.1.sizes.1) (omega arith) in
         record {
           bound = omega arith;
-          idle = λ h. z;
-          begun = λ v h. ⊎_elim (λ q. rw q e) (λ d. s.begun v (omega arith)) (eq-or-not v root);
-          descent = s.descent;
+          begun = λ v h.
+              ⊎_elim (λ q. rw q (mark-same pushed root l)) (λ d. mark-keeps pushed root v l (s.begun v (omega arith))) (eq-or-not v root);
+          descent = descent-root ts n few s.descent refl root go e;
         }
-
-    kept : (w : ℕ) → w < n → (v : ℕ) → v < root → marked (set pushed w true) v ≡ true
-    kept w l v h = mark-keeps pushed w v (subst (λ (k : ℕ). w < k) (sym s.descent.1.sizes.1) (omega arith)) (s.begun v h)
-
-    pub searching-root : depth ≡ 0 → marked pushed root ≡ false → Searching ts n taken (set pushed root true) (set stack 0 root) root 1 count
-    searching-root z e =
-        record {
-          bound = omega arith;
-          idle = λ h. still h;
-          begun = kept root go;
-          descent =
-              subst (λ (k : ℕ). Descent ts n taken (set pushed root true) (set stack k root) (k + 1) count) z (descent-root ts n few s.descent z root go e);
-        }
-
-    module _ (more : 0 < depth) (v : ℕ) (top : v ≡ get_or stack (depth - 1) 0) where
-      pub searching-below : v < n
-      searching-below = top_below ts n more v top s.descent
-
-      module _ (w : ℕ) (waiting : w ≡ waits ts n (marked taken) v) where
-        pub searching-push : w < n → marked pushed w ≡ false → Searching ts n taken (set pushed w true) (set stack depth w) root (depth + 1) count
-        searching-push l e =
-            let (r, f) = waits-for ts n (marked taken) v w waiting l in
-            record { bound = s.bound; idle = λ h. still h; begun = kept w l; descent = descent-push ts n more v top few s.descent w r f e }
-
-        pub searching-leave : w < n → marked pushed w ≡ true → Searching ts n taken pushed stack root 0 count
-        searching-leave l e =
-            let (r, f) = waits-for ts n (marked taken) v w waiting l in
-            record { bound = s.bound; idle = λ h. still h; begun = s.begun; descent = descent-leave ts n more v top s.descent w r f e }
-
-        pub searching-take : n ≤ w → Searching ts n (set taken v true) pushed stack root (depth - 1) (count + 1)
-        searching-take h =
-            record {
-              bound = s.bound;
-              idle = λ h. still h;
-              begun = s.begun;
-              descent = descent-take ts n more v top few s.descent (waits-none ts n (marked taken) v w waiting h);
-            }

@@ -1,9 +1,9 @@
 -- The order and the loops by indices give the check of the loops, 13.
-use Prim.Native.Nat.{ℕ, zero, suc, ◌<◌}
+use Prim.Native.Nat.{ℕ, zero, suc, ◌-◌, ◌<◌}
 use mathlib.Core.Path.{◌≡◌, refl, ap, sym, ◌∙◌, subst}
 use mathlib.Core.List.{List, [], ◌∷◌}
 use mathlib.Core.Option.{some}
-use mathlib.Core.Logic.{inl, inr, ⊎_elim}
+use mathlib.Core.Logic.{inl, inr}
 use native.Mathlib.Omega.{arith}
 use lib.ListN.{length, get_elem?, length-map}
 use Rattle.base.specs.Outcome.{ok, fault}
@@ -16,17 +16,16 @@ use Rattle.graph.specs.Schedule.{schedule}
 use Rattle.graph.specs.Checks as Checks
 use Rattle.graph.specs.Checks.{loop_checks}
 use Rattle.graph.proofs.First.{judged-is, loops-judged}
-use Rattle.base.proofs.Numbers.{lt-or-le}
 use Rattle.graph.proofs.Order.{schedule-right}
 use Rattle.graph.proofs.Accept.{loop-free-iff}
-use Rattle.order.specs.declared.OnLoop.TheVariants.{At, Nothing}
+use Rattle.std.specs.Prelude.{Some, None}
 use Rattle.order.specs.Indices.{first_of, index_order}
 use Rattle.order.specs.Paths.{Path, on_loop, first_on_loop}
 use Rattle.order.specs.Resolve.{index_of, Resolves}
-use Rattle.order.proofs.Range.{both, first-is}
+use Rattle.order.proofs.Range.{both, first-is, in-some, in-none}
 use Rattle.order.proofs.Nodes.{below_at, index-first}
 use Rattle.order.proofs.Scheduled.{schedule-is}
-use Rattle.order.proofs.Closure.{on-loop-iff, loop-at, loop-nowhere}
+use Rattle.order.proofs.Closure.{on-loop-iff}
 use Rattle.order.proofs.Edges.{path-leads, loop-path}
 use Rattle.order.proofs.Complete.{complete-free, path-below}
 use Rattle.base.proofs.Lists.{some_is}
@@ -44,24 +43,24 @@ first-at all (y ∷ xs) (suc i) x e h l = inr (h 0 y (omega arith) refl, first-a
 
 module _ (ts : List ℕ) (n : ℕ) where
   abbrev first : ℕ
-  first = first_of (on_loop ts n) 0 n
+  first = first_of (on_loop ts n) 0 (n - 0)
 
   before-none : (v : ℕ) → v < first → Path ts n v v → ⊥
-  before-none v h p = both (on_loop ts n v) ((on-loop-iff ts n v).1 p) ((first-is (on_loop ts n) n 0).miss v (omega arith) h)
+  before-none v h p = both (on_loop ts n v) ((on-loop-iff ts n v).1 p) ((first-is (on_loop ts n) (n - 0) 0).miss v (omega arith) h)
 
-  pub found_at : (i : ℕ) → first_on_loop ts n ≡ At i → (i < n) × Path ts n i i × ((v : ℕ) → v < i → Path ts n v v → ⊥)
+  pub found_at : (i : ℕ) → first_on_loop ts n ≡ Some i → (i < n) × Path ts n i i × ((v : ℕ) → v < i → Path ts n v v → ⊥)
+  unfolding first_on_loop
   found_at i e =
-      ⊎_elim
-      (λ l.
-      let a = loop-at ts n first l refl in
-      let s : first ≡ i = cc in
-      subst (λ (k : ℕ). (k < n) × Path ts n k k × ((v : ℕ) → v < k → Path ts n v v → ⊥)) s (l, (on-loop-iff ts n first).0 ((first-is (on_loop ts n) n 0).hit (omega arith)), before-none))
-      (λ l. let a = loop-nowhere ts n first l refl in let z : ◌≡◌ {A = ℕ} 0 1 = cc in absurd (omega arith)) (lt-or-le first n)
+      let (s, l) = in-some (on_loop ts n) n 0 i (sym e) in
+      subst (λ (k : ℕ). (k < n) × Path ts n k k × ((v : ℕ) → v < k → Path ts n v v → ⊥)) (sym s)
+      (omega arith, (on-loop-iff ts n first).0 ((first-is (on_loop ts n) (n - 0) 0).hit (omega arith)), before-none)
 
-  pub found_none : first_on_loop ts n ≡ Nothing → (i : ℕ) → Path ts n i i → ⊥
+  pub found_none : first_on_loop ts n ≡ None → (i : ℕ) → Path ts n i i → ⊥
+  unfolding first_on_loop
   found_none e i p =
-      ⊎_elim (λ l. let a = loop-at ts n first l refl in let z : ◌≡◌ {A = ℕ} 0 1 = cc in omega arith)
-      (λ l. let b = path-below ts n p in before-none i (omega arith) p) (lt-or-le first n)
+      let a = in-none (on_loop ts n) n 0 (sym e) in
+      let b = path-below ts n p in
+      before-none i (omega arith) p
 
 -- ---- the nodes of a function, each with an id of its own
 
@@ -86,11 +85,11 @@ module _
     )
 
     -- no node lies on a loop
-    pub nowhere-free : first_on_loop ts (length f.nodes) ≡ Nothing → loop_free f ≡ ok tt
+    pub nowhere-free : first_on_loop ts (length f.nodes) ≡ None → loop_free f ≡ ok tt
     nowhere-free e = free (found_none ts (length f.nodes) e)
 
     -- the node at i is the first that does
-    pub loop-fault : (i : ℕ) → first_on_loop ts (length f.nodes) ≡ At i
+    pub loop-fault : (i : ℕ) → first_on_loop ts (length f.nodes) ≡ Some i
         → (x : Node) × (get_elem? f.nodes i ≡ some x) × (loop_free f ≡ fault 13 x.place)
     loop-fault i e =
         let ns = f.nodes in

@@ -10,9 +10,10 @@ use lib.Dec.{leb, ltb}
 use lib.ListN.{length, set, replicate, length-append, length-set, length-replicate, get_or-replicate, get_or-eq_default}
 use lib.Seq.{sets, get_or-set_same, get_or-set_other}
 use borrow.Author.Tests.{eq-eqb, ne_eqb, lt-ltb, le-ltb, not-false}
+use Rattle.std.specs.Prelude.{Some, None}
 use Rattle.base.specs.Lists.{member}
-use Rattle.order.specs.Indices.{first_of, slot, settled, ready, eligible, next, order_from, index_order, marked}
-use Rattle.order.proofs.Range.{eq-or-not, First, first-is, first-from, first-same, all_same}
+use Rattle.order.specs.Indices.{first_of, first_in, slot, settled, ready, eligible, next, order_from, index_order, marked}
+use Rattle.order.proofs.Range.{eq-or-not, First, first-is, first-from, first-same, all_same, in-some, in-none}
 use Rattle.base.specs.Limits.{node_limit, operand_limit}
 use Rattle.base.proofs.Numbers.{lt-or-le}
 use Rattle.base.proofs.Stores.{sets-append}
@@ -98,33 +99,36 @@ module _ {ts : List ℕ} {n : ℕ} {start order : List ℕ} {taken : List Bool} 
     goes : order_from ts n (n - count) s.done ≡ order_from ts n (suc (n - (count + 1))) s.done
     goes = let e : n - count ≡ suc (n - (count + 1)) = omega arith in ap (λ (k : ℕ). order_from ts n k s.done) e
 
-    pub scheduling-stuck : (i : ℕ) → i ≡ first_of (eligible ts n (marked taken)) low (n - low) → n ≤ i
+    pub scheduling-stuck : None ≡ first_in (eligible ts n (marked taken)) low n
         → (count ≡ length (index_order ts n)) × (order ≡ sets start 0 (index_order ts n))
     unfolding order_from
-    scheduling-stuck i e h =
+    scheduling-stuck e =
         let stop : order_from ts n (n - count) s.done ≡ [] =
         goes
         ∙ ap
         (λ (b : Bool). cond b (next ts n (λ v. member v s.done) ∷ order_from ts n (n - (count + 1)) (next ts n (λ v. member v s.done) ∷ s.done)) [])
-        (le-ltb (next ts n (λ v. member v s.done)) n (subst (λ (k : ℕ). n ≤ k) (e ∙ found) h)) in
+        (le-ltb (next ts n (λ v. member v s.done)) n (subst (λ (k : ℕ). n ≤ k) found (in-none (eligible ts n (marked taken)) n low e))) in
         let w : index_order ts n ≡ s.front = s.whole ∙ ap (λ (l : List ℕ). s.front ++ l) stop ∙ append-nil s.front in
         (s.counted ∙ ap length (sym w), s.stored ∙ ap (λ (l : List ℕ). sets start 0 l) (sym w))
 
-    module _ (i : ℕ) (e : i ≡ first_of (eligible ts n (marked taken)) low (n - low)) (h : i < n) where
+    module _ (i : ℕ) (e : Some i ≡ first_in (eligible ts n (marked taken)) low n) where
+      here : (i ≡ first_of (eligible ts n (marked taken)) low (n - low)) × (i < n)
+      here = in-some (eligible ts n (marked taken)) n low i e
+
       step : order_from ts n (n - count) s.done ≡ i ∷ order_from ts n (n - (count + 1)) (i ∷ s.done)
       unfolding order_from
       step =
           goes
           ∙ subst
           (λ (k : ℕ). cond (ltb k n) (k ∷ order_from ts n (n - (count + 1)) (k ∷ s.done)) [] ≡ i ∷ order_from ts n (n - (count + 1)) (i ∷ s.done))
-          (e ∙ found)
-          (ap (λ (b : Bool). cond b (i ∷ order_from ts n (n - (count + 1)) (i ∷ s.done)) []) (lt-ltb i n h))
+          (here.0 ∙ found)
+          (ap (λ (b : Bool). cond b (i ∷ order_from ts n (n - (count + 1)) (i ∷ s.done)) []) (lt-ltb i n here.1))
 
       -- node i is taken, and `low` goes on to the first that is not
       pub scheduling-step : n ≤ node_limit → (next_low : ℕ) → next_low ≡ first_of (λ v. not (marked (set taken i true) v)) low (n - low)
           → Scheduling ts n start (set order count i) (set taken i true) next_low (count + 1)
       scheduling-step few next_low f =
-          let l : i < length taken = subst (λ (k : ℕ). i < k) (sym s.size) (omega arith) in
+          let l : i < length taken = subst (λ (k : ℕ). i < k) (sym s.size) (omega (arith, here)) in
           let first = subst (λ (k : ℕ). First (λ v. not (marked (set taken i true) v)) low (n - low) k) (sym f) (first-is (λ v. not (marked (set taken i true) v)) (n - low) low) in
           record {
             front = s.front ++ i ∷ [];

@@ -4,10 +4,11 @@ use mathlib.Core.Path.{◌≡◌, refl, ap, sym, ◌∙◌}
 use mathlib.Core.Bool.{Bool, true, false, cond}
 use mathlib.Core.Logic.{◌⊎◌, inl, inr, ⊎_elim}
 use native.Mathlib.Omega.{arith}
-use native.Mathlib.Numerals.{add-one}
+use borrow.Author.Tests.{lt-ltb, le-ltb}
+use Rattle.std.specs.Prelude.{Option, Some, None, MatchOption, ltb}
 use Rattle.base.proofs.Bools.{or-inv, or_left, or_right, and-inv, and_both}
-use Rattle.base.proofs.Numbers.{lt-or-le, one_less}
-use Rattle.order.specs.Indices.{first_of, all_of, any_of}
+use Rattle.base.proofs.Numbers.{lt-or-le}
+use Rattle.order.specs.Indices.{first_of, first_in, all_of, any_of}
 
 -- ---- either
 
@@ -24,22 +25,6 @@ both b e f = let z : ◌≡◌ {A = ℕ} 0 1 = cc in absurd (omega arith)
 
 module _ (p : ℕ → Bool) where
   -- ---- the first
-
-  -- of those from i up to n
-  pub first_one : (n i : ℕ) → i < n → first_of p i (n - i) ≡ cond (p i) i (first_of p (i + 1) (n - (i + 1)))
-  unfolding first_of
-  first_one n i h =
-      ap (λ (k : ℕ). first_of p i k) (one_less n i h) ∙ ap (λ (s : ℕ). cond (p i) i (first_of p s (n - (i + 1)))) (sym (add-one i))
-
-  pub first-hit : (n i : ℕ) → i < n → p i ≡ true → first_of p i (n - i) ≡ i
-  first-hit n i h e = first_one n i h ∙ ap (λ (b : Bool). cond b i (first_of p (i + 1) (n - (i + 1)))) e
-
-  pub first-miss : (n i : ℕ) → i < n → p i ≡ false → first_of p i (n - i) ≡ first_of p (i + 1) (n - (i + 1))
-  first-miss n i h e = first_one n i h ∙ ap (λ (b : Bool). cond b i (first_of p (i + 1) (n - (i + 1)))) e
-
-  pub first-end : (n i : ℕ) → n ≤ i → first_of p i (n - i) ≡ i
-  unfolding first_of
-  first-end n i h = let e : n - i ≡ 0 = omega arith in ap (λ (k : ℕ). first_of p i k) e
 
   -- it lies between the ends, it passes where it is not the end, and none before it does
   pub record First (i k f : ℕ) : Type 0 where
@@ -81,6 +66,64 @@ module _ (p : ℕ → Bool) where
       let e : n ≡ low + (n - low) = omega arith in
       let f : 0 + low ≡ low = omega arith in
       ap (λ (m : ℕ). first_of p 0 m) e ∙ first_past low 0 (n - low) (λ v a b. h v (omega arith)) ∙ ap (λ (s : ℕ). first_of p s (n - low)) f
+
+  -- ---- the first from `low` up to n, where none from `low` up to i passes
+
+  abbrev pub Missed : ℕ → ℕ → Type 0
+  Missed low i = (v : ℕ) → low ≤ v → v < i → p v ≡ false
+
+  -- the search may go on from i
+  first-missed : (n low i : ℕ) → low ≤ i → i ≤ n → Missed low i → first_of p low (n - low) ≡ first_of p i (n - i)
+  first-missed n low i a b h =
+      let e : n - low ≡ (i - low) + (n - i) = omega arith in
+      let f : low + (i - low) ≡ i = omega arith in
+      ap (first_of p low) e ∙ first_past (i - low) low (n - i) (λ v x y. h v x (omega arith)) ∙ ap (λ (s : ℕ). first_of p s (n - i)) f
+
+  pub first-here : (n low i : ℕ) → low ≤ i → i < n → Missed low i → p i ≡ true → i ≡ first_of p low (n - low)
+  unfolding first_of
+  first-here n low i a b h q =
+      let e : n - i ≡ suc (n - suc i) = omega arith in
+      sym (first-missed n low i a (omega arith) h ∙ (ap (first_of p i) e ∙ ap (λ (b : Bool). cond b i (first_of p (suc i) (n - suc i))) q))
+
+  pub first-nowhere : (n low : ℕ) → low ≤ n → Missed low n → n ≡ first_of p low (n - low)
+  unfolding first_of
+  first-nowhere n low a h =
+      let e : n - n ≡ 0 = omega arith in
+      sym (first-missed n low n a (omega arith) h ∙ ap (first_of p n) e)
+
+  pub in-at : (n low f : ℕ) → f ≡ first_of p low (n - low) → f < n → Some f ≡ first_in p low n
+  in-at n low f e l = rw (sym e, lt-ltb f n l)
+
+  pub in-end : (n low f : ℕ) → f ≡ first_of p low (n - low) → n ≤ f → None ≡ first_in p low n
+  in-end n low f e l = rw (sym e, le-ltb f n l)
+
+  pub found-in : (n low i : ℕ) → low ≤ i → i < n → Missed low i → p i ≡ true → Some i ≡ first_in p low n
+  found-in n low i a b h q = in-at n low i (first-here n low i a b h q) b
+
+  pub nothing-in : (n low : ℕ) → low ≤ n → Missed low n → None ≡ first_in p low n
+  nothing-in n low a h = in-end n low n (first-nowhere n low a h) (omega arith)
+
+  -- as a `find` over the range says it
+  abbrev pub FoundIn : ℕ → ℕ → Option ℕ → Type 0
+  FoundIn low n r = MatchOption r (Missed low n) (λ i. (low ≤ i) × (i < n) × (p i ≡ true) × Missed low i)
+
+  pub found-is : (n low : ℕ) (r : Option ℕ) → low ≤ n → FoundIn low n r → r ≡ first_in p low n
+  found-is n low None a h = nothing-in n low a h
+  found-is n low (Some i) a (b, l, e, m) = found-in n low i b l m e
+
+  -- what the answer says
+  pub in-some : (n low i : ℕ) → Some i ≡ first_in p low n → (i ≡ first_of p low (n - low)) × (i < n)
+  in-some n low i e =
+      ⊎_elim
+      (λ l. let a = in-at n low (first_of p low (n - low)) refl l in
+      let s : i ≡ first_of p low (n - low) = cc in (s, omega arith))
+      (λ l. let a = in-end n low (first_of p low (n - low)) refl l in let z : ◌≡◌ {A = ℕ} 0 1 = cc in absurd (omega arith))
+      (lt-or-le (first_of p low (n - low)) n)
+
+  pub in-none : (n low : ℕ) → None ≡ first_in p low n → n ≤ first_of p low (n - low)
+  in-none n low e =
+      ⊎_elim (λ l. let a = in-at n low (first_of p low (n - low)) refl l in let z : ◌≡◌ {A = ℕ} 0 1 = cc in absurd (omega arith)) (λ l. l)
+      (lt-or-le (first_of p low (n - low)) n)
 
   -- ---- all
 
@@ -125,3 +168,6 @@ module _ (p q : ℕ → Bool) where
   unfolding all_of
   all_same zero i h = refl
   all_same (suc k) i h = rw (h i (omega arith) (omega arith), all_same k (suc i) (λ v a b. h v (omega arith) (omega arith)))
+
+  pub first-in-same : (n : ℕ) → ((v : ℕ) → v < n → p v ≡ q v) → first_in p 0 n ≡ first_in q 0 n
+  first-in-same n h = ap (λ (f : ℕ). cond (ltb f n) (Some f) None) (first-same (n - 0) 0 (λ v a b. h v (omega arith)))

@@ -1,6 +1,6 @@
 -- A function's nodes by their indices, and the order of them. `ts` has `operand_limit` slots for each node: the indices of the
 -- nodes that it reads. A slot that holds n or more stands for no node. n is the node count.
-use Rattle.std.specs.Prelude.{ℕ, zero, suc, ◌+◌, ◌*◌, Bool, true, false, not, ◌&&◌, ◌||◌, cond, List, [], ◌∷◌, leb, ltb, get_or}
+use Rattle.std.specs.Prelude.{ℕ, zero, suc, ◌+◌, ◌*◌, Bool, true, false, not, ◌&&◌, ◌||◌, cond, List, [], ◌∷◌, leb, ltb, get_or, ◌-◌, Option, Some, None}
 use Rattle.base.specs.Lists.{member}
 use Rattle.base.specs.Limits.{operand_limit}
 
@@ -10,6 +10,10 @@ use Rattle.base.specs.Limits.{operand_limit}
 unfoldable pub first_of : (ℕ → Bool) → ℕ → ℕ → ℕ
 first_of p i zero = i
 first_of p i (suc k) = cond (p i) i (first_of p (suc i) k)
+
+-- the first from i up to n that passes, if there is one
+abbrev pub first_in : (ℕ → Bool) → ℕ → ℕ → Option ℕ
+first_in p i n = let f = first_of p i (n - i) in cond (ltb f n) (Some f) None
 
 -- each passes
 unfoldable pub all_of : (ℕ → Bool) → ℕ → ℕ → Bool
@@ -35,9 +39,9 @@ settled n done v = leb n v || done v
 abbrev pub ready : List ℕ → ℕ → (ℕ → Bool) → ℕ → Bool
 ready ts n done i = all_of (λ j. settled n done (slot ts i j)) 0 operand_limit
 
--- the first node that node i waits for, or n
-abbrev pub waits : List ℕ → ℕ → (ℕ → Bool) → ℕ → ℕ
-waits ts n done i = let j = first_of (λ j. not (settled n done (slot ts i j))) 0 operand_limit in cond (ltb j operand_limit) (slot ts i j) n
+-- the first node that node i waits for, if there is one
+abbrev pub waits : List ℕ → ℕ → (ℕ → Bool) → ℕ → Option ℕ
+waits ts n done i = let j = first_of (λ j. not (settled n done (slot ts i j))) 0 operand_limit in cond (ltb j operand_limit) (Some (slot ts i j)) None
 
 -- not done, and ready
 abbrev pub eligible : List ℕ → ℕ → (ℕ → Bool) → ℕ → Bool

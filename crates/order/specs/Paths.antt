@@ -1,8 +1,6 @@
 -- Following slots from node to node, and loops.
-use Rattle.std.specs.Prelude.{ℕ, zero, suc, ◌≡◌, Bool, true, ◌&&◌, ◌||◌, cond, List, eqb, ltb}
-use Rattle.order.specs.declared.OnLoop.{OnLoop}
-use Rattle.order.specs.declared.OnLoop.TheVariants.{At, Nothing}
-use Rattle.order.specs.Indices.{first_of, any_of, slot}
+use Rattle.std.specs.Prelude.{ℕ, zero, suc, ◌≡◌, Bool, true, ◌&&◌, ◌||◌, List, eqb, ltb, Option}
+use Rattle.order.specs.Indices.{first_in, any_of, slot}
 use Rattle.base.specs.Limits.{operand_limit}
 
 -- j is a node that a slot of node i holds
@@ -23,6 +21,6 @@ via ts n k (suc m) i j = via ts n (suc k) m i j || (via ts n (suc k) m i k && vi
 abbrev pub on_loop : List ℕ → ℕ → ℕ → Bool
 on_loop ts n i = via ts n 0 n i i
 
--- the first node on a loop
-unfoldable pub first_on_loop : List ℕ → ℕ → OnLoop
-first_on_loop ts n = let i = first_of (on_loop ts n) 0 n in cond (ltb i n) (At i) Nothing
+-- the first node on a loop, if there is one
+unfoldable pub first_on_loop : List ℕ → ℕ → Option ℕ
+first_on_loop ts n = first_in (on_loop ts n) 0 n

@@ -1,7 +1,6 @@
 -- A walk along slots: the nodes that were seen, in the order in which they were.
-use Rattle.std.specs.Prelude.{ℕ, zero, suc, ◌+◌, ◌≡◌, Bool, true, not, ◌&&◌, cond, List, [], ◌∷◌, ltb, length, set}
+use Rattle.std.specs.Prelude.{ℕ, zero, suc, ◌+◌, Bool, true, not, ◌&&◌, cond, List, [], ◌∷◌, ltb, set}
 use Rattle.order.specs.Indices.{slot, marked}
-use Rattle.base.specs.Limits.{node_limit}
 
 -- marks of the nodes seen, and a queue of them that ends before `tail`
 pub record Walk : Type 0 where
@@ -26,9 +25,3 @@ visit_from ts n i j (suc k) w = visit_from ts n i (suc j) k (visit n (slot ts i 
 abbrev pub unmarked : List Bool → ℕ
 unmarked [] = 0
 unmarked (m ∷ ms) = cond m (unmarked ms) (suc (unmarked ms))
-
--- the queue has room for each node that was not seen
-pub record Room (w : Walk) : Type 0 where
-  pub marks : length w.seen ≡ node_limit
-  pub places : length w.queue ≡ node_limit
-  pub rest : w.tail + unmarked w.seen ≡ node_limit

@@ -10,7 +10,7 @@ use lib.Seq.{sets, length-sets}
 use Rattle.base.specs.Limits.{port_limit, word_limit, placed_limit}
 use Rattle.base.proofs.Stores.{stored-above}
 use Rattle.bytecode.specs.Run.{BoardList}
-use Rattle.placement.specs.declared.Extent.TheVariants.{Words, Over}
+use Rattle.std.specs.Prelude.{Some, None}
 use Rattle.placement.specs.Place.{Placed}
 use Rattle.placement.specs.Balance.{history_of, Balanced}
 use Rattle.placement.specs.Arrays.{Wide, Widths, Lasting}
@@ -151,13 +151,13 @@ module _ (widths last : List ℕ) (m n : ℕ) (until₀ place₀ : List ℕ) (hi
         }
 
     pub going-over : (place' until' : List ℕ) → Begun widths last m until₀ place₀ high₀ → word_limit < at + w → (inputs : List ℕ) (b : BoardList)
-        → n ≤ length b.instructions → Widths widths m inputs b → Lasting last m inputs b → Placement m n place' until' Over inputs b
+        → n ≤ length b.instructions → Widths widths m inputs b → Lasting last m inputs b → Placement m n place' until' None inputs b
     going-over place' until' s over inputs b many ws h =
         result-over widths last m inputs b ws h until place high k w at (g.state last inputs b many s.rest ws h (s.state inputs b ws h)).0 (omega arith) e one
         p.gap n place' until' more over
 
   pub going_end : Begun widths last m until₀ place₀ high₀ → n ≤ k → (inputs : List ℕ) (b : BoardList) → n ≤ length b.instructions → Widths widths m inputs b
-      → Lasting last m inputs b → Placement m n place until (Words high) inputs b
+      → Lasting last m inputs b → Placement m n place until (Some high) inputs b
   going_end s done inputs b many ws h =
       let (kept, balanced) = g.state last inputs b many s.rest ws h (s.state inputs b ws h) in
       let turns = g.turns in

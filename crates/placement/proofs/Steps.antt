@@ -18,7 +18,7 @@ use Rattle.base.proofs.Lists.{each_on}
 use Rattle.bytecode.specs.Run.{Instruction, BoardList}
 use Rattle.bytecode.specs.Ranges.{Range, end, inside, result_value}
 use Rattle.bytecode.proofs.Readable.{inside-inv}
-use Rattle.placement.specs.declared.Extent.TheVariants.{Words, Over}
+use Rattle.std.specs.Prelude.{Some, None}
 use Rattle.placement.specs.Live.{live}
 use Rattle.placement.specs.Place.{Placed, words, top, gap, held_at, placed}
 use Rattle.placement.specs.Balance.{blank, instruction_at, history_of, earlier, held_during, Apart, free, Balanced}
@@ -240,24 +240,24 @@ module _ (widths' last : List ℕ) (m : ℕ) (inputs : List ℕ) (b : BoardList)
               (λ c. free-now x c late fits ∙ ap (λ (ps : List Placed). not (covered ps c)) same);
         }
 
-    pub result-over : (n : ℕ) (place' until' : List ℕ) → k < n → word_limit < a + w → Placement m n place' until' Over inputs b
+    pub result-over : (n : ℕ) (place' until' : List ℕ) → k < n → word_limit < a + w → Placement m n place' until' None inputs b
     result-over n place' until' more over =
         let t = history-up inputs b (suc k) n (omega arith) in
         let u = ap top history-is in
         let v = width_is in
         let g : word_limit < top (history_of inputs b n) = omega arith in
         record {
-          extent = ap (λ (c : Bool). cond c (Words (top (history_of inputs b n))) Over) (sym (lt-leb (top (history_of inputs b n)) word_limit g));
+          extent = ap (λ (c : Bool). cond c (Some (top (history_of inputs b n))) None) (sym (lt-leb (top (history_of inputs b n)) word_limit g));
           places = λ f. absurd (omega arith);
           balanced = λ f. absurd (omega arith);
         }
 
   pub results_end : (until place : List ℕ) (high k n : ℕ) → Kept until place high (m + k) k (history_of inputs b k) inputs b → ((j : ℕ) → k ≡ suc j → Balanced inputs b j until)
-      → k ≡ n → high ≤ word_limit → Placement m n place until (Words high) inputs b
+      → k ≡ n → high ≤ word_limit → Placement m n place until (Some high) inputs b
   results_end until place high k n s balanced e hh =
       let t : high ≡ top (history_of inputs b n) = sym s.highest ∙ ap (λ (j : ℕ). top (history_of inputs b j)) e in
       record {
-        extent = ap Words t ∙ ap (λ (d : Bool). cond d (Words (top (history_of inputs b n))) Over) (sym (le-leb (top (history_of inputs b n)) word_limit (omega arith)));
+        extent = ap Some t ∙ ap (λ (d : Bool). cond d (Some (top (history_of inputs b n))) None) (sym (le-leb (top (history_of inputs b n)) word_limit (omega arith)));
         places = λ f v lv. subst (λ (j : ℕ). PlacedAt inputs b place (history_of inputs b j) v) e (s.places v (omega arith));
         balanced = λ f j q. balanced j (e ∙ q);
       }

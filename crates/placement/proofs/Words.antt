@@ -16,7 +16,7 @@ use Rattle.bytecode.specs.Run.{Instruction, BoardList, spans}
 use Rattle.bytecode.specs.Sequential.{next_word, AllFit}
 use Rattle.bytecode.specs.Ranges.{any, Range, end, inside}
 use Rattle.bytecode.proofs.Readable.{is-inside}
-use Rattle.placement.specs.declared.Extent.{Extent}
+use Rattle.std.specs.Prelude.{Option}
 use Rattle.placement.specs.Place.{Placed, words, top, inputs_of, places_of, rename, reusing}
 use Rattle.placement.specs.OneValue.{InOneEach, Placeable}
 use Rattle.placement.specs.Balance.{blank, instruction_at, history_of}
@@ -115,7 +115,7 @@ all-wide widths m inputs b t w v l = pick (ltb v m) refl
 
 -- ---- after `place_all` for all instructions
 
-module _ (inputs : List ℕ) (b : BoardList) (m n : ℕ) (place until : List ℕ) (r : Extent) (all : n ≡ length b.instructions) (p : Placement m n place until r inputs b) where
+module _ (inputs : List ℕ) (b : BoardList) (m n : ℕ) (place until : List ℕ) (r : Option ℕ) (all : n ≡ length b.instructions) (p : Placement m n place until r inputs b) where
   -- the answer is the list's word count, or over
   pub extent-is : r ≡ extent_of (reusing inputs b).words
   extent-is = p.extent ∙ ap (λ (ps : List Placed). extent_of (top ps)) (ap (λ (k : ℕ). history_of inputs b k) all ∙ history-all inputs b)

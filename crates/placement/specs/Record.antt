@@ -1,5 +1,5 @@
 -- The record of held words, the search for a gap in it, and what the code has placed.
-use Rattle.std.specs.Prelude.{ℕ, suc, ◌+◌, ◌*◌, ◌/◌, ◌%◌, ◌≤◌, ◌<◌, max, ◌≡◌, Bool, cond, List, leb, ltb, length, get_or, drop, replicate}
+use Rattle.std.specs.Prelude.{ℕ, suc, Option, Some, None, ◌+◌, ◌*◌, ◌/◌, ◌%◌, ◌≤◌, ◌<◌, max, ◌≡◌, Bool, cond, List, leb, ltb, length, get_or, drop, replicate}
 use Rattle.std.proofs.lemmas.List.Edits.{sets}
 use Rattle.base.specs.Limits.{port_limit, word_limit, value_limit, placed_limit}
 use Rattle.base.specs.Lists.{Each, Is}
@@ -7,8 +7,6 @@ use Rattle.bytecode.specs.Run.{BoardList}
 use Rattle.bytecode.specs.Ranges.{any, inside}
 use Rattle.placement.specs.declared.Look.{Look}
 use Rattle.placement.specs.declared.Look.TheVariants.{Gap, Full}
-use Rattle.placement.specs.declared.Extent.{Extent}
-use Rattle.placement.specs.declared.Extent.TheVariants.{Words, Over}
 use Rattle.placement.specs.Place.{Placed, words, top, held_at}
 use Rattle.placement.specs.Balance.{history_of, Balanced}
 use Rattle.placement.specs.Arrays.{value_at, Widths, Lasting}
@@ -55,6 +53,11 @@ pub record Placing (until exit low : List ℕ) (k n last high at : ℕ) : Type 0
   pub stored : at + n ≤ word_limit → exit ≡ sets until at (replicate n (max last (k + 1)))
   pub bounds : at + n ≤ word_limit → Bounds exit low (max high (at + n))
 
+-- the same of its answer: the first word and what is then the highest plus one, or that the gap passes the limit
+abbrev pub Taken : List ℕ → List ℕ → List ℕ → ℕ → ℕ → ℕ → ℕ → ℕ → Option ℕ → Type 0
+Taken until exit low high' k n last high (Some at) = (at + n ≤ word_limit) × (high' ≡ max high (at + n)) × Placing until exit low k n last high at
+Taken until exit low high' k n last high None = (at : ℕ) × (word_limit < at + n) × Placing until exit low k n last high at
+
 -- ---- the record and the history
 
 -- a is a word of one of these
@@ -93,12 +96,12 @@ pub record Begun (widths last : List ℕ) (m : ℕ) (until place : List ℕ) (hi
 -- ---- the first n results of a list with m inputs
 
 -- the highest word and one, or more than the limit
-abbrev pub extent_of : ℕ → Extent
-extent_of n = cond (leb n word_limit) (Words n) Over
+abbrev pub extent_of : ℕ → Option ℕ
+extent_of n = cond (leb n word_limit) (Some n) None
 
 -- within the limit every value has its place, and the record is balanced at the last of these instructions: that is at each, as n may
 -- be any of them
-pub record Placement (m n : ℕ) (place until : List ℕ) (r : Extent) (inputs : List ℕ) (b : BoardList) : Type 0 where
+pub record Placement (m n : ℕ) (place until : List ℕ) (r : Option ℕ) (inputs : List ℕ) (b : BoardList) : Type 0 where
   pub extent : r ≡ extent_of (top (history_of inputs b n))
   pub places : top (history_of inputs b n) ≤ word_limit → (v : ℕ) → v < m + n → PlacedAt inputs b place (history_of inputs b n) v
   pub balanced : top (history_of inputs b n) ≤ word_limit → (k : ℕ) → n ≡ suc k → Balanced inputs b k until

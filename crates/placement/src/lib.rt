@@ -1,47 +1,16 @@
 // The places of values whose words are used again.
 #![tactic(auto)]
 
-ghost use Rattle.std.specs.Prelude.{◌≡◌, List, ℕ, ◌+◌, ◌<◌, ◌≤◌, max, min, length, replicate};
+ghost use Rattle.std.specs.Prelude.{◌≡◌, List, ℕ, ◌+◌, ◌<◌, ◌≤◌, length, replicate};
 ghost use Rattle.std.proofs.lemmas.List.Edits.{sets};
 ghost use Rattle.base.specs.Limits.{port_limit, operation_limit, word_limit, value_limit, placed_limit};
 ghost use Rattle.bytecode.specs.Run.{BoardList};
 ghost use Rattle.placement.specs.Arrays.{Wide, Widths, Lasting};
-ghost use Rattle.placement.specs.Record.{Lowest, Looked, Bounds, Placing, Begun, Placement};
+ghost use Rattle.placement.specs.Record.{Lowest, Looked, Bounds, Taken, Begun, Placement};
 
-use base::{PLACED_LIMIT, VALUE_LIMIT, WORD_LIMIT, wide};
-
-// The highest word ever held plus one, unless it passes the limit.
-#[derive(Clone, Copy)]
-pub enum Extent {
-    Words(usize),
-    Over,
-}
+use base::{PLACED_LIMIT, VALUE_LIMIT, WORD_LIMIT};
 
 // ---- the record: for each word the instruction before which it is no longer held, so that nothing has to be released
-
-// The lowest word from which `width` words are free at instruction k. The words from `high` on are free.
-fn scan_words(until: &[u16; WORD_LIMIT], k: u16, width: usize, high: usize) -> usize
-    requires { (high ≤ word_limit) × (1 ≤ width) × (width ≤ value_limit) }
-    ensures { Lowest until.now k width 0 high result }
-{
-    let mut start = 0;
-    let mut at = 0;
-    while at < high {
-        let stop = until[at];
-        if k < stop {
-            at += 1;
-            start = at;
-        } else if at + 1 == start + width {
-            return start;
-        } else {
-            at += 1;
-        }
-    }
-    start
-}
-
-// ---- with many words held: by blocks, each with an instruction before which no gap starts there. As words that are held are
-// not given away, such a bound stays one.
 
 const BLOCK: usize = 64;
 
@@ -53,90 +22,119 @@ const FEW: usize = 64;
 // Behind all instructions.
 const NEVER: u16 = 0xFFFF;
 
-// What a block has: a gap that starts there, or a bound.
+// A gap of `width` words that is wanted at instruction k.
+#[derive(Clone, Copy)]
+struct Wanted {
+    k: u16,
+    width: usize,
+    ghost some: { 1 ≤ width },
+    ghost few: { width ≤ value_limit },
+}
+
+// The lowest word from which such words are free. The words from `high` on are free.
+fn scan_words(until: &[u16; WORD_LIMIT], wanted: Wanted, high: usize) -> usize
+    requires { high ≤ word_limit }
+    ensures { Lowest until.now wanted.k wanted.width 0 high result }
+{
+    let Wanted { k, width } = wanted;
+    let mut start = 0;
+    for at in 0..high {
+        if k < until[at] {
+            start = at + 1;
+        } else if at + 1 == start + width {
+            return start;
+        }
+    }
+    start
+}
+
+// ---- with many words held: by blocks, each with an instruction before which no gap starts there. As words that are held are
+// not given away, such a bound stays one.
+
+// What a block has: a gap that starts there, or a bound. Neither is an error, so that this is no `Result`.
 #[derive(Clone, Copy)]
 enum Look {
     Gap(usize),
     Full(u16),
 }
 
-fn sooner(a: u16, b: u16) -> u16
-    ensures { result ≡ min a b }
+fn look_in(until: &[u16; WORD_LIMIT], wanted: Wanted, from: usize, high: usize) -> Look
+    requires { (high ≤ word_limit) × (from ≤ high) }
+    ensures { Looked until.now wanted.k wanted.width from high result }
 {
-    if b < a { b } else { a }
-}
-
-fn look_in(until: &[u16; WORD_LIMIT], k: u16, width: usize, from: usize, high: usize) -> Look
-    requires { (high ≤ word_limit) × (1 ≤ width) × (width ≤ value_limit) × (from ≤ high) }
-    ensures { Looked until.now k width from high result }
-{
+    let Wanted { k, width } = wanted;
     let edge = from + BLOCK;
     let mut bound = NEVER;
     let mut start = from;
-    let mut at = from;
-    while start < edge {
-        if high <= at {
-            return Look::Gap(start);
-        }
+    for at in from..high {
         let stop = until[at];
         if k < stop {
-            bound = sooner(bound, stop);
-            at += 1;
-            start = at;
+            bound = bound.min(stop);
+            start = at + 1;
+            if edge <= start {
+                return Look::Full(bound);
+            }
         } else if at - start + 1 == width {
             return Look::Gap(start);
-        } else {
-            at += 1;
         }
     }
-    Look::Full(bound)
+    Look::Gap(start)
 }
 
-fn search_blocks(
-    until: &[u16; WORD_LIMIT],
-    low: &mut [u16; BOUND_LIMIT],
-    k: u16,
-    width: usize,
+// What is known of the record: for each width and block a bound, and the highest word ever held plus one. The words from there on
+// are free. The record stands beside it and not in it, as it is lent, and no ghost field may speak of what is lent.
+#[derive(Drop)]
+struct Known {
+    low: [u16; BOUND_LIMIT],
     high: usize,
-) -> usize
-    requires { (high ≤ word_limit) × (1 ≤ width) × (width ≤ value_limit) × Bounds until.now low.old high }
-    ensures { Lowest until.now k width 0 high result × Bounds until.now low.new high }
-{
-    let row = (width - 1) * BLOCKS;
-    let mut block = 0;
-    while block * BLOCK < high {
-        let known = low[row + block];
-        if k < known {
-            block += 1;
-        } else {
-            match look_in(until, k, width, block * BLOCK, high) {
-                Look::Gap(at) => {
-                    return at;
-                }
-                Look::Full(bound) => {
-                    low[row + block] = bound;
-                    block += 1;
+    ghost room: { high ≤ word_limit },
+}
+
+impl Known {
+    fn search_blocks(&mut self, until: &[u16; WORD_LIMIT], wanted: Wanted) -> usize
+        requires { Bounds until.now self.old.low self.old.high }
+        ensures { Lowest until.now wanted.k wanted.width 0 self.old.high result × Bounds until.now self.new.low self.old.high × (self.new.high ≡ self.old.high) }
+    {
+        let row = (wanted.width - 1) * BLOCKS;
+        for block in 0..self.high.div_ceil(BLOCK) {
+            if self.low[row + block] <= wanted.k {
+                match look_in(until, wanted, block * BLOCK, self.high) {
+                    Look::Gap(at) => {
+                        return at;
+                    }
+                    Look::Full(bound) => {
+                        self.low[row + block] = bound;
+                    }
                 }
             }
         }
+        self.high
     }
-    high
-}
 
-fn lowest_gap(
-    until: &[u16; WORD_LIMIT],
-    low: &mut [u16; BOUND_LIMIT],
-    k: u16,
-    width: usize,
-    high: usize,
-) -> usize
-    requires { (high ≤ word_limit) × (1 ≤ width) × (width ≤ value_limit) × Bounds until.now low.old high }
-    ensures { Lowest until.now k width 0 high result × Bounds until.now low.new high }
-{
-    if high <= FEW {
-        scan_words(until, k, width, high)
-    } else {
-        search_blocks(until, low, k, width, high)
+    fn lowest(&mut self, until: &[u16; WORD_LIMIT], wanted: Wanted) -> usize
+        requires { Bounds until.now self.old.low self.old.high }
+        ensures { Lowest until.now wanted.k wanted.width 0 self.old.high result × Bounds until.now self.new.low self.old.high × (self.new.high ≡ self.old.high) }
+    {
+        if self.high <= FEW {
+            scan_words(until, wanted, self.high)
+        } else {
+            self.search_blocks(until, wanted)
+        }
+    }
+
+    // A value takes the lowest gap, unless that passes the limit. It is held behind its own instruction in any case.
+    fn place(&mut self, until: &mut [u16; WORD_LIMIT], wanted: Wanted, last: u16) -> Option<usize>
+        requires { (wanted.k < operation_limit) × (length until.old ≡ word_limit) × Bounds until.old self.old.low self.old.high }
+        ensures { Taken until.old until.new self.new.low self.new.high wanted.k wanted.width last self.old.high result }
+    {
+        let at = self.lowest(until, wanted);
+        let end = at + wanted.width;
+        if WORD_LIMIT < end {
+            return None;
+        }
+        hold(until, at, wanted.width, last.max(wanted.k + 1));
+        self.high = self.high.max(end);
+        Some(at)
     }
 }
 
@@ -147,38 +145,7 @@ fn hold(until: &mut [u16; WORD_LIMIT], at: usize, width: usize, stop: u16)
     requires { at + width ≤ word_limit }
     ensures { until.new ≡ sets until.old at (replicate width stop) }
 {
-    let mut j = 0;
-    while j < width {
-        until[at + j] = stop;
-        j += 1;
-    }
-}
-
-// The instruction before which a result of instruction k is no longer held: not k itself.
-fn end_of(k: u16, last: u16) -> u16
-    requires { k < operation_limit }
-    ensures { result ≡ max last (k + 1) }
-{
-    if last <= k { k + 1 } else { last }
-}
-
-// A value of `width` words takes the lowest gap at instruction k, unless the gap passes the limit.
-fn place_one(
-    until: &mut [u16; WORD_LIMIT],
-    low: &mut [u16; BOUND_LIMIT],
-    k: u16,
-    width: usize,
-    last: u16,
-    high: usize,
-) -> usize
-    requires { (high ≤ word_limit) × (1 ≤ width) × (width ≤ value_limit) × (k < operation_limit) × (length until.old ≡ word_limit) × Bounds until.old low.old high }
-    ensures { Placing until.old until.new low.new k width last high result }
-{
-    let at = lowest_gap(until, low, k, width, high);
-    if at + width <= WORD_LIMIT {
-        hold(until, at, width, end_of(k, last));
-    }
-    at
+    until[at..at + width].fill(stop);
 }
 
 // The inputs take the first words; the answer is how many.
@@ -192,43 +159,40 @@ fn place_inputs(
     ensures { Begun widths.now place.old m until.new place.new result }
 {
     let mut at = 0;
-    let mut v = 0;
-    while v < m {
-        let w = wide(widths[v]);
+    for v in 0..m {
+        let w = usize::from(widths[v]);
         hold(until, at, w, place[v]);
         place[v] = at as u16;
         at += w;
-        v += 1;
     }
     at
 }
 
 // The m inputs and the first n results of a list. `place` holds for each value the instruction before which it is no longer
-// held, and then its place.
+// held, and then its place. The answer is the highest word ever held plus one, unless it passes the limit. Widths and places stand
+// in two arrays, as structs of a byte and two would take a third more of the stack.
 pub fn place_all(
     widths: &[u8; PLACED_LIMIT],
     m: usize,
     n: usize,
     until: &mut [u16; WORD_LIMIT],
     place: &mut [u16; PLACED_LIMIT],
-) -> Extent
+) -> Option<usize>
     requires { (m ≤ port_limit) × (n ≤ operation_limit) × Wide widths.now (m + n) × (until.old ≡ replicate word_limit 0) × (length place.old ≡ placed_limit) }
     ensures by_index { (inputs : List ℕ) (b : BoardList) → n ≤ length b.instructions → Widths widths.now m inputs b → Lasting place.old m inputs b → Placement m n place.new until.new result inputs b }
     ensures place_len { length place.new ≡ placed_limit }
 {
-    let mut low = [0u16; BOUND_LIMIT];
-    let mut high = place_inputs(widths, m, until, place);
-    let mut k = 0;
-    while k < n {
-        let w = wide(widths[m + k]);
-        let at = place_one(until, &mut low, k as u16, w, place[m + k], high);
-        if at + w <= WORD_LIMIT {
-            place[m + k] = at as u16;
-            high = base::higher(high, at + w);
-            k += 1;
-        } else {
-            return Extent::Over;
-        }
+    let high = place_inputs(widths, m, until, place);
+    let mut known = Known {
+        low: [0u16; BOUND_LIMIT],
+        high,
+    };
+    for k in 0..n {
+        let wanted = Wanted {
+            k: k as u16,
+            width: usize::from(widths[m + k]),
+        };
+        place[m + k] = known.place(until, wanted, place[m + k])? as u16;
     }
-    Extent::Words(high)
+    Some(known.high)
 }

@@ -1,4 +1,5 @@
 -- What a call for many points answers: each refusal in its turn, or what all calls leave.
+use Rattle.std.specs.Prelude.{None}
 use Prim.Native.Nat.{ℕ, ◌*◌, ◌≤◌, ◌<◌}
 use mathlib.Core.Path.{◌≡◌, refl, ap, sym, ◌∙◌, subst}
 use mathlib.Core.Bool.{Bool, true, false, ◌&&◌}
@@ -24,9 +25,6 @@ use Rattle.bytecode.specs.declared.Version.{Version}
 use Rattle.bytecode.specs.WellFormed.{Codes}
 use Rattle.bytecode.proofs.Decoded.{well-formed, not-well-formed}
 use Rattle.runner.specs.declared.Counts.{Counts}
-use Rattle.runner.specs.declared.Checked.TheVariants.{Malformed}
-use Rattle.runner.specs.declared.Ran.{Ran}
-use Rattle.runner.specs.declared.Ran.TheVariants.{Done, Refused}
 use Rattle.runner.specs.Checks.{counts_of, checked_of}
 use Rattle.runner.specs.Runs.{answer_of, work_after, out_after, Answered, Refused18}
 use Rattle.runner.proofs.Decoding.{Decoded, decoded, is-malformed, refused}
@@ -38,23 +36,23 @@ use Rattle.points.proofs.Calls.{none-refused}
 -- ---- forwards: from what the code tests
 
 module _ (s : List ℕ) (points : ℕ) (arguments work out : List ℕ) where
-  abbrev Answers : List ℕ → List ℕ → Ran → Type 0
+  abbrev Answers : List ℕ → List ℕ → Outcome ℕ → Type 0
   Answers = Answered (ran_points s points arguments work out) work out
 
   unread : decode s ≡ none → ran_points s points arguments work out ≡ fault 18 0
   unfolding ran_points ◌>>=◌
   unread e = rw e refl
 
-  pub refused-18 : checked_of (decode s) ≡ Malformed → Answers work out (Refused 18 0)
+  pub refused-18 : checked_of (decode s) ≡ None → Answers work out (fault 18 0)
   refused-18 e = refused (ran_points s points arguments work out) 18 0 work out (unread (is-malformed (decode s) e))
 
   module _ {c : Counts} (d : Decoded s c) where
-    pub refused-22 : point_limit < points → Answers work out (Refused 22 0)
+    pub refused-22 : point_limit < points → Answers work out (fault 22 0)
     unfolding ran_points ◌>>=◌ ◌>>◌ need
     refused-22 l = refused (ran_points s points arguments work out) 22 0 work out (rw (d.is, lt-leb points point_limit l))
 
     module _ (few : points ≤ point_limit) where
-      pub refused-19 : (length arguments ≡ points * c.arguments → ⊥) → Answers work out (Refused 19 0)
+      pub refused-19 : (length arguments ≡ points * c.arguments → ⊥) → Answers work out (fault 19 0)
       unfolding ran_points ◌>>=◌ ◌>>◌ need
       refused-19 n =
           refused (ran_points s points arguments work out) 19 0 work out
@@ -64,16 +62,16 @@ module _ (s : List ℕ) (points : ℕ) (arguments work out : List ℕ) where
         all_there : eqb (length arguments) (points * d.list.arguments) ≡ true
         all_there = eq-eqb (length arguments) (points * d.list.arguments) (count ∙ ap (λ (k : ℕ). points * k) d.arguments)
 
-        pub refused-20 : every argument_word arguments ≡ false → Answers work out (Refused 20 0)
+        pub refused-20 : every argument_word arguments ≡ false → Answers work out (fault 20 0)
         unfolding ran_points ◌>>=◌ ◌>>◌ need
         refused-20 f = refused (ran_points s points arguments work out) 20 0 work out (rw (d.is, le-leb points point_limit few, all_there, f))
 
         module _ (f : every argument_word arguments ≡ true) where
-          short : (leb d.list.words (length work) && leb (points * length d.list.outputs) (length out)) ≡ false → Answers work out (Refused 21 0)
+          short : (leb d.list.words (length work) && leb (points * length d.list.outputs) (length out)) ≡ false → Answers work out (fault 21 0)
           unfolding ran_points ◌>>=◌ ◌>>◌ need
           short h = refused (ran_points s points arguments work out) 21 0 work out (rw (d.is, le-leb points point_limit few, all_there, f, h))
 
-          pub refused-work : length work < c.words → Answers work out (Refused 21 0)
+          pub refused-work : length work < c.words → Answers work out (fault 21 0)
           refused-work l =
               let w = d.words in
               short (ap (λ (b : Bool). b && leb (points * length d.list.outputs) (length out)) (lt-leb d.list.words (length work) (omega arith)))
@@ -81,7 +79,7 @@ module _ (s : List ℕ) (points : ℕ) (arguments work out : List ℕ) where
           outputs-are : points * c.outputs ≡ points * length d.list.outputs
           outputs-are = ap (λ (k : ℕ). points * k) d.outputs
 
-          pub refused-out : length out < points * c.outputs → Answers work out (Refused 21 0)
+          pub refused-out : length out < points * c.outputs → Answers work out (fault 21 0)
           refused-out l =
               let o = outputs-are in
               short
@@ -89,8 +87,8 @@ module _ (s : List ℕ) (points : ℕ) (arguments work out : List ℕ) where
               ∙ and-false (leb d.list.words (length work)))
 
           pub completed : c.words ≤ length work → points * c.outputs ≤ length out → {work' out' : List ℕ} → AllRan s c points arguments work out work' out'
-              → Answers work' out' (Done (points * c.outputs))
-          unfolding answer_of work_after out_after ran_points ◌>>=◌ ◌>>◌ need
+              → Answers work' out' (ok (points * c.outputs))
+          unfolding work_after out_after ran_points ◌>>=◌ ◌>>◌ need
           completed w o {work'} {out'} e =
               let dw = d.words in
               let do' = outputs-are in
@@ -188,8 +186,7 @@ module _ (s : List ℕ) (points : ℕ) (arguments work out : List ℕ) where
           subst (λ (x : ℕ). x ≤ point_limit * port_word_limit) (sym k) (few_words few small)
 
   -- so 18 is exactly for the code of no list
-  pub points-exact : Bytes s → {work' out' : List ℕ} {r : Ran} → Answered (ran_points s points arguments work out) work out work' out' r → Refused18 s r
-  unfolding answer_of
+  pub points-exact : Bytes s → {work' out' : List ℕ} {r : Outcome ℕ} → Answered (ran_points s points arguments work out) work out work' out' r → Refused18 s r
   points-exact small h = (λ e. there refl (points-fault 18 0 (is-fault _ 18 0 (sym h.answer ∙ e))), λ k. h.answer ∙ ap answer_of (unread s points arguments work out ((not-well-formed s small).1 (λ b (v, q). k v b q))))
     where
       there : {n p : ℕ} → n ≡ 18 → ((decode s ≡ none) × (n ≡ 18) × (p ≡ 0)) ⊎ Late n p → (v : Version) (b : BoardList) → Codes v s b → ⊥

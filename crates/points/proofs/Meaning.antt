@@ -1,5 +1,6 @@
 -- Demand 3 for each point. Every call runs the list of the function, so it gives what the graph means at its point, whatever the call before
 -- left in the work buffer.
+use Rattle.std.specs.Prelude.{Result, Ok, Err}
 use Prim.Native.Nat.{ℕ, ◌*◌, ◌≤◌}
 use mathlib.Core.Path.{◌≡◌, refl, ap, ap₂, sym, ◌∙◌, subst}
 use mathlib.Core.Bool.{◌&&◌}
@@ -14,7 +15,9 @@ use Rattle.base.specs.Limits.{point_limit}
 use Rattle.base.specs.Lists.{word_at, every, Each}
 use Rattle.base.specs.Outcome.{Outcome, ok, or_else}
 use Rattle.base.proofs.Bools.{and_both}
-use Rattle.base.proofs.Outcomes.{takes, passes, some-else}
+use Rattle.base.proofs.Outcomes.{takes, passes, some-else, ok-is, no-fault}
+use Rattle.base.specs.declared.refusal.Refusal.{Refusal}
+use Rattle.base.specs.Refusals.{number, outcome}
 use Rattle.base.proofs.Stores.{front}
 use Rattle.value.specs.Values.{argument_word}
 use Rattle.value.specs.Typed.{Finite}
@@ -29,8 +32,6 @@ use Rattle.bytecode.proofs.Back.{decode-encode}
 use Rattle.lowering.specs.Answers.{list_of, words_of, code_of}
 use Rattle.lowering.specs.Demand3.{Within, Lent}
 use Rattle.lowering.proofs.Whole.{leaves, laws, fits, list-ok, means}
-use Rattle.runner.specs.declared.Ran.{Ran}
-use Rattle.runner.specs.declared.Ran.TheVariants.{Done}
 use Rattle.runner.specs.Runs.{answer_of, work_after, out_after, Answered}
 use Rattle.points.specs.Points.{one_by_one, ran_points}
 use Rattle.points.specs.Demand3.{input_words, output_words, LentPoints, Demand3Points}
@@ -115,10 +116,14 @@ demand3-points code points arguments work out {Answer} {work'} {out'} h s c n fu
       work-rest = λ i k. ap (λ (ys : List ℕ). word_at ys i) ew ∙ a.kept.1 i k;
     }
 
+went-well : (r : Result ℕ Refusal) {n : ℕ} → outcome r ≡ ok n → r ≡ Ok n
+went-well (Ok m) e = ap Ok (ok-is e)
+went-well (Err f) {n} e = absurd (no-fault n (number f.fault) f.place (sym e))
+
 -- so does an answer of `run_points`
 pub answered-points :
-    (code : List ℕ) (points : ℕ) (arguments work out : List ℕ) {work' out' : List ℕ} {r : Ran}
-    → Answered (ran_points code points arguments work out) work out work' out' r → Demand3Points (λ n. r ≡ Done n) code points arguments work out work' out'
-unfolding answer_of work_after out_after
-answered-points code points arguments work out a =
-    demand3-points code points arguments work out (λ b g. (a.answer ∙ ap answer_of g, a.work-after ∙ ap (λ (o : Outcome Buffers). work_after o work) g, a.out-after ∙ ap (λ (o : Outcome Buffers). out_after o out) g))
+    (code : List ℕ) (points : ℕ) (arguments work out : List ℕ) {work' out' : List ℕ} {r : Result ℕ Refusal}
+    → Answered (ran_points code points arguments work out) work out work' out' (outcome r) → Demand3Points (λ n. r ≡ Ok n) code points arguments work out work' out'
+unfolding work_after out_after
+answered-points code points arguments work out {r = r} a =
+    demand3-points code points arguments work out (λ b g. (went-well r (a.answer ∙ ap answer_of g), a.work-after ∙ ap (λ (o : Outcome Buffers). work_after o work) g, a.out-after ∙ ap (λ (o : Outcome Buffers). out_after o out) g))

@@ -1,17 +1,16 @@
 -- A checked code, run at each point.
-use Rattle.std.specs.Prelude.{ℕ, ◌*◌, ◌≤◌, ◌≡◌, List, true, length}
+use Rattle.std.specs.Prelude.{Some, ℕ, ◌*◌, ◌≤◌, ◌≡◌, List, true, length}
 use Rattle.base.specs.Lists.{every}
 use Rattle.base.specs.Outcome.{ok}
 use Rattle.value.specs.Values.{argument_word}
 use Rattle.bytecode.specs.Code.{decode}
 use Rattle.runner.specs.declared.Counts.{Counts}
-use Rattle.runner.specs.declared.Checked.TheVariants.{Formed}
 use Rattle.runner.specs.Checks.{checked_of}
 use Rattle.points.specs.Points.{one_by_one}
 
 -- with these counts, on the arguments of all points and buffers of these lengths
 pub record RunnablePoints (s : List ℕ) (c : Counts) (points : ℕ) (arguments : List ℕ) (work out : ℕ) : Type 0 where
-  pub formed : checked_of (decode s) ≡ Formed c
+  pub formed : checked_of (decode s) ≡ Some c
   pub arguments-all : length arguments ≡ points * c.arguments
   pub allowed : every argument_word arguments ≡ true
   pub work-room : c.words ≤ work

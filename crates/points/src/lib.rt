@@ -1,17 +1,18 @@
 // A layer's points in one call: the code is checked once, then run at each point.
 #![tactic(auto)]
 
-ghost use Rattle.std.specs.Prelude.{length, ◌≡◌};
+ghost use Rattle.std.specs.Prelude.{Ok, length, ◌≡◌};
+ghost use Rattle.base.specs.Refusals.{outcome};
 ghost use Rattle.runner.specs.Runs.{Answered, Refused18};
-ghost use Rattle.runner.specs.declared.Ran.TheVariants.{Done};
 ghost use Rattle.points.specs.Points.{ran_points};
 ghost use Rattle.points.specs.Runs.{RunnablePoints, AllRan};
 ghost use Rattle.points.specs.Demand3.{Demand3Points};
 
-use base::POINT_LIMIT;
-use runner::{Checked, Counts, Ran};
+use base::{Fault, POINT_LIMIT, Refusal};
+use runner::Counts;
 
-// Runs a code that was checked at each point: its arguments follow those of the point before it, its output words too.
+// Runs a code that was checked at each point: its arguments follow those of the point before it, its output words too. Not in
+// chunks: no words have none, and a code without arguments runs at each point all the same.
 fn run_each(
     code: &[u8],
     counts: Counts,
@@ -25,8 +26,7 @@ fn run_each(
 {
     let mut from = 0;
     let mut to = 0;
-    let mut left = count;
-    while 0 < left {
+    for _ in 0..count {
         let next = from + counts.arguments;
         let end = to + counts.outputs;
         runner::run_checked(
@@ -38,7 +38,6 @@ fn run_each(
         );
         from = next;
         to = end;
-        left -= 1;
     }
 }
 
@@ -49,30 +48,30 @@ pub fn run_points(
     arguments: &[u64],
     work: &mut [u64],
     out: &mut [u64],
-) -> Ran
-    ensures answered { Answered (ran_points code.now count arguments.now work.old out.old) work.old out.old work.new out.new result }
-    ensures refused18 { Refused18 code.now result }
-    ensures demand3points { Demand3Points (λ n. result ≡ Done n) code.now count arguments.now work.old out.old work.new out.new }
+) -> Result<usize, Refusal>
+    ensures answered { Answered (ran_points code.now count arguments.now work.old out.old) work.old out.old work.new out.new (outcome result) }
+    ensures refused18 { Refused18 code.now (outcome result) }
+    ensures demand3points { Demand3Points (λ n. result ≡ Ok n) code.now count arguments.now work.old out.old work.new out.new }
 {
-    let Checked::Formed(counts) = runner::check_code(code) else {
-        return Ran::Refused(18, 0);
+    let Some(counts) = runner::check_code(code) else {
+        return Err(Fault::Malformed.at(0));
     };
     if POINT_LIMIT < count {
-        return Ran::Refused(22, 0);
+        return Err(Fault::PointCount.at(0));
     }
     if arguments.len() != count * counts.arguments {
-        return Ran::Refused(19, 0);
+        return Err(Fault::ArgumentCount.at(0));
     }
     if !runner::arguments_allowed(arguments) {
-        return Ran::Refused(20, 0);
+        return Err(Fault::Argument.at(0));
     }
     if work.len() < counts.words {
-        return Ran::Refused(21, 0);
+        return Err(Fault::Room.at(0));
     }
     let words = count * counts.outputs;
     if out.len() < words {
-        return Ran::Refused(21, 0);
+        return Err(Fault::Room.at(0));
     }
     run_each(code, counts, count, arguments, work, out);
-    Ran::Done(words)
+    Ok(words)
 }

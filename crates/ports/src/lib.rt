@@ -10,13 +10,10 @@ use base::KIND_LIMIT;
 
 mod derived;
 
-pub use derived::{
-    constant_words, executable, exists, has_type, is_call, is_type, legal, own, result_words,
-    type_fits, width,
-};
+pub use derived::{is_type, legal, own, width};
 
 // What stands behind the head of a node of a kind. Absent: there is no such kind.
-#[derive(Clone, Copy)]
+#[derive(Clone, Copy, PartialEq, Eq)]
 pub enum Form {
     Absent,
     Constant,
@@ -39,6 +36,7 @@ pub struct Ports {
     pub words: u8,
 }
 
+// Rows are written out, as a constant's value calls no function.
 const ABSENT: Ports = Ports {
     form: Form::Absent,
     bytes: 0,
@@ -62,36 +60,21 @@ const TYPED_1: Ports = Ports {
 };
 
 const TYPED_2: Ports = Ports {
-    form: Form::References,
     bytes: 6,
     operands: 2,
-    first: 0,
-    rest: 0,
-    results: 1,
-    result: 0,
-    words: 0,
+    ..TYPED_1
 };
 
 const TYPED_3: Ports = Ports {
-    form: Form::References,
     bytes: 9,
     operands: 3,
-    first: 0,
-    rest: 0,
-    results: 1,
-    result: 0,
-    words: 0,
+    ..TYPED_1
 };
 
 const TYPED_4: Ports = Ports {
-    form: Form::References,
     bytes: 12,
     operands: 4,
-    first: 0,
-    rest: 0,
-    results: 1,
-    result: 0,
-    words: 0,
+    ..TYPED_1
 };
 
 const CONSTANT: Ports = Ports {
@@ -106,25 +89,17 @@ const CONSTANT: Ports = Ports {
 };
 
 const CONSTVEC: Ports = Ports {
-    form: Form::Constant,
     bytes: 24,
-    operands: 0,
-    first: 0,
-    rest: 0,
-    results: 1,
     result: 2,
     words: 3,
+    ..CONSTANT
 };
 
 const CONSTMAT: Ports = Ports {
-    form: Form::Constant,
     bytes: 128,
-    operands: 0,
-    first: 0,
-    rest: 0,
-    results: 1,
     result: 3,
     words: 16,
+    ..CONSTANT
 };
 
 const COMPOSE_VECTOR: Ports = Ports {
@@ -194,26 +169,12 @@ const DOT: Ports = Ports {
 };
 
 const CROSS: Ports = Ports {
-    form: Form::References,
-    bytes: 6,
-    operands: 2,
-    first: 2,
-    rest: 2,
-    results: 1,
     result: 2,
     words: 3,
+    ..DOT
 };
 
-const MATVEC: Ports = Ports {
-    form: Form::References,
-    bytes: 6,
-    operands: 2,
-    first: 3,
-    rest: 2,
-    results: 1,
-    result: 2,
-    words: 3,
-};
+const MATVEC: Ports = Ports { first: 3, ..CROSS };
 
 const TRANSPOSE: Ports = Ports {
     form: Form::References,
@@ -273,35 +234,14 @@ pub fn rows() -> [Ports; KIND_LIMIT]
     PORTS
 }
 
-// The row of a kind byte, as the table has it. A look into the table would build all of it anew.
+// The same, of which a look reads only one row.
+static ROWS: [Ports; KIND_LIMIT] = PORTS;
+
+// The row of a kind byte, as the table has it. Every byte has a row, that of no kind too: so kinds are bytes here and no enum, which
+// would ask more of callers.
 pub fn ports_of(kind: u8) -> Ports
     ensures { result ≡ ports_of (kind_of kind) }
 {
-    match kind {
-        1 => TYPED_2,
-        2 => TYPED_2,
-        3 => TYPED_2,
-        4 => TYPED_2,
-        5 => CONSTANT,
-        6 => CONSTVEC,
-        7 => CONSTMAT,
-        8 => COMPOSE_VECTOR,
-        9 => VECTOR_FROM_SCALAR,
-        10 => DECOMPOSE_VECTOR,
-        11 => COMPOSE_MATRIX,
-        12 => MATRIX_FROM_VECTORS,
-        13 => MATRIX_FROM_VECTORS,
-        14 => DOT,
-        15 => CROSS,
-        16 => MATVEC,
-        17 => TRANSPOSE,
-        18 => TYPED_2,
-        19 => TYPED_2,
-        20 => TYPED_1,
-        21 => TYPED_2,
-        22 => TYPED_4,
-        23 => TYPED_3,
-        24 => CALL,
-        _ => ABSENT,
-    }
+    let at = usize::from(kind);
+    if at < KIND_LIMIT { ROWS[at] } else { ABSENT }
 }

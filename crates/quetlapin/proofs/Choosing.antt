@@ -21,8 +21,6 @@ use Rattle.bytecode.specs.declared.Version.TheVariants.{V1, V2}
 use Rattle.bytecode.specs.Version.{version_of}
 use Rattle.lowering.specs.Answers.{Job, words_of, within, compilable, code_of}
 use Rattle.reader.specs.Layout.{function_at, earlier}
-use Rattle.checker.specs.declared.Verdict.{Verdict}
-use Rattle.checker.specs.Answers.{verdict_of}
 use Rattle.sums.specs.declared.Sizes.{Sizes}
 use Rattle.sums.specs.CodeSums.{function_instructions, function_bytes, instructions_of, bytes_of_function}
 use Rattle.sums.specs.Position.{place_of, function_in, before, position_of}
@@ -32,18 +30,10 @@ use Rattle.sums.proofs.Positions.{at_position, no-position}
 use Rattle.sums.proofs.Accepted.{functions-are, refused-table}
 use Rattle.sums.proofs.CodeLimits.{function-operations, bytes_below}
 use Rattle.sums.proofs.Measuring.{leb-cap}
-use Rattle.quetlapin.specs.declared.Count.{Count}
-use Rattle.quetlapin.specs.Measures.{named, chosen_at, job_at, exact_sizes, up_to, count_of, operation_count, word_count, code_count}
-
--- ---- what an answer of the checker says of the verdict
-
-pub is-accepted : (o : Outcome ℕ) (n : ℕ) → Verdict.Accepted n ≡ verdict_of o → o ≡ ok n
-is-accepted (ok m) n e = (cc)
-is-accepted (fault a b) n e = let z : ◌≡◌ {A = ℕ} 0 1 = cc in absurd (omega arith)
-
-pub is-refused : (o : Outcome ℕ) (a b : ℕ) → Verdict.Refused a b ≡ verdict_of o → o ≡ fault a b
-is-refused (ok m) a b e = let z : ◌≡◌ {A = ℕ} 0 1 = cc in absurd (omega arith)
-is-refused (fault x y) a b e = (cc)
+use Rattle.std.specs.Prelude as Rust
+use Rattle.std.specs.Prelude.{Some}
+use Rattle.std.specs.Bool.{then_some}
+use Rattle.quetlapin.specs.Measures.{named, chosen_at, job_at, exact_sizes, measured_of, up_to, count_of, operation_count, word_count, code_count}
 
 -- ---- the function of an id
 
@@ -103,8 +93,11 @@ compilable-unknown s c n x ev e = within-unknown (table s) c n x ev e
 pub unknown-number : (n : ℕ) → (n ≡ 1 → ⊥) → (n ≡ 2 → ⊥) → version_of n ≡ none
 unknown-number n a b = rw (ne_eqb n 1 a, ne_eqb n 2 b) refl
 
-pub count-refused : (g : Chosen → Count) (s : List ℕ) (c a b : ℕ) → named s c ≡ fault a b → Count.Refused a b ≡ count_of g (named s c)
-count-refused g s c a b e = ap (count_of g) (sym e)
+pub count-refused : (g : Chosen → Rust.Option ℕ) (s : List ℕ) (c : ℕ) {a b : ℕ} → named s c ≡ fault a b → fault a b ≡ count_of g (named s c)
+count-refused g s c e = ap (count_of g) (sym e)
+
+pub measured-refused : (s : List ℕ) (c : ℕ) {a b : ℕ} → compilable s c 1 ≡ fault a b → fault a b ≡ measured_of (compilable s c 1)
+measured-refused s c e = ap measured_of (sym e)
 
 -- a count may be capped above its limit
 up-to-cap : (limit n : ℕ) → up_to limit (min (suc limit) n) ≡ up_to limit n
@@ -116,12 +109,6 @@ up-to-cap limit n = by-limit (leb n limit) refl
         let z : min (suc limit) n ≡ n = omega arith in
         ap (up_to limit) z
     by-limit false e = rw (leb-cap limit n, e)
-
-pub up_to_fits : (limit n : ℕ) → n ≤ limit → Count.Exactly n ≡ up_to limit n
-up_to_fits limit n l = rw (le-leb n limit l)
-
-pub up-to-over : (limit n : ℕ) → limit < n → Count.Over ≡ up_to limit n
-up-to-over limit n l = rw (lt-leb n limit l)
 
 module _ (s : List ℕ) (c k : ℕ) (e : named s c ≡ ok (chosen_at s k)) (m : Sizes) (em : m ≡ sizes_of s k) where
   capped-operations : m.operations ≡ min operation_cap (function_operations (operations_of (before s k)) (function_in s k))
@@ -188,24 +175,22 @@ module _ (s : List ℕ) (c k : ℕ) (e : named s c ≡ ok (chosen_at s k)) (m : 
   both-test : within_limits m.operations m.words ≡ within_limits operations words
   both-test = rw (operations-test, words-test)
 
-  pub its-code : within_limits m.operations m.words ≡ true → Count.Exactly m.code ≡ count_of code_count (named s c)
+  pub its-code : (b : Bool) → b ≡ within_limits m.operations m.words → ok (then_some b m.code) ≡ count_of code_count (named s c)
   unfolding code_count capped_sizes
-  its-code t =
-      let b : within_limits operations words ≡ true = sym both-test ∙ t in
+  its-code true t =
+      let b : within_limits operations words ≡ true = sym both-test ∙ sym t in
       let z : m.code ≡ length (code_of V1 (chosen_at s k)) = ap (λ (x : Sizes). x.code) em ∙ rw b in
-      ap (λ (n : ℕ). Count.Exactly n) z ∙ sym (ap (count_of code_count) e ∙ rw b)
-
-  pub no_code : within_limits m.operations m.words ≡ false → Count.Over ≡ count_of code_count (named s c)
-  unfolding code_count
-  no_code t = let b : within_limits operations words ≡ false = sym both-test ∙ t in sym (ap (count_of code_count) e ∙ rw b)
+      ap (λ (n : ℕ). ok (Some n)) z ∙ sym (ap (count_of code_count) e ∙ rw b)
+  its-code false t = let b : within_limits operations words ≡ false = sym both-test ∙ sym t in sym (ap (count_of code_count) e ∙ rw b)
 
   -- ---- each count by itself
 
-  pub its-operations : up_to operation_limit m.operations ≡ count_of operation_count (named s c)
+  pub its-operations : {r : Rust.Option ℕ} → r ≡ up_to operation_limit m.operations → ok r ≡ count_of operation_count (named s c)
   unfolding operation_count
-  its-operations =
-      ap (up_to operation_limit) capped-operations ∙ up-to-cap operation_limit (function_operations (operations_of (before s k)) (function_in s k)) ∙ sym (ap (count_of operation_count) e)
+  its-operations q =
+      ap ok (q ∙ ap (up_to operation_limit) capped-operations ∙ up-to-cap operation_limit (function_operations (operations_of (before s k)) (function_in s k)))
+      ∙ sym (ap (count_of operation_count) e)
 
-  pub its-words : up_to word_limit m.words ≡ count_of word_count (named s c)
+  pub its-words : {r : Rust.Option ℕ} → r ≡ up_to word_limit m.words → ok r ≡ count_of word_count (named s c)
   unfolding word_count
-  its-words = ap (up_to word_limit) capped-words ∙ up-to-cap word_limit (function_words (before s k) (function_in s k)) ∙ sym (ap (count_of word_count) e)
+  its-words q = ap ok (q ∙ ap (up_to word_limit) capped-words ∙ up-to-cap word_limit (function_words (before s k) (function_in s k))) ∙ sym (ap (count_of word_count) e)

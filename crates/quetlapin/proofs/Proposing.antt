@@ -32,34 +32,26 @@ use Rattle.sums.specs.declared.Sizes.{Sizes}
 use Rattle.sums.specs.Position.{function_in, before}
 use Rattle.sums.proofs.CodeSizes.{function-instructions}
 use Rattle.runner.specs.declared.Counts.{Counts}
-use Rattle.runner.specs.declared.Checked.TheVariants.{Formed, Malformed}
 use Rattle.runner.specs.Checks.{counts_of, checked_of}
 use Rattle.runner.proofs.Decoding.{is-formed, is-malformed, decoded}
 use Rattle.compiler.specs.Sizes.{order_limit}
 use Rattle.compiler.specs.Whole.{code_at, Measured, source_at}
-use Rattle.validator.specs.declared.Judgement.{Judgement}
-use Rattle.validator.specs.declared.Judgement.TheVariants.{Accepted, Refused}
 use Rattle.validator.specs.Judge.{same_counts}
 use Rattle.validator.specs.Sizes.{list_limit}
-use Rattle.validator.specs.Tests.{judgement_of, followed_in, Judgeable}
+use Rattle.validator.specs.Tests.{followed_in, Judgeable}
+use Rattle.std.specs.Prelude.{Some, None, Result, Ok}
+use Rattle.base.specs.Refusals.{outcome}
+use Rattle.base.specs.declared.refusal.Refusal.{Refusal}
+use Rattle.quetlapin.specs.declared.lookup.Found.{Found}
 use Rattle.validator.proofs.Length.{own-length}
 use Rattle.validator.proofs.Standing.{codes-decoded, version-at}
 use Rattle.acceptance.specs.Answers.{proposed, judged_placement}
 use Rattle.acceptance.specs.Promise.{Promise}
 use Rattle.acceptance.proofs.Promised.{promised}
-use Rattle.quetlapin.specs.Numbers.{of_judgement}
 use Rattle.quetlapin.specs.Measures.{exact_sizes, job_at, ReadyAt}
 use Rattle.quetlapin.specs.Judging.{Ready, judged_at, counts_alike, Comparable}
-use Rattle.quetlapin.proofs.Telling.{of-judgement}
+use Rattle.quetlapin.proofs.Evaluating.{is-done}
 use Rattle.quetlapin.proofs.Compiling.{sound, code_is, words_are, measured}
-
-ok-judged : (n : ℕ) → judgement_of (ok n) ≡ Accepted n
-unfolding judgement_of
-ok-judged n = refl
-
-fault-judged : (n p : ℕ) → judgement_of (fault n p) ≡ Refused n p
-unfolding judgement_of
-fault-judged n p = refl
 
 guard_none : (t : Bool) → guard {A = BoardList} t none ≡ none
 unfolding guard
@@ -72,67 +64,67 @@ words-low c = omega (arith, c.words_are, c.codes.formed.words)
 
 -- ---- the function's own list
 
-module _ {s starts words : List ℕ} {k : ℕ} {m : Sizes} (ready : Ready s starts words k m) where
-  abbrev r : ReadyAt s ready.0 starts words ready.1 k m
-  r = ready.2
+module _ {s : List ℕ} {g : Found} (ready : Ready s g) where
+  abbrev r : ReadyAt s ready.0 g
+  r = ready.1
 
-  abbrev own : AllSound (function_in s k ∷ before s k)
-  own = sound s ready.0 starts words ready.1 k m r
+  abbrev own : AllSound (function_in s g.position ∷ before s g.position)
+  own = sound s ready.0 g r
 
   abbrev b : BoardList
-  b = source_at s k
+  b = source_at s g.position
 
-  pub counts-are : (m.arguments ≡ b.arguments) × (m.outputs ≡ length b.outputs) × (m.instructions ≡ length b.instructions)
+  pub counts-are : (g.sizes.arguments ≡ b.arguments) × (g.sizes.outputs ≡ length b.outputs) × (g.sizes.instructions ≡ length b.instructions)
   unfolding exact_sizes
   counts-are =
       let e = r.sizes in
-      let f = function_in s k in (
+      let f = function_in s g.position in (
         ap (λ (x : Sizes). x.arguments) e,
-        ap (λ (x : Sizes). x.outputs) e ∙ sym (output-words (before s k) f own),
-        ap (λ (x : Sizes). x.instructions) e ∙ sym (function-instructions widths (before s k) f own (places 0 f.inputs) (widths f.inputs)),
+        ap (λ (x : Sizes). x.outputs) e ∙ sym (output-words (before s g.position) f own),
+        ap (λ (x : Sizes). x.instructions) e ∙ sym (function-instructions widths (before s g.position) f own (places 0 f.inputs) (widths f.inputs)),
       )
 
-  own-codes : Codes V1 (code_at s k) b
+  own-codes : Codes V1 (code_at s g.position) b
   unfolding exact_sizes
   own-codes =
       let o = ap (λ (x : Sizes). x.operations) r.sizes in
       let w = ap (λ (x : Sizes). x.words) r.sizes in
       let lo = r.few-operations in
       let lw = r.few_words in
-      record { formed = formed-list (before s k) (function_in s k) own (omega arith) (omega arith); bytes = refl }
+      record { formed = formed-list (before s g.position) (function_in s g.position) own (omega arith) (omega arith); bytes = refl }
 
   -- it fits the array
-  pub list-fits : length (code_at s k) ≤ list_limit
+  pub list-fits : length (code_at s g.position) ≤ list_limit
   list-fits =
       let f = own-codes.formed in
-      own-length b (laid (before s k) (function_in s k) own).0 f.count f.words f.outputs
+      own-length b (laid (before s g.position) (function_in s g.position) own).0 f.count f.words f.outputs
 
   -- what its writing asks
   pub writable : (list : List ℕ) → length list ≡ list_limit
-      → Measured V1 s k m.instructions m.arguments m.outputs × (m.words ≡ b.words) × (m.words ≤ word_limit) × (length (code_at s k) ≤ length list)
+      → Measured V1 s g.position g.sizes.instructions g.sizes.arguments g.sizes.outputs × (g.sizes.words ≡ b.words) × (g.sizes.words ≤ word_limit) × (length (code_at s g.position) ≤ length list)
   writable list l = (
-    measured s ready.0 starts words ready.1 k m r,
-    words_are s ready.0 starts words ready.1 k m r,
+    measured s ready.0 g r,
+    words_are s ready.0 g r,
     r.few_words,
     (let h = list-fits in omega arith),
   )
 
-  pub code-there : (list : List ℕ) → length list ≡ list_limit → {list' : List ℕ} → list' ≡ sets list 0 (code_at s k) → m.code ≤ length list'
+  pub code-there : (list : List ℕ) → length list ≡ list_limit → {list' : List ℕ} → list' ≡ sets list 0 (code_at s g.position) → g.sizes.code ≤ length list'
   code-there list l e =
-      let n = code_is s ready.0 starts words ready.1 k m r in
+      let n = code_is s ready.0 g r in
       let h = list-fits in
-      let q = ap length e ∙ length-sets list 0 (code_at s k) in
+      let q = ap length e ∙ length-sets list 0 (code_at s g.position) in
       omega arith
 
   -- what is handed to the judge are its bytes
-  pub list_written : (list : List ℕ) → length list ≡ list_limit → {list' : List ℕ} → list' ≡ sets list 0 (code_at s k) → take m.code list' ≡ code_at s k
+  pub list_written : (list : List ℕ) → length list ≡ list_limit → {list' : List ℕ} → list' ≡ sets list 0 (code_at s g.position) → take g.sizes.code list' ≡ code_at s g.position
   list_written list l {list'} e =
-      ap (λ (n : ℕ). take n list') (code_is s ready.0 starts words ready.1 k m r) ∙ ap (take (length (code_at s k))) e
-      ∙ front list (code_at s k) (let h = list-fits in omega arith)
+      ap (λ (n : ℕ). take n list') (code_is s ready.0 g r) ∙ ap (take (length (code_at s g.position))) e
+      ∙ front list (code_at s g.position) (let h = list-fits in omega arith)
 
-  module _ {code numbers : List ℕ} {total : ℕ} (c : Comparable s k code numbers total) where
-    pub judgeable : {ours : List ℕ} (order locations : List ℕ) → ours ≡ code_at s k → length order ≡ order_limit → length locations ≡ reference_limit
-        → Judgeable ours code numbers m.arguments m.outputs m.instructions total (length order) (length locations)
+  module _ {code numbers : List ℕ} {total : ℕ} (c : Comparable s g.position code numbers total) where
+    pub judgeable : {ours : List ℕ} (order locations : List ℕ) → ours ≡ code_at s g.position → length order ≡ order_limit → length locations ≡ reference_limit
+        → Judgeable ours code numbers g.sizes.arguments g.sizes.outputs g.sizes.instructions total (length order) (length locations)
     judgeable order locations e lo ll =
         let (a, o, i) = counts-are in
         let few = own-codes.formed.count in
@@ -140,7 +132,7 @@ module _ {s starts words : List ℕ} {k : ℕ} {m : Sizes} (ready : Ready s star
           list = b;
           proposed = c.list;
           own = subst (λ (xs : List ℕ). Codes V1 xs b) (sym e) own-codes;
-          fit = (laid (before s k) (function_in s k) own).0;
+          fit = (laid (before s g.position) (function_in s g.position) own).0;
           theirs = c.codes;
           counted = c.counted;
           arguments-is = a;
@@ -152,7 +144,7 @@ module _ {s starts words : List ℕ} {k : ℕ} {m : Sizes} (ready : Ready s star
         }
 
     -- what it answers is the answer of the definition
-    pub judged-counted : {ours : List ℕ} → ours ≡ code_at s k → judgement_of (followed_in (decode ours) (decode code) numbers) ≡ judgement_of (judged_at s k code numbers)
+    pub judged-counted : {ours : List ℕ} → ours ≡ code_at s g.position → followed_in (decode ours) (decode code) numbers ≡ judged_at s g.position code numbers
     unfolding judged_at followed_in guard
     judged-counted e =
         let q = c.counted in
@@ -161,27 +153,26 @@ module _ {s starts words : List ℕ} {k : ℕ} {m : Sizes} (ready : Ready s star
         let theirs : decode code ≡ some c.list = codes-decoded V2 code c.list c.codes in
         let here : proposed code ≡ some c.list = ap (λ (n : ℕ). guard (eqb n 2) (decode code)) (version-at V2 code c.list c.codes) ∙ theirs in
         let ours : decode _ ≡ some b = ap decode e ∙ decode-encode V1 b own-codes.formed in
-        ap judgement_of
-        (ap (λ (o : Option BoardList). followed_in o (decode code) numbers) ours
+        ap (λ (o : Option BoardList). followed_in o (decode code) numbers) ours
         ∙ ap (λ (o : Option BoardList). followed_in (some b) o numbers) theirs
-        ∙ sym (takes (or_else (proposed code) 18 0) _ c.list (some-else _ _ here) ∙ passes (same_counts b c.list numbers) 33 0 _ same))
+        ∙ sym (takes (or_else (proposed code) 18 0) _ c.list (some-else _ _ here) ∙ passes (same_counts b c.list numbers) 33 0 _ same)
 
   -- ---- refusals
 
   module _ (code numbers : List ℕ) where
-    no-list : proposed code ≡ none → Refused 18 0 ≡ judgement_of (judged_at s k code numbers)
-    unfolding judged_at judgement_of
-    no-list e = sym (ap judgement_of (stops (or_else (proposed code) 18 0) _ 18 0 (ap (λ (o : Option BoardList). or_else o 18 0) e)))
+    no-list : proposed code ≡ none → fault 18 0 ≡ judged_at s g.position code numbers
+    unfolding judged_at
+    no-list e = sym (stops (or_else (proposed code) 18 0) _ 18 0 (ap (λ (o : Option BoardList). or_else o 18 0) e))
 
-    pub malformed : checked_of (decode code) ≡ Malformed → Refused 18 0 ≡ judgement_of (judged_at s k code numbers)
+    pub malformed : checked_of (decode code) ≡ None → fault 18 0 ≡ judged_at s g.position code numbers
     unfolding guard
     malformed e = no-list (ap (guard (eqb (u16 code 3) 2)) (is-malformed (decode code) e) ∙ guard_none (eqb (u16 code 3) 2))
 
-    pub other-version : {v : ℕ} → v ≡ u16 code 3 → (v ≡ 2 → ⊥) → Refused 18 0 ≡ judgement_of (judged_at s k code numbers)
+    pub other-version : {v : ℕ} → v ≡ u16 code 3 → (v ≡ 2 → ⊥) → fault 18 0 ≡ judged_at s g.position code numbers
     unfolding guard
     other-version e n = no-list (ap (λ (t : Bool). guard t (decode code)) (ne_eqb (u16 code 3) 2 (λ q. n (e ∙ q))))
 
-    module _ (small : Bytes code) {counts : Counts} (formed : checked_of (decode code) ≡ Formed counts) where
+    module _ (small : Bytes code) {counts : Counts} (formed : checked_of (decode code) ≡ Some counts) where
       abbrev x : BoardList
       x = (is-formed (decode code) counts formed).0
 
@@ -207,17 +198,17 @@ module _ {s starts words : List ℕ} {k : ℕ} {m : Sizes} (ready : Ready s star
         here = ap (λ (t : Bool). guard t (decode code)) (eq-eqb (u16 code 3) 2 (sym e ∙ two)) ∙ read
 
         -- the tests of the code are the definition's
-        counts_same : counts_alike counts m (length numbers) ≡ same_counts b x numbers
+        counts_same : counts_alike counts g.sizes (length numbers) ≡ same_counts b x numbers
         counts_same =
             let (a, o, i) = counts-are in
-            ap (λ (c : Counts). counts_alike c m (length numbers)) (sym counts-read) ∙ rw (a, o, i)
+            ap (λ (c : Counts). counts_alike c g.sizes (length numbers)) (sym counts-read) ∙ rw (a, o, i)
 
-        pub other-counts : counts_alike counts m (length numbers) ≡ false → Refused 33 0 ≡ judgement_of (judged_at s k code numbers)
-        unfolding judged_at judgement_of
+        pub other-counts : counts_alike counts g.sizes (length numbers) ≡ false → fault 33 0 ≡ judged_at s g.position code numbers
+        unfolding judged_at
         other-counts t =
-            sym (ap judgement_of (takes (or_else (proposed code) 18 0) _ x (some-else _ _ here) ∙ fails (same_counts b x numbers) 33 0 _ (sym counts_same ∙ t)))
+            sym (takes (or_else (proposed code) 18 0) _ x (some-else _ _ here) ∙ fails (same_counts b x numbers) 33 0 _ (sym counts_same ∙ t))
 
-        pub comparable : counts_alike counts m (length numbers) ≡ true → Comparable s k code numbers counts.words
+        pub comparable : counts_alike counts g.sizes (length numbers) ≡ true → Comparable s g.position code numbers counts.words
         comparable t =
             let t0 : same_counts b x numbers ≡ true = sym counts_same ∙ t in
             let (t1, n) = and-inv (eqb x.arguments b.arguments && eqb (length x.outputs) (length b.outputs) && eqb (length x.instructions) (length b.instructions))
@@ -234,31 +225,19 @@ module _ {s starts words : List ℕ} {k : ℕ} {m : Sizes} (ready : Ready s star
 -- ---- the whole
 
 module _ (s : List ℕ) (c : ℕ) (code numbers : List ℕ) where
-  pub judged-refused : {n p : ℕ} → compilable s c 1 ≡ fault n p → Refused n p ≡ judgement_of (judged_placement s c code numbers)
-  unfolding judged_placement judgement_of
-  judged-refused {n} {p} e = sym (ap judgement_of (stops (compilable s c 1) _ n p e))
+  pub judged-refused : {n p : ℕ} → compilable s c 1 ≡ fault n p → fault n p ≡ judged_placement s c code numbers
+  unfolding judged_placement
+  judged-refused {n} {p} e = sym (stops (compilable s c 1) _ n p e)
 
   -- an answer that is this one says all that is promised
-  pub judged-promised : Bytes s → Bytes code → {r : Judgement} → r ≡ judgement_of (judged_placement s c code numbers)
-      → Promise (λ n. r ≡ Accepted n) (λ n p. r ≡ Refused n p) s c code numbers
-  judged-promised small small' {r} e =
+  pub judged-promised : Bytes s → Bytes code → (r : Result ℕ Refusal) → outcome r ≡ judged_placement s c code numbers
+      → Promise (λ n. r ≡ Ok n) (λ n p. outcome r ≡ fault n p) s c code numbers
+  judged-promised small small' r e =
       promised s c code numbers small small'
-      (λ n. (λ q. is-accepted (judged_placement s c code numbers) n (sym e ∙ q), λ q. e ∙ accepted-is q))
-      (λ n p. (λ q. is-refused (judged_placement s c code numbers) n p (sym e ∙ q), λ q. e ∙ refused-is q))
-    where
-      is-accepted : (o : Outcome ℕ) (n : ℕ) → judgement_of o ≡ Accepted n → o ≡ ok n
-      is-accepted o n q = sym (of-judgement o) ∙ ap of_judgement q
+      (λ n. (λ q. sym e ∙ ap outcome q, λ q. is-done r (e ∙ q)))
+      (λ n p. (λ q. sym e ∙ q, λ q. e ∙ q))
 
-      is-refused : (o : Outcome ℕ) (n p : ℕ) → judgement_of o ≡ Refused n p → o ≡ fault n p
-      is-refused o n p q = sym (of-judgement o) ∙ ap of_judgement q
-
-      accepted-is : {n : ℕ} → judged_placement s c code numbers ≡ ok n → judgement_of (judged_placement s c code numbers) ≡ Accepted n
-      accepted-is q = ap judgement_of q ∙ ok-judged _
-
-      refused-is : {n p : ℕ} → judged_placement s c code numbers ≡ fault n p → judgement_of (judged_placement s c code numbers) ≡ Refused n p
-      refused-is q = ap judgement_of q ∙ fault-judged _ _
-
-pub judged-found : {s : List ℕ} {c : ℕ} {starts words counts : List ℕ} {k : ℕ} {m : Sizes} → ReadyAt s c starts words counts k m → (code numbers : List ℕ)
-    → judged_at s k code numbers ≡ judged_placement s c code numbers
+pub judged-found : {s : List ℕ} {c : ℕ} {g : Found} → ReadyAt s c g → (code numbers : List ℕ)
+    → judged_at s g.position code numbers ≡ judged_placement s c code numbers
 unfolding judged_at judged_placement
-judged-found {s} {c} {k = k} r code numbers = sym (takes (compilable s c 1) _ (job_at V1 s k) r.compilable)
+judged-found {s} {c} {g = g} r code numbers = sym (takes (compilable s c 1) _ (job_at V1 s g.position) r.compilable)

@@ -40,15 +40,10 @@ use Rattle.points.specs.Points.{ran_points}
 use Rattle.points.specs.Demand3.{Demand3Points}
 use Rattle.points.proofs.Judged.{Late, points-fault, points-count}
 use Rattle.points.proofs.Meaning.{demand3-points}
-use Rattle.validator.specs.Tests.{judgement_of}
 use Rattle.acceptance.specs.Answers.{judged_placement}
 use Rattle.acceptance.proofs.Exactly.{placement-bounds, placement-count}
-use Rattle.checker.specs.Answers.{verdict_of}
-use Rattle.quetlapin.specs.Compiling as compiler
-use Rattle.runner.specs.declared.Ran.{Ran}
 use Rattle.runner.specs.Runs as runner
-use Rattle.quetlapin.specs.Answers as evaluation
-use Rattle.quetlapin.specs.Numbers.{number_of, Refusal, Bounded, Told, JudgeRefusal, JudgeBounded, JudgeTold, counted, code_length, run_count, evaluation_count, of_verdict, of_compiled, of_ran, of_evaluated, of_judgement, RunAnswered}
+use Rattle.quetlapin.specs.Numbers.{number_of, Tellable, Refusal, Bounded, Told, JudgeRefusal, JudgeBounded, JudgeTold, counted, code_length, run_count, evaluation_count, RunAnswered}
 
 -- ---- one answer, one number
 
@@ -223,43 +218,24 @@ points-bounded code points arguments work out = go (ran_points code points argum
     go (ok b) e = omega (arith, points-count code points arguments work out b e)
     go (fault n p) e = refusal (points-fault code points arguments work out n p e)
 
--- ---- the answers as enums are the same answers
+-- ---- what is told
 
-pub of-verdict : (o : Outcome ℕ) → of_verdict (verdict_of o) ≡ o
-of-verdict (ok n) = refl
-of-verdict (fault n p) = refl
-
-pub of-compiled : (g : Outcome Answers.Compiled) → of_compiled (compiler.answer_of g) ≡ code_length g
-of-compiled (ok a) = refl
-of-compiled (fault n p) = refl
-
-pub of-ran : (g : Outcome Buffers) → of_ran (runner.answer_of g) ≡ run_count g
-unfolding runner.answer_of
-of-ran (ok b) = refl
-of-ran (fault n p) = refl
-
-pub of-judgement : (g : Outcome ℕ) → of_judgement (judgement_of g) ≡ g
-unfolding judgement_of
-of-judgement (ok n) = refl
-of-judgement (fault n p) = refl
-
-pub of-evaluated : (g : Outcome Answers.Evaluated) → of_evaluated (evaluation.answer_of g) ≡ evaluation_count g
-unfolding evaluation.answer_of
-of-evaluated (ok e) = refl
-of-evaluated (fault n p) = refl
+tellable : (o : Outcome ℕ) → InRange o → Tellable o
+tellable (ok n) b = tt
+tellable (fault n p) (b, b1) = b1
 
 -- an answer that is this one may be made a number, and that is what is told
 module _ {o a : Outcome ℕ} (b : Bounded o) (e : a ≡ o) where
-  pub may-tell : Bounded a
-  may-tell = subst Bounded (sym e) b
+  pub may-tell : Tellable a
+  may-tell = tellable a (bounded-range a (subst Bounded (sym e) b))
 
   pub told : {r : ℕ} → r ≡ number_of a → Told o r
   told q = record { number = q ∙ ap number_of e; bounds = b }
 
 -- the same of a judgement
 module _ {o a : Outcome ℕ} (b : JudgeBounded o) (e : a ≡ o) where
-  pub may-judge : JudgeBounded a
-  may-judge = subst JudgeBounded (sym e) b
+  pub may-judge : Tellable a
+  may-judge = tellable a (judged-range a (subst JudgeBounded (sym e) b))
 
   pub judge-told : {r : ℕ} → r ≡ number_of a → JudgeTold o r
   judge-told q = record { number = q ∙ ap number_of e; bounds = b }
@@ -272,9 +248,9 @@ told_same {o} {r} t o' = (
 )
 
 -- the answer of a run, at one point or at many
-pub run-told : {g : Outcome Buffers} {work out work' out' : List ℕ} {a : Ran} {r : ℕ} → Bounded (run_count g) → runner.Answered g work out work' out' a
-    → r ≡ number_of (of_ran a) → RunAnswered g work out work' out' r
-run-told b h e = record { answer = told b (ap of_ran h.answer ∙ of-ran _) e; work-after = h.work-after; out-after = h.out-after }
+pub run-told : {g : Outcome Buffers} {work out work' out' : List ℕ} {a : Outcome ℕ} {r : ℕ} → Bounded (run_count g) → runner.Answered g work out work' out' a
+    → r ≡ number_of a → RunAnswered g work out work' out' r
+run-told b h e = record { answer = told b h.answer e; work-after = h.work-after; out-after = h.out-after }
 
 -- the number and the buffers of a run that is told
 told_is : {g : Outcome Buffers} {work out work' out' : List ℕ} {r : ℕ} → RunAnswered g work out work' out' r → (b : Buffers) → g ≡ ok b

@@ -10,11 +10,12 @@ use Rattle.compiler.specs.Whole.{source_at}
 use Rattle.validator.specs.Judge.{judged}
 use Rattle.validator.specs.Accepts.{Counted}
 use Rattle.acceptance.specs.Answers.{proposed}
+use Rattle.quetlapin.specs.declared.lookup.Found.{Found}
 use Rattle.quetlapin.specs.Measures.{ReadyAt}
 
 -- a function within version 1's limits, found by some id
-abbrev pub Ready : List ℕ → List ℕ → List ℕ → ℕ → Sizes → Type 0
-Ready s starts words k m = (c : ℕ) × (counts : List ℕ) × ReadyAt s c starts words counts k m
+abbrev pub Ready : List ℕ → Found → Type 0
+Ready s f = (c : ℕ) × ReadyAt s c f
 
 -- 18, 33, 29 against the list of version 1 of the function at position k
 unfoldable pub judged_at : List ℕ → ℕ → List ℕ → List ℕ → Outcome ℕ

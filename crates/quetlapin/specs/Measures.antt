@@ -1,23 +1,25 @@
 -- The function of an id: found in its table and measured, and what is answered of its sizes.
-use Rattle.std.specs.Prelude.{ℕ, suc, ◌≤◌, ◌≡◌, cond, List, leb, length}
-use Rattle.base.specs.Limits.{operation_limit, word_limit, within_limits}
-use Rattle.base.specs.Outcome.{Outcome, ok, fault, ◌>>=◌, or_else}
+use Rattle.std.specs.Prelude.{ℕ, suc, ◌+◌, ◌*◌, ◌≤◌, ◌≡◌, cond, List, leb, length, Option, Some, None, Result, Ok, Err}
+use Rattle.base.specs.Limits.{header_length, operation_limit, word_limit, within_limits}
+use Rattle.base.specs.Outcome.{Outcome, ok, fault, ◌>>=◌, ◌>>◌, need, or_else}
+use Rattle.base.specs.Refusals.{number, mapped}
+use Rattle.base.specs.declared.refusal.Refusal.{Refusal}
 use Rattle.ports.specs.Ports.{widths}
 use Rattle.graph.specs.Types.{output_types}
 use Rattle.graph.specs.Judge.{table}
 use Rattle.graph.specs.Sums.{function_operations, operations_of, function_words}
 use Rattle.graph.specs.Table.{Chosen, chosen}
 use Rattle.bytecode.specs.declared.Version.{Version}
-use Rattle.bytecode.specs.declared.Version.TheVariants.{V1}
-use Rattle.lowering.specs.Answers.{Job, code_of, compilable}
+use Rattle.bytecode.specs.declared.Version.TheVariants.{V1, V2}
+use Rattle.lowering.specs.Answers.{Job, words_of, code_of, compilable, compiled}
 use Rattle.sums.specs.declared.Sizes.{Sizes}
 use Rattle.sums.specs.CodeSums.{function_instructions, function_bytes, instructions_of, bytes_of_function}
 use Rattle.sums.specs.Position.{function_in, before, Accepted, Started}
-use Rattle.sums.specs.Capped.{WordsHeld, CountsHeld}
+use Rattle.sums.specs.Capped.{SumsHeld}
 use Rattle.sums.specs.Answers as sums
-use Rattle.quetlapin.specs.declared.Found.{Found}
-use Rattle.quetlapin.specs.declared.Measured.{Measured}
-use Rattle.quetlapin.specs.declared.Count.{Count}
+use Rattle.compiler.specs.declared.Layout.{Layout}
+use Rattle.compiler.specs.Whole.{LaidOut}
+use Rattle.quetlapin.specs.declared.lookup.Found.{Found}
 
 -- ---- the function of an id
 
@@ -48,54 +50,75 @@ exact_sizes x =
 
 -- ---- found and measured: what the compiler asks
 
-pub record FoundAt (s : List ℕ) (c : ℕ) (starts words counts : List ℕ) (k : ℕ) (m : Sizes) : Type 0 where
-  pub accepted : Accepted s (suc k)
-  pub named : named s c ≡ ok (chosen_at s k)
-  pub sizes : sums.Measures s k m
-  pub places : Started s starts (suc k)
-  pub held : WordsHeld s words (suc k)
-  pub counted : CountsHeld s counts (suc k)
+pub record FoundAt (s : List ℕ) (c : ℕ) (f : Found) : Type 0 where
+  pub accepted : Accepted s (suc f.position)
+  pub named : named s c ≡ ok (chosen_at s f.position)
+  pub sizes : sums.Measures s f.position f.sizes
+  pub places : Started s f.starts (suc f.position)
+  pub held : SumsHeld s f.sums (suc f.position)
 
-abbrev pub Finds : List ℕ → ℕ → List ℕ → List ℕ → List ℕ → Found → Type 0
-Finds s c starts words counts (Found.At k m) = FoundAt s c starts words counts k m
-Finds s c starts words counts (Found.Refused a b) = named s c ≡ fault a b
+abbrev pub Finds : List ℕ → ℕ → Result Found Refusal → Type 0
+Finds s c (Ok f) = FoundAt s c f
+Finds s c (Err e) = named s c ≡ fault (number e.fault) e.place
 
 -- a function and a version
 abbrev pub job_at : Version → List ℕ → ℕ → Job
 job_at v s k = record { chosen = chosen_at s k; version = v }
 
--- and within the limits of version 1: the table's refusals, then 14, 15, 16
-pub record ReadyAt (s : List ℕ) (c : ℕ) (starts words counts : List ℕ) (k : ℕ) (m : Sizes) : Type 0 where
-  pub found : FoundAt s c starts words counts k m
-  pub compilable : compilable s c 1 ≡ ok (job_at V1 s k)
-  pub sizes : m ≡ exact_sizes (chosen_at s k)
-  pub few-operations : m.operations ≤ operation_limit
-  pub few_words : m.words ≤ word_limit
+-- and within the limits of version 1
+pub record ReadyAt (s : List ℕ) (c : ℕ) (f : Found) : Type 0 where
+  pub found : FoundAt s c f
+  pub compilable : compilable s c 1 ≡ ok (job_at V1 s f.position)
+  pub sizes : f.sizes ≡ exact_sizes (chosen_at s f.position)
+  pub few-operations : f.sizes.operations ≤ operation_limit
+  pub few_words : f.sizes.words ≤ word_limit
 
-abbrev pub Readies : List ℕ → ℕ → List ℕ → List ℕ → List ℕ → Found → Type 0
-Readies s c starts words counts (Found.At k m) = ReadyAt s c starts words counts k m
-Readies s c starts words counts (Found.Refused a b) = compilable s c 1 ≡ fault a b
+-- what is asked of the sizes of a function: 15
+abbrev pub operations_allowed : Sizes → Outcome (Unit {0})
+operations_allowed m = need (leb m.operations operation_limit) 15 0
+
+-- 15, and 16 by the words of version 1
+abbrev pub limits_allowed : Sizes → Outcome (Unit {0})
+limits_allowed m = do
+  operations_allowed m
+  need (leb m.words word_limit) 16 0
+
+-- its code in version 1 fits so many bytes: 17
+abbrev pub code_allowed : Sizes → ℕ → Outcome (Unit {0})
+code_allowed m room = need (leb m.code room) 17 0
+
+-- ---- in version 2
+
+-- the length of the code of version 2, by the sizes of a function: each instruction has an address more
+abbrev pub placed_length : Sizes → ℕ
+placed_length m = header_length + m.bytes + 2 * m.instructions + 2 * m.outputs
+
+-- the words are placed, and the code fits so many bytes: 16, 17
+abbrev pub Laid : List ℕ → Found → ℕ → Layout → List ℕ → Result ℕ Refusal → Type 0
+Laid s f room l place (Ok words) =
+    LaidOut s f.position l place (Some words) × (words ≡ words_of V2 (chosen_at s f.position)) × (words ≤ word_limit) × (placed_length f.sizes ≤ room)
+Laid s f room l place (Err e) =
+    (c : ℕ) → named s c ≡ ok (chosen_at s f.position) → (code : List ℕ) → length code ≡ room → compiled s c 2 code ≡ fault (number e.fault) e.place
 
 -- ---- answers
 
-abbrev pub measured_of : Outcome Job → Measured
-measured_of (ok j) = Measured.Is (exact_sizes j.chosen)
-measured_of (fault n p) = Measured.Refused n p
+abbrev pub measured_of : Outcome Job → Outcome Sizes
+measured_of = mapped (λ j. exact_sizes j.chosen)
 
-abbrev pub up_to : ℕ → ℕ → Count
-up_to limit n = cond (leb n limit) (Count.Exactly n) Count.Over
+abbrev pub up_to : ℕ → ℕ → Option ℕ
+up_to limit n = cond (leb n limit) (Some n) None
 
-abbrev pub count_of : (Chosen → Count) → Outcome Chosen → Count
-count_of g (ok x) = g x
-count_of g (fault n p) = Count.Refused n p
+-- a count within its limit, or none
+abbrev pub count_of : (Chosen → Option ℕ) → Outcome Chosen → Outcome (Option ℕ)
+count_of = mapped
 
-unfoldable pub operation_count : Chosen → Count
+unfoldable pub operation_count : Chosen → Option ℕ
 operation_count x = up_to operation_limit (function_operations (operations_of x.early) x.function)
 
-unfoldable pub word_count : Chosen → Count
+unfoldable pub word_count : Chosen → Option ℕ
 word_count x = up_to word_limit (function_words x.early x.function)
 
 -- of a function within both limits
-unfoldable pub code_count : Chosen → Count
+unfoldable pub code_count : Chosen → Option ℕ
 code_count x =
-    cond (within_limits (function_operations (operations_of x.early) x.function) (function_words x.early x.function)) (Count.Exactly (length (code_of V1 x))) Count.Over
+    cond (within_limits (function_operations (operations_of x.early) x.function) (function_words x.early x.function)) (Some (length (code_of V1 x))) None

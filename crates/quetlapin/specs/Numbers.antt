@@ -2,19 +2,10 @@
 use Rattle.std.specs.Prelude.{ℕ, ◌+◌, ◌*◌, ◌≤◌, ◌<◌, List, [], ◌∷◌, ◌≡◌, ◌⊎◌}
 use Rattle.base.specs.Lists.{Is}
 use Rattle.base.specs.Outcome.{Outcome, ok, fault}
+use Rattle.base.specs.Refusals.{mapped}
 use Rattle.bytecode.specs.Answers.{Buffers}
 use Rattle.lowering.specs.Answers as Answers
-use Rattle.checker.specs.declared.Verdict.{Verdict}
-use Rattle.checker.specs.declared.Verdict.TheVariants as verdict
-use Rattle.quetlapin.specs.declared.Compiled.{Compiled}
-use Rattle.quetlapin.specs.declared.Compiled.TheVariants as compiled
-use Rattle.runner.specs.declared.Ran.{Ran}
-use Rattle.runner.specs.declared.Ran.TheVariants as ran
 use Rattle.runner.specs.Runs.{work_after, out_after}
-use Rattle.validator.specs.declared.Judgement.{Judgement}
-use Rattle.validator.specs.declared.Judgement.TheVariants as judgement
-use Rattle.quetlapin.specs.declared.Evaluated.{Evaluated}
-use Rattle.quetlapin.specs.declared.Evaluated.TheVariants as evaluated
 use Rattle.quetlapin.specs.Answers as evaluation
 
 -- ---- the number
@@ -27,6 +18,11 @@ refusal_number n p = n * 0x1_0000_0000 + p
 abbrev pub number_of : Outcome ℕ → ℕ
 number_of (ok n) = n
 number_of (fault n p) = refusal_number n p
+
+-- a refusal's place is below 2^32, as the number asks
+abbrev pub Tellable : Outcome ℕ → Type 0
+Tellable (ok n) = Unit {0}
+Tellable (fault n p) = p < 0x1_0000_0000
 
 -- one of 01's numbers or 02's 22 and 31, and a place below 2^32
 abbrev pub Refusal : ℕ → ℕ → Type 0
@@ -58,8 +54,7 @@ pub record JudgeTold (o : Outcome ℕ) (r : ℕ) : Type 0 where
 
 module _ {A : Type 0} where
   abbrev pub counted : (A → ℕ) → Outcome A → Outcome ℕ
-  counted f (ok a) = ok (f a)
-  counted f (fault n p) = fault n p
+  counted = mapped
 
 abbrev pub code_length : Outcome Answers.Compiled → Outcome ℕ
 code_length = counted (λ a. a.size)
@@ -69,28 +64,6 @@ run_count = counted (λ b. b.count)
 
 abbrev pub evaluation_count : Outcome Answers.Evaluated → Outcome ℕ
 evaluation_count = counted (λ e. e.count)
-
--- the same of the answers as enums
-
-abbrev pub of_verdict : Verdict → Outcome ℕ
-of_verdict (verdict.Accepted n) = ok n
-of_verdict (verdict.Refused n p) = fault n p
-
-abbrev pub of_compiled : Compiled → Outcome ℕ
-of_compiled (compiled.Length n) = ok n
-of_compiled (compiled.Refused n p) = fault n p
-
-abbrev pub of_ran : Ran → Outcome ℕ
-of_ran (ran.Done n) = ok n
-of_ran (ran.Refused n p) = fault n p
-
-abbrev pub of_evaluated : Evaluated → Outcome ℕ
-of_evaluated (evaluated.Done n) = ok n
-of_evaluated (evaluated.Refused n p) = fault n p
-
-abbrev pub of_judgement : Judgement → Outcome ℕ
-of_judgement (judgement.Accepted n) = ok n
-of_judgement (judgement.Refused n p) = fault n p
 
 -- ---- with the buffers after it: of a run, at one point or at many
 

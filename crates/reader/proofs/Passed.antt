@@ -28,8 +28,9 @@ use Rattle.base.proofs.Bools.{and-inv}
 use Rattle.base.proofs.Numbers.{lt-or-le}
 use Rattle.base.proofs.Outcomes.{took, passed}
 use Rattle.reader.specs.Layout.{kind_at, payload_end, node_at, node_end, nodes_at, node_place, input_count, node_count, nodes_place, function_at, function_place, function_of, earlier, known}
-use Rattle.reader.specs.Find.{ReadsNode, ReadsNodes, ReadsFunction, node_found, function_found}
-use Rattle.reader.specs.declared.Found.TheVariants.{At, Nothing}
+use Rattle.reader.specs.Find.{ReadsNode, ReadsNodes, ReadsFunction, found_at, node_found, function_found}
+use Rattle.reader.specs.declared.Found.{Found}
+use Rattle.std.specs.Prelude.{Some, None}
 use Rattle.reader.proofs.Standing.{node-read}
 
 -- ---- one node
@@ -182,8 +183,17 @@ module _ (s : List ℕ) (at : ℕ) where
 
 -- ---- looking up
 
+some-is : {A : Type 0} {a b : A} → Some a ≡ Some b → a ≡ b
+some-is e = cc
+
+-- two answers that are one tell the same index and place
+pub found-is : {i j p q : ℕ} → found_at i p ≡ found_at j q → (i ≡ j) × (p ≡ q)
+found-is {i} {j} {p} {q} e =
+    let r : ◌≡◌ {A = Found} (record { index = i; place = p }) (record { index = j; place = q }) = some-is e in
+    (ap (λ (f : Found). f.index) r, ap (λ (f : Found). f.place) r)
+
 module _ (s : List ℕ) (id at i : ℕ) {left rest : List Node} (l : left ≡ node_at s at ∷ rest) where
-  pub node-hit : u16 s at ≡ id → node_found i id left ≡ At i at
+  pub node-hit : u16 s at ≡ id → node_found i id left ≡ found_at i at
   unfolding node_at
   node-hit e = ap (node_found i id) l ∙ rw (eq-eqb (u16 s at) id e)
 
@@ -211,7 +221,7 @@ module _ (s starts : List ℕ) where
   length-known (suc k) = ap suc (length-known k)
 
   module _ (id : ℕ) where
-    pub function-hit : (k : ℕ) → 0 < k → u16 s (get_or starts (k - 1) 0) ≡ id → function_found id (known s starts k) ≡ At (k - 1) (get_or starts (k - 1) 0)
+    pub function-hit : (k : ℕ) → 0 < k → u16 s (get_or starts (k - 1) 0) ≡ id → function_found id (known s starts k) ≡ found_at (k - 1) (get_or starts (k - 1) 0)
     unfolding function_at known
     function-hit zero h e = absurd (not-suc-le-zero h)
     function-hit (suc k) h e =
@@ -227,31 +237,30 @@ module _ (s starts : List ℕ) where
 
     -- what a function that is found is
     pub found-function :
-        (k j p : ℕ) → function_found id (known s starts k) ≡ At j p → (j < k) × (p ≡ get_or starts j 0) × (find_function id (known s starts k) ≡ some (function_at s p))
+        (k j p : ℕ) → function_found id (known s starts k) ≡ found_at j p → (j < k) × (p ≡ get_or starts j 0) × (find_function id (known s starts k) ≡ some (function_at s p))
     unfolding function_at known
     found-function zero j p e = let z : ◌≡◌ {A = ℕ} 0 1 = cc in absurd (omega arith)
     found-function (suc k) j p e = pick_one (eqb (u16 s (get_or starts k 0)) id) (λ w. found-function k j p w) e
       where
         pick_one :
             (b : Bool)
-            → (function_found id (known s starts k) ≡ At j p → (j < k) × (p ≡ get_or starts j 0) × (find_function id (known s starts k) ≡ some (function_at s p)))
-            → cond b (At (length (known s starts k)) (get_or starts k 0)) (function_found id (known s starts k)) ≡ At j p
+            → (function_found id (known s starts k) ≡ found_at j p → (j < k) × (p ≡ get_or starts j 0) × (find_function id (known s starts k) ≡ some (function_at s p)))
+            → cond b (found_at (length (known s starts k)) (get_or starts k 0)) (function_found id (known s starts k)) ≡ found_at j p
             → (j < suc k) × (p ≡ get_or starts j 0) × (cond b (some (function_at s (get_or starts k 0))) (find_function id (known s starts k)) ≡ some (function_at s p))
         pick_one true ih w =
-            let a : length (known s starts k) ≡ j = cc in
-            let q : get_or starts k 0 ≡ p = cc in
+            let (a, q) = found-is w in
             let m : j ≡ k = sym a ∙ length-known k in
             (omega arith, sym q ∙ ap (λ (i : ℕ). get_or starts i 0) (sym m), ap (λ (x : ℕ). some (function_at s x)) q)
         pick_one false ih w = let (a, q, f) = ih w in (omega arith, q, f)
 
-    pub no-function : (k : ℕ) → function_found id (known s starts k) ≡ Nothing → find_function id (known s starts k) ≡ none
+    pub no-function : (k : ℕ) → function_found id (known s starts k) ≡ None → find_function id (known s starts k) ≡ none
     unfolding function_at known
     no-function zero e = refl
     no-function (suc k) e = pick_one (eqb (u16 s (get_or starts k 0)) id) (λ w. no-function k w) e
       where
         pick_one :
-            (b : Bool) → (function_found id (known s starts k) ≡ Nothing → find_function id (known s starts k) ≡ none)
-            → cond b (At (length (known s starts k)) (get_or starts k 0)) (function_found id (known s starts k)) ≡ Nothing
+            (b : Bool) → (function_found id (known s starts k) ≡ None → find_function id (known s starts k) ≡ none)
+            → cond b (found_at (length (known s starts k)) (get_or starts k 0)) (function_found id (known s starts k)) ≡ None
             → cond b (some (function_at s (get_or starts k 0))) (find_function id (known s starts k)) ≡ none
         pick_one true ih w = let z : ◌≡◌ {A = ℕ} 0 1 = cc in absurd (omega arith)
         pick_one false ih w = ih w
@@ -263,7 +272,7 @@ pub record FoundNode (s : List ℕ) (id n first i j p : ℕ) : Type 0 where
   pub low : i ≤ j
   pub below : j < i + n
 
-pub found-node : (s : List ℕ) (id n first i j p : ℕ) → ReadsNodes n s first → node_found i id (nodes_at n s first) ≡ At j p → FoundNode s id n first i j p
+pub found-node : (s : List ℕ) (id n first i j p : ℕ) → ReadsNodes n s first → node_found i id (nodes_at n s first) ≡ found_at j p → FoundNode s id n first i j p
 unfolding node_at nodes_at
 found-node s id zero first i j p r e = let z : ◌≡◌ {A = ℕ} 0 1 = cc in absurd (omega arith)
 found-node s id (suc n) first i j p r e =
@@ -273,12 +282,11 @@ found-node s id (suc n) first i j p r e =
     record { reads = a; find = b; low = c; below = d }
   where
     pick_one :
-        (b : Bool) → (node_found (i + 1) id (nodes_at n s (node_end s first)) ≡ At j p → FoundNode s id n (node_end s first) (i + 1) j p)
-        → cond b (At i first) (node_found (i + 1) id (nodes_at n s (node_end s first))) ≡ At j p
+        (b : Bool) → (node_found (i + 1) id (nodes_at n s (node_end s first)) ≡ found_at j p → FoundNode s id n (node_end s first) (i + 1) j p)
+        → cond b (found_at i first) (node_found (i + 1) id (nodes_at n s (node_end s first))) ≡ found_at j p
         → ReadsNode s p × (cond b (some (node_at s first)) (find_node id (nodes_at n s (node_end s first))) ≡ some (node_at s p)) × (i ≤ j) × (j < i + suc n)
     pick_one true ih w =
-        let a : i ≡ j = cc in
-        let q : first ≡ p = cc in
+        let (a, q) = found-is w in
         (subst (ReadsNode s) q (first_reads s (suc n) first (omega arith) r), ap (λ (x : ℕ). some (node_at s x)) q, omega arith, omega arith)
     pick_one false ih w =
         let g = ih w in
@@ -286,14 +294,14 @@ found-node s id (suc n) first i j p r e =
         let b = g.below in
         (g.reads, g.find, omega arith, omega arith)
 
-pub no_node : (s : List ℕ) (id n first i : ℕ) → node_found i id (nodes_at n s first) ≡ Nothing → find_node id (nodes_at n s first) ≡ none
+pub no_node : (s : List ℕ) (id n first i : ℕ) → node_found i id (nodes_at n s first) ≡ None → find_node id (nodes_at n s first) ≡ none
 unfolding node_at nodes_at
 no_node s id zero first i e = refl
 no_node s id (suc n) first i e = pick_one (eqb (u16 s first) id) (λ w. no_node s id n (node_end s first) (i + 1) w) e
   where
     pick_one :
-        (b : Bool) → (node_found (i + 1) id (nodes_at n s (node_end s first)) ≡ Nothing → find_node id (nodes_at n s (node_end s first)) ≡ none)
-        → cond b (At i first) (node_found (i + 1) id (nodes_at n s (node_end s first))) ≡ Nothing
+        (b : Bool) → (node_found (i + 1) id (nodes_at n s (node_end s first)) ≡ None → find_node id (nodes_at n s (node_end s first)) ≡ none)
+        → cond b (found_at i first) (node_found (i + 1) id (nodes_at n s (node_end s first))) ≡ None
         → cond b (some (node_at s first)) (find_node id (nodes_at n s (node_end s first))) ≡ none
     pick_one true ih w = let z : ◌≡◌ {A = ℕ} 0 1 = cc in absurd (omega arith)
     pick_one false ih w = ih w

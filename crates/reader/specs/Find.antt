@@ -1,5 +1,5 @@
 -- What the lookups answer, and where they may look.
-use Rattle.std.specs.Prelude.{ℕ, ◌+◌, ◌*◌, ◌≤◌, ◌<◌, ◌≡◌, cond, List, [], ◌∷◌, eqb, length, get_or}
+use Rattle.std.specs.Prelude.{ℕ, ◌+◌, ◌*◌, ◌≤◌, ◌<◌, ◌≡◌, cond, List, [], ◌∷◌, eqb, length, get_or, Option, Some, None}
 use Rattle.base.specs.Limits.{node_limit, operand_limit}
 use Rattle.base.specs.Outcome.{ok, Part}
 use Rattle.graph.specs.Graph.{Node, Function}
@@ -8,7 +8,6 @@ use Rattle.graph.specs.Read.{references, node, nodes, function, functions}
 use Rattle.reader.specs.Layout.{node_at}
 use Rattle.reader.specs.declared.Reads.{Reads}
 use Rattle.reader.specs.declared.Found.{Found}
-use Rattle.reader.specs.declared.Found.TheVariants.{At, Nothing}
 
 -- ---- places where the reading passed
 
@@ -36,12 +35,15 @@ ReadsStarts s starts k = (j : ℕ) → j < k → ReadsFunction s (get_or starts 
 
 -- ---- answers
 
+abbrev pub found_at : ℕ → ℕ → Option Found
+found_at i p = Some (record { index = i; place = p })
+
 -- the first node with an id: its index, counted from i, and its place
-abbrev pub node_found : ℕ → ℕ → List Node → Found
-node_found i id [] = Nothing
-node_found i id (n ∷ ns) = let r = node_found (i + 1) id ns in cond (eqb n.id id) (At i n.place) r
+abbrev pub node_found : ℕ → ℕ → List Node → Option Found
+node_found i id [] = None
+node_found i id (n ∷ ns) = let r = node_found (i + 1) id ns in cond (eqb n.id id) (found_at i n.place) r
 
 -- the function of an id among some of which the last stands first: its index and its place
-abbrev pub function_found : ℕ → List Function → Found
-function_found id [] = Nothing
-function_found id (f ∷ fs) = let r = function_found id fs in cond (eqb f.id id) (At (length fs) f.place) r
+abbrev pub function_found : ℕ → List Function → Option Found
+function_found id [] = None
+function_found id (f ∷ fs) = let r = function_found id fs in cond (eqb f.id id) (found_at (length fs) f.place) r

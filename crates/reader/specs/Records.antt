@@ -1,50 +1,52 @@
 -- What the readers answer, by the graph's own reading.
-use Rattle.std.specs.Prelude.{ℕ, ◌+◌, ◌*◌, ◌≤◌, ◌<◌, cond, List, leb, length, Float}
+use Rattle.std.specs.Prelude.{ℕ, zero, suc, ◌+◌, ◌*◌, ◌≤◌, ◌<◌, cond, List, leb, length, Option, Some, None, Float}
 use Rattle.std.specs.Float.Ieee as Ieee
 use Rattle.std.specs.Float.{binary64}
 use Rattle.ports.specs.Kinds.{Kind, kind_of}
 use Rattle.ports.specs.declared.Ports.{Ports}
-use Rattle.ports.specs.Ports.{ports_of, calling}
+use Rattle.ports.specs.Ports.{is_type, ports_of, calling}
 use Rattle.value.specs.declared.Vec3.{Vec3}
 use Rattle.value.specs.declared.Row.{Row}
 use Rattle.value.specs.declared.Mat4.{Mat4}
 use Rattle.value.specs.Values.{vec, row, mat, value_of}
 use Rattle.value.specs.Typed.{Finite}
-use Rattle.base.specs.Outcome.{Outcome, ok, fault, Part}
+use Rattle.base.specs.Outcome.{Outcome, ok, ◌>>◌, need, Part}
+use Rattle.base.specs.Refusals.{mapped}
 use Rattle.graph.specs.Graph as Graph
 use Rattle.graph.specs.Graph.{consts, refs, calls}
+use Rattle.graph.specs.Read.{fits}
 use Rattle.base.specs.Bytes.{byte, u64}
-use Rattle.reader.specs.declared.Next.{Next}
-use Rattle.reader.specs.declared.Seen.{Seen}
-use Rattle.reader.specs.declared.Record.{Record}
 use Rattle.reader.specs.declared.Node.{Node}
-use Rattle.reader.specs.declared.NodeRead.{NodeRead}
 use Rattle.reader.specs.declared.Payload.{Payload}
 use Rattle.reader.specs.declared.Payload.TheVariants.{Constant, Call, References}
-use Rattle.reader.specs.declared.PayloadRead.{PayloadRead}
 use Rattle.reader.specs.declared.Reads.{Reads}
 
 -- ---- answers
 
 module _ {A : Type 0} where
   -- all was read, or the first fault
-  abbrev pub seen : Outcome A → Seen
-  seen (ok a) = Seen.Passed
-  seen (fault n p) = Seen.Refused n p
+  abbrev pub seen : Outcome A → Outcome (Unit {0})
+  seen = mapped (λ a. tt)
 
   -- the place behind what was read, or the first fault
-  abbrev pub next : Outcome (Part A) → Next
-  next (ok p) = Next.At p.next
-  next (fault n p) = Next.Refused n p
+  abbrev pub next : Outcome (Part A) → Outcome ℕ
+  next = mapped (λ p. p.next)
 
   -- the same of a reading that does not say the place
-  abbrev pub behind : ℕ → Outcome A → Next
-  behind end (ok a) = Next.At end
-  behind end (fault n p) = Next.Refused n p
+  abbrev pub behind : ℕ → Outcome A → Outcome ℕ
+  behind end = mapped (λ a. end)
 
--- a record of n bytes
-abbrev pub record_at : List ℕ → ℕ → ℕ → Record
-record_at s at n = cond (leb (at + n) (length s)) (Record.Ends (at + n)) Record.Short
+-- where a record of n bytes ends that fits
+abbrev pub record_at : List ℕ → ℕ → ℕ → Option ℕ
+record_at s at n = cond (leb (at + n) (length s)) (Some (at + n)) None
+
+-- n entries of `size` bytes, a type byte in front of each
+abbrev pub entries : ℕ → ℕ → List ℕ → ℕ → Outcome (Unit {0})
+entries size zero s at = ok tt
+entries size (suc n) s at = do
+  fits s at size
+  need (is_type (byte s at)) 6 at
+  entries size n s (at + size)
 
 -- ---- constants
 
@@ -85,13 +87,13 @@ operands_at at n = record { first = at + 4; count = n }
 abbrev pub reads_by : Ports → List ℕ → ℕ → Reads
 reads_by row s at = cond (calling row.form) (arguments_at s at) (operands_at at row.operands)
 
-abbrev pub payload_read : Kind → ℕ → Outcome (Part Graph.Payload) → PayloadRead
-payload_read k at (ok p) = PayloadRead.Is (payload_of k at p.it) p.next
-payload_read k at (fault n p) = PayloadRead.Refused n p
+-- a payload as read, and the place behind it
+abbrev pub payload_read : Kind → ℕ → Outcome (Part Graph.Payload) → Outcome (Payload × ℕ)
+payload_read k at = mapped (λ p. (payload_of k at p.it, p.next))
 
 abbrev pub node_of : Graph.Node → Node
 node_of n = record { id = n.id; place = n.place; kind = n.kind; ty = n.type; payload = payload_of (kind_of n.kind) (n.place + 4) n.payload }
 
-abbrev pub node_read : Outcome (Part Graph.Node) → NodeRead
-node_read (ok p) = NodeRead.Is (node_of p.it) p.next
-node_read (fault n p) = NodeRead.Refused n p
+-- a node as read, and the place behind it
+abbrev pub node_read : Outcome (Part Graph.Node) → Outcome (Node × ℕ)
+node_read = mapped (λ p. (node_of p.it, p.next))

@@ -1,4 +1,5 @@
-// A constant of a node, as a value. It is finite, so no word is tested for a NaN.
+// A constant of a node, as a value. It is finite, so no word is tested for a NaN. `Components::get` of `value` reads a memory of words,
+// and these are bytes.
 ghost use Rattle.std.specs.Prelude.{◌≡◌};
 ghost use Rattle.std.specs.Float.Ieee as Ieee;
 ghost use Rattle.std.specs.Float.{binary64};
@@ -57,13 +58,9 @@ pub fn constant_at(s: &[u8], at: usize, ty: u8) -> Value
     requires { FiniteWords s.now at (PortList.width ty) }
     ensures { result ≡ value_of ty (constants (PortList.width ty) s.now at) }
 {
-    if ty == 1 {
-        Value::Scalar(float_at(s, at))
-    } else {
-        if ty == 2 {
-            Value::Vector(vector_at(s, at))
-        } else {
-            Value::Matrix(matrix_at(s, at))
-        }
+    match ty {
+        1 => Value::Scalar(float_at(s, at)),
+        2 => Value::Vector(vector_at(s, at)),
+        _ => Value::Matrix(matrix_at(s, at)),
     }
 }

@@ -18,29 +18,6 @@ pub use records::{
 // The bytes of a table's header.
 pub const HEADER: usize = 8;
 
-// ---- what a reading answers
-
-// A place behind what was read, or the first fault.
-#[derive(Clone, Copy)]
-pub enum Next {
-    At(usize),
-    Refused(u8, usize),
-}
-
-// All was read, or the first fault.
-#[derive(Clone, Copy)]
-pub enum Seen {
-    Passed,
-    Refused(u8, usize),
-}
-
-// Where a record ends that fits, or that it runs past the end.
-#[derive(Clone, Copy)]
-pub enum Record {
-    Ends(usize),
-    Short,
-}
-
 // ---- payloads
 
 // What a node reads: where its references begin, and how many there are.
@@ -58,15 +35,9 @@ pub enum Payload {
     References(Reads),
 }
 
-#[derive(Clone, Copy)]
-pub enum PayloadRead {
-    Is(Payload, usize),
-    Refused(u8, usize),
-}
-
 // ---- nodes
 
-// A node as read: its id, its place and its kind's own payload.
+// A node as read: its id, its place and its kind's own payload. Kind and type are bytes, as in `ports`: the compiler writes them again.
 #[derive(Clone, Copy)]
 pub struct Node {
     pub id: usize,
@@ -76,17 +47,11 @@ pub struct Node {
     pub payload: Payload,
 }
 
-#[derive(Clone, Copy)]
-pub enum NodeRead {
-    Is(Node, usize),
-    Refused(u8, usize),
-}
-
 // ---- lookups
 
 // Where a node is found: its index among those looked through, and its place.
 #[derive(Clone, Copy)]
-pub enum Found {
-    At(usize, usize),
-    Nothing,
+pub struct Found {
+    pub index: usize,
+    pub place: usize,
 }

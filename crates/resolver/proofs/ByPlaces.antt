@@ -1,15 +1,18 @@
 -- The nodes at the places that an array has.
 use Prim.Native.Nat.{ℕ, zero, suc, ◌+◌, ◌-◌, ◌≤◌, ◌<◌}
 use mathlib.Core.Path.{◌≡◌, refl, sym, ap, ◌∙◌, subst}
+use mathlib.Core.Bool.{true}
 use mathlib.Core.List.{List, [], ◌∷◌, ◌++◌}
 use native.Mathlib.Omega.{arith}
 use native.Mathlib.Nat.{add-zero, zero-add, suc-add}
 use lib.ListN.{length, get_or}
+use Rattle.base.specs.Outcome.{Outcome, ok, fault}
 use Rattle.graph.specs.Graph.{Node}
+use Rattle.graph.specs.Read.{node}
 use Rattle.reader.specs.Layout.{node_at, node_end, nodes_at, node_place}
 use Rattle.reader.specs.Find.{ReadsNode, ReadsNodes}
 use Rattle.reader.proofs.Passed.{place-reads}
-use Rattle.resolver.specs.Slots.{PlacesAre, nodes_by, PlacesRead}
+use Rattle.resolver.specs.Slots.{PlacesAre, nodes_by, passed, NodesRead, PlacesRead}
 
 module _ (s ps : List ℕ) where
   -- n of them are passed
@@ -54,6 +57,20 @@ by-places s ps i (suc n) at h =
     ap (λ (p : ℕ). node_at s p ∷ nodes_by s ps (i + 1) n) (ap (λ (j : ℕ). get_or ps j 0) (sym (add-zero i)) ∙ h 0 (omega arith))
     ∙ ap (λ (ns : List Node). node_at s at ∷ ns)
     (by-places s ps (i + 1) n (node_end s at) (λ j l. let z : i + 1 + j ≡ i + suc j = omega arith in ap (λ (k : ℕ). get_or ps k 0) z ∙ h (suc j) (omega arith)))
+
+-- ---- what was read
+
+was-ok : {A : Type 0} (o : Outcome A) → passed o ≡ true → (x : A) × (o ≡ ok x)
+was-ok (ok x) e = (x, refl)
+was-ok (fault n p) e = let z : ◌≡◌ {A = ℕ} 0 1 = cc in absurd (omega arith)
+
+pub read-at : (s ps : List ℕ) (n j : ℕ) → NodesRead s ps n → j < n → ReadsNode s (get_or ps j 0)
+read-at s ps n j h l = was-ok (node s (get_or ps j 0)) (h j l)
+
+pub read-all : (s ps : List ℕ) (n : ℕ) → PlacesRead s ps 0 n → NodesRead s ps n
+read-all s ps n h j l =
+    let (x, e) = h j l in
+    ap (λ (k : ℕ). passed (node s (get_or ps k 0))) (sym (zero-add j)) ∙ ap passed e
 
 -- an array that has the places of some nodes has these nodes
 module _ (s ps : List ℕ) (n first : ℕ) (h : PlacesAre s first n ps) where

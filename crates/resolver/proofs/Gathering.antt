@@ -1,5 +1,5 @@
 -- The ids that a group's references name, gathered.
-use Prim.Native.Nat.{ℕ, zero, suc, ◌+◌, ◌-◌, ◌≤◌, ◌<◌}
+use Prim.Native.Nat.{ℕ, zero, suc, ◌+◌, ◌-◌, ◌*◌, ◌≤◌, ◌<◌}
 use mathlib.Core.Path.{◌≡◌, refl, sym, ap, ◌∙◌}
 use mathlib.Core.List.{List, [], ◌∷◌, ◌++◌, append-nil, append_assoc}
 use native.Mathlib.Omega.{arith}
@@ -19,16 +19,15 @@ use Rattle.resolver.proofs.ByPlaces.{by_last}
 use Rattle.base.proofs.Stores.{sets-append}
 use Rattle.base.specs.Limits.{node_limit, operand_limit}
 
--- ---- one node's: n references, of which j are passed
+-- ---- one node's
 
-pub ids_all : (s : List ℕ) (n q : ℕ) → ids_of (references n s q) ≡ ids_of (references (n - 0) s q)
-ids_all s n q = let z : n ≡ n - 0 = omega arith in ap (λ (m : ℕ). ids_of (references m s q)) z
+pub ids-size : (s : List ℕ) (n q : ℕ) → length (ids_of (references n s q)) ≡ n
+ids-size s n q = length-map (references n s q) (λ (r : Ref). r.node) ∙ refs-length n s q
 
-pub ids_next : (s : List ℕ) (n j q : ℕ) → j < n → ids_of (references (n - j) s q) ≡ u16 s q ∷ ids_of (references (n - (j + 1)) s (q + 3))
-ids_next s n j q h = let z : n - j ≡ suc (n - (j + 1)) = omega arith in ap (λ (m : ℕ). ids_of (references m s q)) z
-
-pub ids-none : (s : List ℕ) (n j q : ℕ) → n ≤ j → ids_of (references (n - j) s q) ≡ []
-ids-none s n j q h = let z : n - j ≡ 0 = omega arith in ap (λ (m : ℕ). ids_of (references m s q)) z
+pub ids-at : (s : List ℕ) (n q k : ℕ) → k < n → get_or (ids_of (references n s q)) k 0 ≡ u16 s (q + 3 * k)
+ids-at s zero q k h = absurd (omega arith)
+ids-at s (suc n) q zero h = let z : q ≡ q + 3 * 0 = omega arith in ap (u16 s) z
+ids-at s (suc n) q (suc k) h = let z : q + 3 + 3 * k ≡ q + 3 * suc k = omega arith in ids-at s n (q + 3) k (omega arith) ∙ ap (u16 s) z
 
 -- ---- the nodes in turn
 
@@ -67,7 +66,7 @@ module _ {s ps : List ℕ} {i left : ℕ} {wanted₀ : List ℕ} where
         → wanted' ≡ sets wanted m (ids_of (references r.count s r.first)) → Gathering s ps i left wanted₀ wanted' (n + 1) (m + r.count)
     gather-step {p = p} {r = r} l f ep reads-are ew =
         let few = reads-are.few in
-        let a : length ids ≡ r.count = length-map (references r.count s r.first) (λ (x : Ref). x.node) ∙ refs-length r.count s r.first in
+        let a : length ids ≡ r.count = ids-size s r.count r.first in
         let b : length (named (nodes_by s ps i (n + 1))) ≡ length old + length ids = ap length whole ∙ length-append old ids in
         let c = h.size in
         record {
@@ -96,6 +95,3 @@ module _ {s ps : List ℕ} {i left : ℕ} {wanted₀ : List ℕ} where
 
     pub gather-full : 0 < m → Gathered s ps i left wanted₀ wanted (record { nodes = n; refs = m })
     gather-full l = record { some = some-nodes s ps i n m h.size l; most = h.most; fits = h.fits; size = h.size; ids = h.ids }
-
-    pub gather-done : 0 < left → left ≤ n → Gathered s ps i left wanted₀ wanted (record { nodes = n; refs = m })
-    gather-done l e = record { some = omega arith; most = h.most; fits = h.fits; size = h.size; ids = h.ids }

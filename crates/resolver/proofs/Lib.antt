@@ -3,4 +3,5 @@ pub mod ByPlaces
 pub mod Rows
 pub mod Gathering
 pub mod Matching
+pub mod Parts
 pub mod Scattering

@@ -6,10 +6,9 @@ use mathlib.Core.List.{List, [], ◌∷◌, ◌++◌, map, map-append}
 use native.Mathlib.Omega.{arith}
 use native.Mathlib.Nat.{add-zero, zero-add}
 use lib.Dec.{eqb}
-use lib.ListN.{length, get_or, set, replicate, length-set, length-replicate, get_or-replicate}
-use lib.Seq.{get_or-set_same, get_or-set_other}
-use borrow.Author.Tests.{eqb-true, eqb-false}
-use Rattle.base.specs.Limits.{node_limit, no_node}
+use lib.ListN.{length, get_or, replicate, length-replicate, get_or-replicate}
+use borrow.Author.Tests.{eqb-true}
+use Rattle.base.specs.Limits.{no_node}
 use Rattle.base.specs.Bytes.{u16}
 use Rattle.base.specs.Lists.{member, Distinct}
 use Rattle.base.specs.Outcome.{ok}
@@ -20,53 +19,15 @@ use Rattle.graph.proofs.Fresh.{fresh-distinct}
 use Rattle.reader.specs.Layout.{node_at}
 use Rattle.order.specs.Resolve.{index_from, index_of}
 use Rattle.resolver.specs.Slots.{nodes_by}
-use Rattle.resolver.specs.Groups.{Unfound, Marked, FoundAll}
+use Rattle.resolver.specs.Groups.{Unfound, Marked}
 use Rattle.resolver.proofs.ByPlaces.{by_next, length-by, by-split, by_last}
 
--- ---- one node: r of the m entries are passed
+-- ---- one node: r of the entries are passed
 
-pub record Marking (wanted : List ℕ) (m id i : ℕ) (found₀ found : List ℕ) (r : ℕ) : Type 0 where
-  pub size : length found ≡ node_limit
+pub record Marking (wanted : List ℕ) (id i : ℕ) (found₀ found : List ℕ) (r : ℕ) : Type 0 where
+  pub size : length found ≡ length wanted
   pub done : (q : ℕ) → q < r → get_or found q 0 ≡ cond (eqb id (get_or wanted q 0)) i (get_or found₀ q 0)
   pub rest : (q : ℕ) → r ≤ q → get_or found q 0 ≡ get_or found₀ q 0
-
-module _ {wanted : List ℕ} {m id i : ℕ} {found₀ : List ℕ} where
-  pub mark-start : length found₀ ≡ node_limit → Marking wanted m id i found₀ found₀ 0
-  mark-start e = record { size = e; done = λ q l. absurd (omega arith); rest = λ q l. refl }
-
-  module _ {found : List ℕ} {r : ℕ} (h : Marking wanted m id i found₀ found r) where
-    pub mark-step : {v : ℕ} → r < node_limit → v ≡ cond (eqb id (get_or wanted r 0)) i (get_or found r 0) → Marking wanted m id i found₀ (set found r v) (r + 1)
-    mark-step {v} l e =
-        record {
-          size = length-set found r v ∙ h.size;
-          done = λ q a. pick_one q (eqb q r) refl a;
-          rest = λ q a. get_or-set_other found r q v 0 (λ z. omega arith) ∙ h.rest q (omega arith);
-        }
-      where
-        pick_one : (q : ℕ) (b : Bool) → eqb q r ≡ b → q < r + 1 → get_or (set found r v) q 0 ≡ cond (eqb id (get_or wanted q 0)) i (get_or found₀ q 0)
-        pick_one q true t a =
-            let z : q ≡ r = eqb-true q r t in
-            rw z (get_or-set_same found r v 0 (omega (arith, h.size)) ∙ e ∙ ap (λ (x : ℕ). cond (eqb id (get_or wanted r 0)) i x) (h.rest r (omega arith)))
-        pick_one q false t a = let z : q ≡ r → ⊥ = eqb-false q r t in get_or-set_other found r q v 0 z ∙ h.done q (omega arith)
-
-    pub mark-done : m ≤ r → Marked wanted m id i found₀ found
-    mark-done l = record { size = h.size; marks = λ q a. h.done q (omega arith) }
-
--- going down from `no_node`
-module _ (b : Bool) (i old : ℕ) (l : i ≤ no_node) (h : b ≡ true → old ≡ no_node) where
-  pub lower : old - cond b (no_node - i) 0 ≡ cond b i old
-  lower = pick_one b h
-    where
-      pick_one : (c : Bool) → (c ≡ true → old ≡ no_node) → old - cond c (no_node - i) 0 ≡ cond c i old
-      pick_one true g = let e = g refl in omega (arith, e, l)
-      pick_one false g = omega arith
-
-  pub lower-fits : cond b (no_node - i) 0 ≤ old
-  lower-fits = pick_one b h
-    where
-      pick_one : (c : Bool) → (c ≡ true → old ≡ no_node) → cond c (no_node - i) 0 ≤ old
-      pick_one true g = let e = g refl in omega (arith, e, l)
-      pick_one false g = omega arith
 
 abbrev ids : List Node → List ℕ
 ids = map (λ n. n.id)
@@ -112,20 +73,20 @@ apart (y ∷ xs) x ys (a, d) = member-not x.id y.id (ids xs) (λ e. other e) (ap
 
 -- ---- the nodes in turn, i of them met
 
-pub record Matching (s ps wanted : List ℕ) (m : ℕ) (found : List ℕ) (i : ℕ) : Type 0 where
-  pub size : length found ≡ node_limit
-  pub same : (r : ℕ) → r < m → get_or found r 0 ≡ index_of (get_or wanted r 0) (nodes_by s ps 0 i)
+pub record Matching (s ps wanted found : List ℕ) (i : ℕ) : Type 0 where
+  pub size : length found ≡ length wanted
+  pub same : (r : ℕ) → r < length wanted → get_or found r 0 ≡ index_of (get_or wanted r 0) (nodes_by s ps 0 i)
 
-module _ {s ps wanted : List ℕ} {m : ℕ} where
-  pub match-start : {found : List ℕ} → m ≤ node_limit → found ≡ replicate node_limit no_node → Matching s ps wanted m found 0
+module _ {s ps wanted : List ℕ} where
+  pub match-start : {found : List ℕ} → found ≡ replicate (length wanted) no_node → Matching s ps wanted found 0
   unfolding nodes_by
-  match-start {found} l e =
+  match-start {found} e =
       record {
-        size = ap length e ∙ length-replicate node_limit no_node;
-        same = λ r a. ap (λ (xs : List ℕ). get_or xs r 0) e ∙ get_or-replicate node_limit r no_node 0 (omega arith);
+        size = ap length e ∙ length-replicate (length wanted) no_node;
+        same = λ r a. ap (λ (xs : List ℕ). get_or xs r 0) e ∙ get_or-replicate (length wanted) r no_node 0 a;
       }
 
-  module _ {found : List ℕ} {i : ℕ} (h : Matching s ps wanted m found i) {count : ℕ} (l : i < count) (f : fresh [] (nodes_by s ps 0 count) ≡ ok tt) {p : ℕ} (ep : p ≡ get_or ps i 0) where
+  module _ {found : List ℕ} {i : ℕ} (h : Matching s ps wanted found i) {count : ℕ} (l : i < count) (f : fresh [] (nodes_by s ps 0 count) ≡ ok tt) {p : ℕ} (ep : p ≡ get_or ps i 0) where
     next-is : p ≡ get_or ps (0 + i) 0
     next-is = ep ∙ ap (λ (j : ℕ). get_or ps j 0) (sym (zero-add i))
 
@@ -140,10 +101,10 @@ module _ {s ps wanted : List ℕ} {m : ℕ} where
         ∙ ap (λ (ns : List Node). nodes_by s ps 0 i ++ ns) (by_next s ps 0 count i l ∙ ap (λ (q : ℕ). node_at s q ∷ rest) (sym next-is)) in
         apart (nodes_by s ps 0 i) (node_at s p) rest (subst (λ (ns : List Node). Distinct (ids ns)) whole (fresh-distinct (nodes_by s ps 0 count) f))
 
-    pub match-new : Unfound wanted m (u16 s p) found
+    pub match-new : Unfound wanted (u16 s p) found
     match-new r a e = h.same r a ∙ ap (λ (w : ℕ). index_of w (nodes_by s ps 0 i)) e ∙ index-new (u16 s p) (nodes_by s ps 0 i) 0 new
 
-    pub match-step : {found' : List ℕ} {id : ℕ} → id ≡ u16 s p → Marked wanted m id i found found' → Matching s ps wanted m found' (i + 1)
+    pub match-step : {found' : List ℕ} {id : ℕ} → id ≡ u16 s p → Marked wanted id i found found' → Matching s ps wanted found' (i + 1)
     unfolding node_at
     match-step e k =
         record {
@@ -161,6 +122,3 @@ module _ {s ps wanted : List ℕ} {m : ℕ} where
               ∙ ap (λ (q : ℕ). index_of w (ns ++ (node_at s q ∷ []))) next-is
               ∙ ap (index_of w) (sym (by_last s ps 0 i));
         }
-
-  pub match-done : {found : List ℕ} {count i : ℕ} → Matching s ps wanted m found i → i ≤ count → count ≤ i → FoundAll (nodes_by s ps 0 count) wanted m found
-  match-done {found} {count} {i} h a b r l = let z : i ≡ count = omega arith in h.same r l ∙ ap (λ (n : ℕ). index_of (get_or wanted r 0) (nodes_by s ps 0 n)) z

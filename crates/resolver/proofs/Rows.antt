@@ -1,11 +1,11 @@
 -- The rows of slots, and the places, in the arrays.
-use Prim.Native.Nat.{ℕ, zero, suc, ◌+◌, ◌-◌, ◌*◌, ◌≤◌, ◌<◌}
+use Prim.Native.Nat.{ℕ, zero, suc, ◌+◌, ◌*◌, ◌≤◌, ◌<◌}
 use mathlib.Core.Path.{◌≡◌, refl, sym, ap, ◌∙◌}
 use mathlib.Core.List.{List, [], ◌∷◌, ◌++◌, map}
 use mathlib.Core.Option.{Option, none, some}
 use native.Mathlib.Omega.{arith}
-use lib.ListN.{length, get_or, set, get_elem?, length-append, length-map, get_or-append}
-use lib.Seq.{sets, length-sets, set-set, get_or-append-add}
+use lib.ListN.{length, get_or, get_elem?, length-append, length-map, get_or-append}
+use lib.Seq.{sets, length-sets, get_or-append-add}
 use Rattle.graph.specs.Graph.{Ref, Node}
 use Rattle.graph.specs.Look.{reads}
 use Rattle.reader.specs.Layout.{node_at, node_end, nodes_at, node_place}
@@ -13,8 +13,7 @@ use Rattle.order.specs.Indices.{slot}
 use Rattle.order.specs.Resolve.{target}
 use Rattle.order.proofs.Nodes.{at-below}
 use Rattle.resolver.specs.Slots.{padded, row_of, rows_of, places_of}
-use Rattle.resolver.specs.Groups.{entries}
-use Rattle.base.proofs.Stores.{sets-in, set_before}
+use Rattle.base.proofs.Stores.{sets-in}
 use Rattle.base.specs.Limits.{no_node, operand_limit, node_limit, slot_limit}
 
 -- ---- a row
@@ -86,53 +85,6 @@ row-slot ns ts i j x e h few size =
 
 pub rows-size : (ns : List Node) (ts : List ℕ) → length (sets ts 0 (rows_of ns ns)) ≡ length ts
 rows-size ns ts = length-sets ts 0 (rows_of ns ns)
-
--- ---- the row in the making: n entries of an array from m on, of which j are passed
-
-pub entries-all : (xs : List ℕ) (n m : ℕ) → entries n xs m ≡ entries (n - 0) xs (m + 0)
-entries-all xs n m =
-    let a : n ≡ n - 0 = omega arith in
-    let b : m ≡ m + 0 = omega arith in
-    ap (λ (k : ℕ). entries k xs m) a ∙ ap (λ (k : ℕ). entries (n - 0) xs k) b
-
-pub entries_next : (xs : List ℕ) (n j m : ℕ) → j < n → entries (n - j) xs (m + j) ≡ get_or xs (m + j) 0 ∷ entries (n - (j + 1)) xs (m + (j + 1))
-unfolding entries
-entries_next xs n j m h =
-    let a : n - j ≡ suc (n - (j + 1)) = omega arith in
-    let c : m + j + 1 ≡ m + (j + 1) = omega arith in
-    ap (λ (k : ℕ). entries k xs (m + j)) a ∙ ap (λ (k : ℕ). get_or xs (m + j) 0 ∷ entries (n - (j + 1)) xs k) c
-
-pub entries_none : (xs : List ℕ) (n j m : ℕ) → n ≤ j → entries (n - j) xs (m + j) ≡ []
-unfolding entries
-entries_none xs n j m h = let z : n - j ≡ 0 = omega arith in ap (λ (k : ℕ). entries k xs (m + j)) z
-
-length-entries : (n : ℕ) (xs : List ℕ) (m : ℕ) → length (entries n xs m) ≡ n
-unfolding entries
-length-entries zero xs m = refl
-length-entries (suc n) xs m = ap suc (length-entries n xs (m + 1))
-
--- numbers stored over a cleared row
-sets_over : (n : ℕ) (xs l : List ℕ) (b : ℕ) → length xs ≤ n → sets (sets l b (padded n [])) b xs ≡ sets l b (padded n xs)
-unfolding padded
-sets_over n [] l b h = refl
-sets_over zero (x ∷ xs) l b h = absurd (omega arith)
-sets_over (suc n) (x ∷ xs) l b h =
-    ap (λ (k : List ℕ). sets k (suc b) xs) (set_before (padded n []) (set l b no_node) b (suc b) x (omega arith))
-    ∙ ap (λ (k : List ℕ). sets (sets k (suc b) (padded n [])) (suc b) xs) (set-set l b no_node x)
-    ∙ sets_over n xs (set l b x) (suc b) (omega arith)
-
-pub row-stored : (xs : List ℕ) (n m : ℕ) (ts clear out : List ℕ) (b : ℕ) → n ≤ operand_limit → clear ≡ sets ts b (padded operand_limit []) → out ≡ sets clear b (entries n xs m)
-    → out ≡ sets ts b (padded operand_limit (entries n xs m))
-row-stored xs n m ts clear out b few ec eo =
-    eo ∙ ap (λ (k : List ℕ). sets k b (entries n xs m)) ec ∙ sets_over operand_limit (entries n xs m) ts b (omega (arith, few, length-entries n xs m))
-
-pub pad-next : (j : ℕ) → j < operand_limit → padded (operand_limit - j) [] ≡ no_node ∷ padded (operand_limit - (j + 1)) []
-unfolding padded
-pad-next j h = let b : operand_limit - j ≡ suc (operand_limit - (j + 1)) = omega arith in ap (λ (m : ℕ). padded m []) b
-
-pub pad-end : (j : ℕ) → operand_limit ≤ j → padded (operand_limit - j) [] ≡ []
-unfolding padded
-pad-end j h = let z : operand_limit - j ≡ 0 = omega arith in ap (λ (m : ℕ). padded m []) z
 
 -- ---- the places
 

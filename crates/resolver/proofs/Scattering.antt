@@ -7,19 +7,18 @@ use native.Mathlib.Omega.{arith}
 use native.Mathlib.Nat.{add-zero, zero-add}
 use lib.ListN.{length, get_or, length-append, length-map}
 use lib.Seq.{sets}
-use Rattle.base.specs.Limits.{node_limit, operand_limit}
+use Rattle.base.specs.Limits.{operand_limit}
 use Rattle.base.proofs.Stands.{cons_head, cons_tail}
-use Rattle.base.proofs.Stores.{sets-in, Run, run-start, run_more, run-done}
+use Rattle.base.proofs.Stores.{Run, run-start, run_more, run-done}
 use Rattle.graph.specs.Graph.{Ref, Node}
 use Rattle.graph.specs.Look.{reads}
 use Rattle.reader.specs.declared.Reads.{Reads}
 use Rattle.reader.specs.Layout.{node_at}
 use Rattle.reader.specs.Find.{ReadsOf}
 use Rattle.order.specs.Resolve.{index_of, target}
-use Rattle.resolver.specs.declared.Group.{Group}
 use Rattle.resolver.specs.Slots.{padded, row_of, rows_of, nodes_by}
-use Rattle.resolver.specs.Groups.{ids_of, named, entries, rows_from, Gathered, FoundAll, GroupDone}
-use Rattle.resolver.proofs.ByPlaces.{by_all, by_next, by-none, length-by, by-split}
+use Rattle.resolver.specs.Groups.{ids_of, named, entries, rows_from, FoundAll, GroupDone}
+use Rattle.resolver.proofs.ByPlaces.{by_next, by-none, length-by, by-split}
 use Rattle.resolver.proofs.Rows.{length-padded, length-rows, rows_none}
 use Rattle.resolver.proofs.Gathering.{ids-length}
 
@@ -62,22 +61,11 @@ rows-found ns (x ∷ xs) found m e =
     ap (λ (r : List ℕ). r ++ rows_from found (m + length (reads x)) xs) row
     ∙ ap (λ (r : List ℕ). padded operand_limit (map (λ r. target ns (some r)) (reads x)) ++ r) rest
 
-pub found_rows : (ns : List Node) (found : List ℕ) {s ps : List ℕ} {i left : ℕ} {wanted₀ wanted : List ℕ} {r : Group} → length wanted₀ ≡ node_limit → Gathered s ps i left wanted₀ wanted r
-    → FoundAll ns wanted r.refs found → rows_from found 0 (nodes_by s ps i r.nodes) ≡ rows_of ns (nodes_by s ps i r.nodes)
-found_rows ns found {s} {ps} {i} {left} {wanted₀} {wanted} {r} e h f =
-    rows-found ns (nodes_by s ps i r.nodes) found 0
-    (entries-are (λ w. index_of w ns) ids found 0 (λ q l.
-    let a = h.size in
-    ap (λ (k : ℕ). get_or found k 0) (zero-add q) ∙ f q (omega (arith, l, a)) ∙ ap (λ (w : ℕ). index_of w ns) (stands q l)))
-  where
-    ids : List ℕ
-    ids = named (nodes_by s ps i r.nodes)
-
-    stands : (q : ℕ) → q < length ids → get_or wanted q 0 ≡ get_or ids q 0
-    stands q l =
-        let a = h.size in
-        let b = h.fits in
-        ap (λ (w : List ℕ). get_or w q 0) h.ids ∙ ap (λ (k : ℕ). get_or (sets wanted₀ 0 ids) k 0) (sym (zero-add q)) ∙ sets-in ids wanted₀ 0 q l (omega (arith, a, b, e))
+pub found_rows : (ns xs : List Node) (wanted found : List ℕ) → wanted ≡ named xs → FoundAll ns wanted found → rows_from found 0 xs ≡ rows_of ns xs
+found_rows ns xs wanted found e f =
+    rows-found ns xs found 0
+    (entries-are (λ w. index_of w ns) (named xs) found 0 (λ q l.
+    ap (λ (k : ℕ). get_or found k 0) (zero-add q) ∙ f q (omega (arith, l, ap length e)) ∙ ap (λ (w : List ℕ). index_of (get_or w q 0) ns) e))
 
 -- ---- the nodes of a group in turn: n are passed, which have m references
 
@@ -87,14 +75,6 @@ pub record Scattering (s ps found targets₀ : List ℕ) (i nodes : ℕ) (target
   pub run : Run (rows_from found 0 (nodes_by s ps i nodes)) targets₀ (operand_limit * i) targets (operand_limit * (i + n)) (rows_from found m (nodes_by s ps (i + n) (nodes - n)))
 
 module _ {s ps found targets₀ : List ℕ} {i nodes : ℕ} where
-  pub scatter-start : Scattering s ps found targets₀ i nodes targets₀ 0 0
-  scatter-start =
-      record {
-        index = omega arith;
-        size = zero-add (length (named (nodes_by s ps (i + 0) (nodes - 0)))) ∙ ap (λ (ns : List Node). length (named ns)) (sym (by_all s ps i nodes));
-        run = run-start (omega arith) (ap (rows_from found 0) (sym (by_all s ps i nodes)));
-      }
-
   module _ {targets : List ℕ} {n m : ℕ} (h : Scattering s ps found targets₀ i nodes targets n m) (l : n < nodes) {p : ℕ} {r : Reads} (ep : p ≡ get_or ps (i + n) 0) (f : ReadsOf s p r) where
     rest : List Node
     rest = nodes_by s ps (i + (n + 1)) (nodes - (n + 1))
@@ -113,7 +93,7 @@ module _ {s ps found targets₀ : List ℕ} {i nodes : ℕ} where
         omega (arith, a, b, c)
 
     -- the node's own entries are there
-    pub scatter-fits : length (named (nodes_by s ps i nodes)) ≤ node_limit → m + r.count ≤ node_limit
+    pub scatter-fits : length (named (nodes_by s ps i nodes)) ≡ length found → m + r.count ≤ length found
     scatter-fits few = let a = size_is in omega (arith, a, few)
 
     pub scatter-step : {targets' : List ℕ} → targets' ≡ sets targets (operand_limit * (i + n)) (padded operand_limit (entries r.count found m))

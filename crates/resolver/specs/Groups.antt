@@ -35,18 +35,18 @@ pub record Gathered (s ps : List ℕ) (i left : ℕ) (p q : List ℕ) (r : Group
   pub size : r.refs ≡ length (named (nodes_by s ps i r.nodes))
   pub ids : q ≡ sets p 0 (named (nodes_by s ps i r.nodes))
 
--- nothing was found for an id among the first m
-abbrev pub Unfound : List ℕ → ℕ → ℕ → List ℕ → Type 0
-Unfound wanted m id p = (r : ℕ) → r < m → get_or wanted r 0 ≡ id → get_or p r 0 ≡ no_node
+-- nothing was found for an id
+abbrev pub Unfound : List ℕ → ℕ → List ℕ → Type 0
+Unfound wanted id p = (r : ℕ) → r < length wanted → get_or wanted r 0 ≡ id → get_or p r 0 ≡ no_node
 
--- the first m entries, after a node of an id was met at the index i
-pub record Marked (wanted : List ℕ) (m id i : ℕ) (p q : List ℕ) : Type 0 where
-  pub size : length q ≡ node_limit
-  pub marks : (r : ℕ) → r < m → get_or q r 0 ≡ cond (eqb id (get_or wanted r 0)) i (get_or p r 0)
+-- what is found after a node of an id was met at the index i
+pub record Marked (wanted : List ℕ) (id i : ℕ) (p q : List ℕ) : Type 0 where
+  pub size : length q ≡ length wanted
+  pub marks : (r : ℕ) → r < length wanted → get_or q r 0 ≡ cond (eqb id (get_or wanted r 0)) i (get_or p r 0)
 
--- the first m entries are the indices of the ids
-abbrev pub FoundAll : List Node → List ℕ → ℕ → List ℕ → Type 0
-FoundAll ns wanted m q = (r : ℕ) → r < m → get_or q r 0 ≡ index_of (get_or wanted r 0) ns
+-- the indices of the ids
+abbrev pub FoundAll : List Node → List ℕ → List ℕ → Type 0
+FoundAll ns wanted q = (r : ℕ) → r < length wanted → get_or q r 0 ≡ index_of (get_or wanted r 0) ns
 
 -- the rows from node i to the index reached are done
 pub record GroupDone (s ps : List ℕ) (count i : ℕ) (p q : List ℕ) (r : ℕ) : Type 0 where

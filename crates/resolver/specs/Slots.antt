@@ -1,7 +1,9 @@
 -- What the slots of a function's nodes hold, `operand_limit` for each node.
-use Rattle.std.specs.Prelude.{ℕ, zero, suc, ◌+◌, ◌<◌, ◌≡◌, List, [], ◌∷◌, ◌++◌, map, get_or}
+use Rattle.std.specs.Prelude.{ℕ, zero, suc, ◌+◌, ◌<◌, ◌≡◌, Bool, true, false, List, [], ◌∷◌, ◌++◌, map, get_or}
 use Rattle.std.proofs.Math.Option.{some}
+use Rattle.base.specs.Outcome.{Outcome, ok, fault}
 use Rattle.graph.specs.Graph.{Node}
+use Rattle.graph.specs.Read.{node}
 use Rattle.graph.specs.Look.{reads}
 use Rattle.reader.specs.Layout.{node_at, node_place}
 use Rattle.reader.specs.Find.{ReadsNode}
@@ -36,6 +38,15 @@ unfoldable pub nodes_by : List ℕ → List ℕ → ℕ → ℕ → List Node
 nodes_by s ps i zero = []
 nodes_by s ps i (suc n) = node_at s (get_or ps i 0) ∷ nodes_by s ps (i + 1) n
 
--- they were read
+-- a reading or a check that passed, as a test
+abbrev pub passed : {A : Type 0} → Outcome A → Bool
+passed (ok a) = true
+passed (fault n p) = false
+
+-- each node at the first n places that an array has was read
+abbrev pub NodesRead : List ℕ → List ℕ → ℕ → Type 0
+NodesRead s ps n = (j : ℕ) → j < n → passed (node s (get_or ps j 0)) ≡ true
+
+-- the n nodes at the places from i on were read
 abbrev pub PlacesRead : List ℕ → List ℕ → ℕ → ℕ → Type 0
 PlacesRead s ps i n = (j : ℕ) → j < n → ReadsNode s (get_or ps (i + j) 0)

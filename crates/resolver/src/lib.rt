@@ -1,18 +1,19 @@
 // The references of all nodes of a function, resolved to indices.
 #![tactic(auto)]
 
-ghost use Rattle.std.specs.Prelude.{◌≡◌, [], cond, ◌+◌, ◌*◌, ◌^◌, ◌<◌, ◌≤◌, eqb, length, replicate};
+ghost use Rattle.std.specs.Prelude.{◌≡◌, [], cond, ◌+◌, ◌-◌, ◌*◌, ◌^◌, ◌<◌, ◌≤◌, eqb, length, replicate, get_or};
 ghost use Rattle.std.proofs.lemmas.List.Edits.{sets};
 ghost use Rattle.base.specs.Limits.{node_limit, operand_limit, slot_limit, no_node};
 ghost use Rattle.base.specs.Outcome.{ok};
 ghost use Rattle.graph.specs.Judge.{fresh};
 ghost use Rattle.graph.specs.Read.{references};
 ghost use Rattle.reader.specs.Layout.{nodes_at};
-ghost use Rattle.reader.specs.Find.{ReadsNodes};
-ghost use Rattle.resolver.specs.Slots.{padded, rows_of, places_of, nodes_by, PlacesRead};
-ghost use Rattle.resolver.specs.Groups.{ids_of, named, entries, rows_from, Gathered, Unfound, Marked, FoundAll, GroupDone};
+ghost use Rattle.reader.specs.Find.{ReadsNodes, ReadsOf};
+ghost use Rattle.resolver.specs.Slots.{padded, rows_of, places_of, nodes_by, NodesRead, PlacesRead};
+ghost use Rattle.resolver.specs.Groups.{ids_of, named, rows_from, Gathered, Unfound, Marked, FoundAll, GroupDone};
 
-use base::{NO_NODE, NODE_LIMIT, OPERAND_LIMIT, SLOT_LIMIT, u16_at, wide, wide32};
+use base::{NO_NODE, NODE_LIMIT, OPERAND_LIMIT, SLOT_LIMIT, u16_at};
+use reader::Reads;
 
 // ---- places
 
@@ -22,11 +23,9 @@ pub fn places(s: &[u8], first: usize, count: usize, places: &mut [u32; NODE_LIMI
     ensures { places.new ≡ sets places.old 0 (places_of (nodes_at count s.now first)) }
 {
     let mut at = first;
-    let mut i = 0;
-    while i < count {
+    for i in 0..count {
         places[i] = at as u32;
         at = reader::node_end(s, at);
-        i += 1;
     }
 }
 
@@ -42,48 +41,14 @@ struct Group {
     refs: usize,
 }
 
-// The ids that the n references from `first` on name go to m and on.
-fn gather_node(s: &[u8], first: usize, n: usize, wanted: &mut [u16; NODE_LIMIT], m: usize)
-    requires { (first + 3 * n ≤ length s.now) × (m + n ≤ node_limit) }
-    ensures { wanted.new ≡ sets wanted.old m (ids_of (references n s.now first)) }
+// The ids that the references from `first` on name.
+fn gather_node(s: &[u8], first: usize, wanted: &mut [u16])
+    requires { first + 3 * length wanted.old ≤ length s.now }
+    ensures { wanted.new ≡ ids_of (references (length wanted.old) s.now first) }
 {
-    let mut q = first;
-    let mut j = 0;
-    while j < n {
-        wanted[m + j] = u16_at(s, q) as u16;
-        q += 3;
-        j += 1;
+    for (j, id) in wanted.iter_mut().enumerate() {
+        *id = u16_at(s, first + 3 * j) as u16;
     }
-}
-
-// The ids that the first of the `left` nodes from index i on name, as many as fit.
-fn gather(
-    s: &[u8],
-    places: &[u32; NODE_LIMIT],
-    i: usize,
-    left: usize,
-    wanted: &mut [u16; NODE_LIMIT],
-) -> Group
-    requires { PlacesRead s.now places.now i left × (0 < left) × (i + left ≤ node_limit) }
-    ensures { Gathered s.now places.now i left wanted.old wanted.new result }
-{
-    let rows = ports::PORTS;
-    let mut n = 0;
-    let mut m = 0;
-    while n < left {
-        if GROUP_LIMIT < m {
-            return Group { nodes: n, refs: m };
-        }
-        let p = wide32(places[i + n]);
-        let k = wide(s[p + 2]);
-        let row = rows[k];
-        let r = reader::reads_by(s, p, row);
-        let c = r.count;
-        gather_node(s, r.first, c, wanted, m);
-        m += c;
-        n += 1;
-    }
-    Group { nodes: n, refs: m }
 }
 
 fn amount(wanted: u16, id: u16, by: u16) -> u16
@@ -92,120 +57,110 @@ fn amount(wanted: u16, id: u16, by: u16) -> u16
     if wanted == id { by } else { 0 }
 }
 
-// i is found for each of the m ids that is `id`, for which nothing was found before. So `NO_NODE` goes down to i, which
-// takes fewer instructions than to choose between the two.
-fn mark(wanted: &[u16; NODE_LIMIT], found: &mut [u16; NODE_LIMIT], m: usize, id: u16, i: u16)
-    requires { (m ≤ node_limit) × (length found.old ≡ node_limit) × Unfound wanted.now m id found.old }
-    ensures { Marked wanted.now m id i found.old found.new }
+// i is found for each of the ids wanted that is `id`, for which nothing was found before. So `NO_NODE` goes down to i,
+// which takes fewer instructions than to choose between the two.
+fn mark(wanted: &[u16], found: &mut [u16], id: u16, i: u16)
+    requires { (length found.old ≡ length wanted.now) × Unfound wanted.now id found.old }
+    ensures { Marked wanted.now id i found.old found.new }
 {
     let by = NO_NODE - i;
-    let mut r = 0;
-    while r < m {
-        let old = found[r];
-        found[r] = old - amount(wanted[r], id, by);
-        r += 1;
+    for r in 0..wanted.len() {
+        found[r] -= amount(wanted[r], id, by);
     }
 }
 
-// What the m ids find among all nodes, in one walk.
-fn find_all(
-    s: &[u8],
-    places: &[u32; NODE_LIMIT],
+// The slots of a node: what was found for its references, and `NO_NODE` behind them.
+fn put_slots(slots: &mut [u16], found: &[u16])
+    requires { length found.now ≤ length slots.old }
+    ensures { slots.new ≡ padded (length slots.old) found.now }
+{
+    slots.fill(NO_NODE);
+    slots[..found.len()].copy_from_slice(found);
+}
+
+// ---- a function's nodes
+
+// A table's bytes, and in them the places of a function's nodes, which were read and have ids of their own.
+#[derive(Clone, Copy)]
+struct Nodes<'a> {
+    bytes: &'a [u8],
+    places: &'a [u32; NODE_LIMIT],
     count: usize,
-    wanted: &[u16; NODE_LIMIT],
-    m: usize,
-    found: &mut [u16; NODE_LIMIT],
-)
-    requires places_read { PlacesRead s.now places.now 0 count × (count ≤ node_limit) × (fresh [] (nodes_by s.now places.now 0 count) ≡ ok tt) }
-    requires m_le_node_limit { (m ≤ node_limit) × (found.old ≡ replicate node_limit no_node) }
-    ensures { FoundAll (nodes_by s.now places.now 0 count) wanted.now m found.new }
-{
-    let mut i = 0;
-    while i < count {
-        let at = wide32(places[i]);
-        mark(wanted, found, m, u16_at(s, at) as u16, i as u16);
-        i += 1;
-    }
+    ghost few: { count ≤ node_limit },
+    ghost read: { NodesRead bytes.now places.now count },
+    ghost fresh: { fresh [] (nodes_by bytes.now places.now 0 count) ≡ ok tt },
 }
 
-// The slots of node i hold `NO_NODE`.
-fn clear_slots(targets: &mut [u16; SLOT_LIMIT], i: usize)
-    requires { i < node_limit }
-    ensures { targets.new ≡ sets targets.old (operand_limit * i) (padded operand_limit []) }
-{
-    let mut j = 0;
-    while j < OPERAND_LIMIT {
-        targets[OPERAND_LIMIT * i + j] = NO_NODE;
-        j += 1;
+impl Nodes<'_> {
+    // What node i reads.
+    fn reads(self, i: usize) -> Reads
+        requires { i < self.count }
+        ensures { ReadsOf self.entry.bytes.now (get_or self.entry.places.now i 0) result }
+    {
+        let at = self.places[i] as usize;
+        let row = ports::ports_of(self.bytes[at + 2]);
+        reader::reads_by(self.bytes, at, row)
     }
-}
 
-// The n entries from m on go to the slots of node i, and `NO_NODE` behind them.
-fn put_slots(
-    found: &[u16; NODE_LIMIT],
-    m: usize,
-    n: usize,
-    targets: &mut [u16; SLOT_LIMIT],
-    i: usize,
-)
-    requires { (m + n ≤ node_limit) × (n ≤ operand_limit) × (i < node_limit) }
-    ensures { targets.new ≡ sets targets.old (operand_limit * i) (padded operand_limit (entries n found.now m)) }
-{
-    clear_slots(targets, i);
-    let mut j = 0;
-    while j < n {
-        targets[OPERAND_LIMIT * i + j] = found[m + j];
-        j += 1;
+    // The ids that the nodes from index i on name, of as many as fit.
+    fn gather(self, i: usize, wanted: &mut [u16; NODE_LIMIT]) -> Group
+        requires { i < self.count }
+        ensures { Gathered self.entry.bytes.now self.entry.places.now i (self.entry.count - i) wanted.old wanted.new result }
+    {
+        let left = self.count - i;
+        let mut refs = 0;
+        for nodes in 0..left {
+            if GROUP_LIMIT < refs {
+                return Group { nodes, refs };
+            }
+            let reads = self.reads(i + nodes);
+            let end = refs + reads.count;
+            gather_node(self.bytes, reads.first, &mut wanted[refs..end]);
+            refs = end;
+        }
+        Group { nodes: left, refs }
     }
-}
 
-// The rows of some nodes, the first of them node i, from what was found for all their references.
-fn scatter(
-    s: &[u8],
-    places: &[u32; NODE_LIMIT],
-    nodes: usize,
-    found: &[u16; NODE_LIMIT],
-    targets: &mut [u16; SLOT_LIMIT],
-    i: usize,
-)
-    requires { PlacesRead s.now places.now i nodes × (i + nodes ≤ node_limit) × (length (named (nodes_by s.now places.now i nodes)) ≤ node_limit) }
-    ensures { targets.new ≡ sets targets.old (operand_limit * i) (rows_from found.now 0 (nodes_by s.now places.now i nodes)) }
-{
-    let rows = ports::PORTS;
-    let mut n = 0;
-    let mut m = 0;
-    while n < nodes {
-        let p = wide32(places[i + n]);
-        let k = wide(s[p + 2]);
-        let row = rows[k];
-        let r = reader::reads_by(s, p, row);
-        let c = r.count;
-        put_slots(found, m, c, targets, i + n);
-        m += c;
-        n += 1;
+    // What the ids find among all nodes, in one walk.
+    fn find_all(self, wanted: &[u16], found: &mut [u16])
+        requires same_length { length found.old ≡ length wanted.now }
+        requires nothing { found.old ≡ replicate (length wanted.now) no_node }
+        ensures { FoundAll (nodes_by self.entry.bytes.now self.entry.places.now 0 self.entry.count) wanted.now found.new }
+    {
+        for i in 0..self.count {
+            let at = self.places[i] as usize;
+            mark(wanted, found, u16_at(self.bytes, at) as u16, i as u16);
+        }
     }
-}
 
-// ---- all groups
+    // The rows of some nodes, the first of them node i, from what was found for all their references.
+    fn scatter(self, i: usize, nodes: usize, found: &[u16], targets: &mut [u16; SLOT_LIMIT])
+        requires within { i + nodes ≤ self.count }
+        requires each { length (named (nodes_by self.bytes.now self.places.now i nodes)) ≡ length found.now }
+        ensures { targets.new ≡ sets targets.old (operand_limit * i) (rows_from found.now 0 (nodes_by self.entry.bytes.now self.entry.places.now i nodes)) }
+    {
+        let mut from = 0;
+        for n in 0..nodes {
+            let at = OPERAND_LIMIT * (i + n);
+            let end = from + self.reads(i + n).count;
+            put_slots(&mut targets[at..at + OPERAND_LIMIT], &found[from..end]);
+            from = end;
+        }
+    }
 
-// The rows of the group that begins with node i; the index behind it.
-fn resolve_group(
-    s: &[u8],
-    places: &[u32; NODE_LIMIT],
-    count: usize,
-    i: usize,
-    targets: &mut [u16; SLOT_LIMIT],
-) -> usize
-    requires { PlacesRead s.now places.now 0 count × (count ≤ node_limit) × (fresh [] (nodes_by s.now places.now 0 count) ≡ ok tt) × (i < count) }
-    ensures { GroupDone s.now places.now count i targets.old targets.new result }
-{
-    let mut wanted = [0u16; NODE_LIMIT];
-    let mut found = [NO_NODE; NODE_LIMIT];
-    let g = gather(s, places, i, count - i, &mut wanted);
-    let nodes = g.nodes;
-    find_all(s, places, count, &wanted, g.refs, &mut found);
-    scatter(s, places, nodes, &found, targets, i);
-    i + nodes
+    // The rows of the group that begins with node i; the index behind it.
+    fn resolve_group(self, i: usize, targets: &mut [u16; SLOT_LIMIT]) -> usize
+        requires { i < self.count }
+        ensures { GroupDone self.entry.bytes.now self.entry.places.now self.entry.count i targets.old targets.new result }
+    {
+        // Apart, so that all ids are held against one in vector instructions.
+        let mut wanted = [0u16; NODE_LIMIT];
+        let mut found = [NO_NODE; NODE_LIMIT];
+        let group = self.gather(i, &mut wanted);
+        self.find_all(&wanted[..group.refs], &mut found[..group.refs]);
+        self.scatter(i, group.nodes, &found[..group.refs], targets);
+        i + group.nodes
+    }
 }
 
 // The slots of the nodes at these places: what each reads, by its index.
@@ -213,8 +168,14 @@ pub fn resolve(s: &[u8], places: &[u32; NODE_LIMIT], count: usize, targets: &mut
     requires { PlacesRead s.now places.now 0 count × (count ≤ node_limit) × (length targets.old ≡ slot_limit) × (fresh [] (nodes_by s.now places.now 0 count) ≡ ok tt) }
     ensures { targets.new ≡ sets targets.old 0 (rows_of (nodes_by s.now places.now 0 count) (nodes_by s.now places.now 0 count)) }
 {
+    let nodes = Nodes {
+        bytes: s,
+        places,
+        count,
+    };
     let mut i = 0;
+    // A group takes as many nodes as fit, so the steps are not even.
     while i < count {
-        i = resolve_group(s, places, count, i, targets);
+        i = nodes.resolve_group(i, targets);
     }
 }

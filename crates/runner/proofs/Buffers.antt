@@ -1,14 +1,14 @@
--- Words copied into a buffer, and a test of every word.
+-- Words copied into a buffer.
 use Prim.Native.Nat.{ℕ, zero, suc, ◌+◌, ◌*◌, ◌≤◌, ◌<◌}
 use mathlib.Core.Path.{◌≡◌, ap, sym, ◌∙◌, subst}
-use mathlib.Core.Bool.{Bool, true, false, ◌&&◌}
 use mathlib.Core.List.{List, [], ◌∷◌, ◌++◌, map, map-append}
 use native.Mathlib.Nat.{zero-add}
 use native.Mathlib.Numerals.{add-one}
 use native.Mathlib.Omega.{arith}
-use lib.ListN.{length, get_or, set, take, drop, length-map}
-use lib.Seq.{sets, take-suc, take-length, drop-cons, drop-length, length-take-le}
-use Rattle.base.specs.Lists.{word_at, every, Each}
+use lib.ListN.{length, set, drop, length-map}
+use Rattle.std.proofs.lemmas.List.Edits.{sets-eq}
+use lib.Seq.{sets}
+use Rattle.base.specs.Lists.{word_at, Each}
 use Rattle.base.proofs.Stores.{then}
 use Rattle.base.specs.Bytes.{u16}
 use Rattle.bytecode.specs.Code.{addresses}
@@ -19,14 +19,9 @@ use Rattle.bytecode.proofs.Decoded.{addresses-length}
 one_more : (l : List ℕ) (m : List ℕ) (i x : ℕ) (xs : List ℕ) → length xs ≡ i → m ≡ sets l 0 xs → set m i x ≡ sets l 0 (xs ++ (x ∷ []))
 one_more l m i x xs e h = then l 0 xs (x ∷ []) h (ap (λ (k : ℕ). set m k x) (sym e ∙ sym (zero-add (length xs))))
 
-pub copy_more : (l m from : List ℕ) (i : ℕ) → i < length from → m ≡ sets l 0 (take i from) → set m i (get_or from i 0) ≡ sets l 0 (take (i + 1) from)
-copy_more l m from i h e =
-    let n : i ≤ length from = omega arith in
-    one_more l m i (get_or from i 0) (take i from) (length-take-le i from n) e
-    ∙ ap (sets l 0) (sym (ap (λ (k : ℕ). take k from) (add-one i) ∙ take-suc from i 0 h))
-
-pub copy-all : (l m from : List ℕ) (i : ℕ) → length from ≤ i → i ≤ length from → m ≡ sets l 0 (take i from) → m ≡ sets l 0 from
-copy-all l m from i p q e = let z : i ≡ length from = omega arith in e ∙ ap (sets l 0) (ap (λ (k : ℕ). take k from) z ∙ take-length from)
+-- all of a list, copied to the front
+pub copied-front : (xs l : List ℕ) → length xs ≤ length l → xs ++ drop (length xs) l ≡ sets l 0 xs
+copied-front xs l h = let e : 0 + length xs ≡ length xs = omega arith in sym (sets-eq xs l 0 (omega arith) ∙ ap (λ (n : ℕ). xs ++ drop n l) e)
 
 -- ---- outputs
 
@@ -51,16 +46,3 @@ address_below zero s at size i h l = absurd (omega arith)
 address_below (suc n) s at size zero h l = subst (λ (a : ℕ). u16 s a < size) (omega arith) h.0
 address_below (suc n) s at size (suc i) h l =
     subst (λ (a : ℕ). u16 s a < size) (omega arith) (address_below n s (at + 2) size i h.1 (omega arith))
-
--- ---- a test of every word
-
-module _ (ok : ℕ → Bool) (xs : List ℕ) (i : ℕ) where
-  pub every-on : i < length xs → ok (get_or xs i 0) ≡ true → every ok (drop i xs) ≡ every ok (drop (i + 1) xs)
-  every-on h e =
-      ap (every ok) (drop-cons xs i 0 h) ∙ ap (λ (b : Bool). b && every ok (drop (suc i) xs)) e ∙ ap (λ (k : ℕ). every ok (drop k xs)) (sym (add-one i))
-
-  pub every-off : i < length xs → ok (get_or xs i 0) ≡ false → every ok (drop i xs) ≡ false
-  every-off h e = ap (every ok) (drop-cons xs i 0 h) ∙ ap (λ (b : Bool). b && every ok (drop (suc i) xs)) e
-
-  pub every-end : length xs ≤ i → i ≤ length xs → every ok (drop i xs) ≡ true
-  every-end p q = let z : i ≡ length xs = omega arith in ap (λ (k : ℕ). every ok (drop k xs)) z ∙ ap (every ok) (drop-length xs)

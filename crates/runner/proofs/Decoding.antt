@@ -1,4 +1,5 @@
 -- What a well formed code tells the run, and what the definition then answers.
+use Rattle.std.specs.Prelude.{Some, None}
 use Prim.Native.Nat.{ℕ, suc, ◌+◌, ◌-◌, ◌*◌, ◌≤◌, ◌<◌}
 use mathlib.Core.Path.{◌≡◌, refl, ap, sym, ◌∙◌, subst}
 use mathlib.Core.Bool.{Bool, true, false, ◌&&◌, cond}
@@ -29,12 +30,10 @@ use Rattle.bytecode.proofs.Readable.{readable-behind, behind-grows}
 use Rattle.base.proofs.Lists.{some_is, each-less}
 use Rattle.bytecode.proofs.Origins.{execute-length}
 use Rattle.runner.specs.declared.Counts.{Counts}
-use Rattle.runner.specs.declared.Checked.TheVariants.{Formed, Malformed}
-use Rattle.runner.specs.declared.Ran.TheVariants.{Done, Refused}
 use Rattle.executor.specs.Instructions.{version_by, CanonicalReads, after_all, Instructions}
 use Rattle.executor.proofs.Canonical.{front-sets}
 use Rattle.runner.specs.Checks.{counts_of, checked_of}
-use Rattle.runner.specs.Runs.{answer_of, work_after, out_after, Answered, memory_of, outputs_of, OutputsReady}
+use Rattle.runner.specs.Runs.{work_after, out_after, Answered, memory_of, outputs_of, OutputsReady}
 use Rattle.runner.proofs.Whole.{count-is}
 
 pub record Decoded (s : List ℕ) (c : Counts) : Type 0 where
@@ -113,18 +112,18 @@ of-counts s v a o n w b c long ev e d q =
       small = omega arith;
     }
 
-pub is-formed : (o : Option BoardList) (c : Counts) → checked_of o ≡ Formed c
+pub is-formed : (o : Option BoardList) (c : Counts) → checked_of o ≡ Some c
     → (b : BoardList) × (o ≡ some b) × (counts_of b ≡ c)
 unfolding checked_of
 is-formed none c e = let z : ◌≡◌ {A = ℕ} 0 1 = cc in absurd (omega arith)
 is-formed (some b) c e = (b, refl, cc)
 
-pub is-malformed : (o : Option BoardList) → checked_of o ≡ Malformed → o ≡ none
+pub is-malformed : (o : Option BoardList) → checked_of o ≡ None → o ≡ none
 unfolding checked_of
 is-malformed none e = refl
 is-malformed (some b) e = let z : ◌≡◌ {A = ℕ} 0 1 = cc in absurd (omega arith)
 
-pub decoded : (s : List ℕ) (c : Counts) → checked_of (decode s) ≡ Formed c → Decoded s c
+pub decoded : (s : List ℕ) (c : Counts) → checked_of (decode s) ≡ Some c → Decoded s c
 unfolding decode
 decoded s c e =
     let (b, d, q) = is-formed (decode s) c e in
@@ -135,42 +134,42 @@ decoded s c e =
 
 -- ---- refusals
 
-pub refused : (g : Outcome Buffers) (n p : ℕ) (work out : List ℕ) → g ≡ fault n p → Answered g work out work out (Refused n p)
-unfolding answer_of work_after out_after
+pub refused : (g : Outcome Buffers) (n p : ℕ) (work out : List ℕ) → g ≡ fault n p → Answered g work out work out (fault n p)
+unfolding work_after out_after
 refused g n p work out e = record { answer = rw e; work-after = rw e; out-after = rw e }
 
 module _ (s arguments work out : List ℕ) where
-  pub refused-18 : checked_of (decode s) ≡ Malformed → Answered (ran s arguments work out) work out work out (Refused 18 0)
+  pub refused-18 : checked_of (decode s) ≡ None → Answered (ran s arguments work out) work out work out (fault 18 0)
   unfolding ran ◌>>=◌
   refused-18 e = refused (ran s arguments work out) 18 0 work out (rw (is-malformed (decode s) e))
 
   module _ {c : Counts} (d : Decoded s c) where
-    pub refused-19 : (length arguments ≡ c.arguments → ⊥) → Answered (ran s arguments work out) work out work out (Refused 19 0)
+    pub refused-19 : (length arguments ≡ c.arguments → ⊥) → Answered (ran s arguments work out) work out work out (fault 19 0)
     unfolding ran ◌>>=◌ ◌>>◌ need
     refused-19 n =
         refused (ran s arguments work out) 19 0 work out
         (rw (d.is, ne_eqb (length arguments) d.list.arguments (λ q. n (q ∙ sym d.arguments))))
 
     module _ (count : length arguments ≡ c.arguments) where
-      pub refused-20 : every argument_word arguments ≡ false → Answered (ran s arguments work out) work out work out (Refused 20 0)
+      pub refused-20 : every argument_word arguments ≡ false → Answered (ran s arguments work out) work out work out (fault 20 0)
       unfolding ran ◌>>=◌ ◌>>◌ need
       refused-20 f =
           refused (ran s arguments work out) 20 0 work out (rw (d.is, eq-eqb (length arguments) d.list.arguments (count ∙ d.arguments), f))
 
       module _ (f : every argument_word arguments ≡ true) where
         short : (leb d.list.words (length work) && leb (length d.list.outputs) (length out)) ≡ false
-            → Answered (ran s arguments work out) work out work out (Refused 21 0)
+            → Answered (ran s arguments work out) work out work out (fault 21 0)
         unfolding ran ◌>>=◌ ◌>>◌ need
         short h =
             refused (ran s arguments work out) 21 0 work out
             (rw (d.is, eq-eqb (length arguments) d.list.arguments (count ∙ d.arguments), f, h))
 
-        pub refused-work : length work < c.words → Answered (ran s arguments work out) work out work out (Refused 21 0)
+        pub refused-work : length work < c.words → Answered (ran s arguments work out) work out work out (fault 21 0)
         refused-work l =
             let w = d.words in
             short (ap (λ (b : Bool). b && leb (length d.list.outputs) (length out)) (lt-leb d.list.words (length work) (omega arith)))
 
-        pub refused-out : length out < c.outputs → Answered (ran s arguments work out) work out work out (Refused 21 0)
+        pub refused-out : length out < c.outputs → Answered (ran s arguments work out) work out work out (fault 21 0)
         refused-out l =
             let o = d.outputs in
             short (ap (λ (b : Bool). leb d.list.words (length work) && b) (lt-leb (length d.list.outputs) (length out) (omega arith)) ∙ and-false (leb d.list.words (length work)))
@@ -188,8 +187,8 @@ module _ (s arguments work out : List ℕ) where
             rw (d.is, eq-eqb (length arguments) d.list.arguments (count ∙ d.arguments), f, h1, h2, d.outputs) refl
 
         pub completed : c.words ≤ length work → c.outputs ≤ length out → {work' out' : List ℕ} → work' ≡ memory_of (decode s) arguments work
-            → out' ≡ outputs_of (decode s) arguments work out → Answered (ran s arguments work out) work out work' out' (Done c.outputs)
-        unfolding answer_of work_after out_after
+            → out' ≡ outputs_of (decode s) arguments work out → Answered (ran s arguments work out) work out work' out' (ok c.outputs)
+        unfolding work_after out_after
         completed w o e1 e2 = let g = ran-ok w o in record { answer = rw g refl; work-after = rw g e1; out-after = rw g e2 }
 
 -- ---- the run of a code that was checked

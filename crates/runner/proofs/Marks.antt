@@ -1,22 +1,21 @@
 -- Version 2's record of the words that are written: a mark for each of them, and each result marks its own.
-use Prim.Native.Nat.{ℕ, zero, suc, ◌+◌, ◌-◌, ◌<◌}
+use Prim.Native.Nat.{ℕ, zero, suc, ◌+◌, ◌<◌}
 use mathlib.Core.Path.{◌≡◌, refl, ap, ap₂, sym, ◌∙◌, subst}
 use mathlib.Core.Bool.{Bool, true, false, ◌&&◌, ◌||◌}
 use mathlib.Core.List.{List, [], ◌∷◌}
 use native.Mathlib.Omega.{arith}
-use native.Mathlib.Numerals.{sub-one, add-one}
+use native.Mathlib.Numerals.{add-one}
 use borrow.Author.Tests.{eqb-true, eqb-false}
 use lib.Dec.{eqb}
 use lib.ListN.{length, get_or, set, replicate, length-set, length-replicate}
 use lib.Seq.{get_or-set_same, get_or-set_other}
-use Rattle.ports.specs.Ports.{width, types}
+use Rattle.ports.specs.Ports.{width}
 use Rattle.base.specs.Bytes.{u16}
 use Rattle.base.specs.Lists.{every, span}
 use Rattle.base.specs.Limits.{word_limit}
-use Rattle.bytecode.specs.Run.{spans}
 use Rattle.bytecode.specs.Ranges.{Range, inside}
 use Rattle.bytecode.specs.Code.{addresses, argument_words}
-use Rattle.bytecode.proofs.Readable.{inside-inv, is-inside, every_append}
+use Rattle.bytecode.proofs.Readable.{inside-inv, is-inside}
 use Rattle.runner.specs.Checks.{marked, Records, Extended}
 use Rattle.runner.proofs.Walks.{Walk}
 
@@ -100,40 +99,3 @@ module _ (test : ℕ → Bool) where
 
   pub marked-walk : (s : List ℕ) → Walk (λ n at. every test (addresses n s at)) (λ at. test (u16 s at)) 2
   marked-walk s = record { none = λ at. refl; more = λ n at. refl }
-
-  same-types : (n q : ℕ) → types n q q ≡ replicate n q
-  same-types zero q = refl
-  same-types (suc n) q = refl
-
-  module _ (s : List ℕ) (rest : ℕ) where
-    abbrev pub left-written : ℕ → ℕ → ℕ → Bool
-    left-written n at t = every test (spans (types n t rest) (addresses n s at))
-
-    first_then : (n at t : ℕ) → left-written (suc n) at t ≡ every test (span (u16 s at) (width t)) && left-written n (at + 2) rest
-    first_then n at t =
-        every_append test (span (u16 s at) (width t)) (spans (replicate n rest) (addresses n s (at + 2)))
-        ∙ ap (λ (ts : List ℕ). every test (span (u16 s at) (width t)) && every test (spans ts (addresses n s (at + 2)))) (sym (same-types n rest))
-
-    pub operands-on : (left at t : ℕ) → 0 < left → every test (span (u16 s at) (width t)) ≡ true → left-written left at t ≡ left-written (left - 1) (at + 2) rest
-    operands-on zero at t h e = absurd (omega arith)
-    operands-on (suc n) at t h e = first_then n at t ∙ ap (λ (b : Bool). b && left-written n (at + 2) rest) e ∙ rw sub-one
-
-    pub operands-off : (left at t : ℕ) → 0 < left → every test (span (u16 s at) (width t)) ≡ false → left-written left at t ≡ false
-    operands-off zero at t h e = absurd (omega arith)
-    operands-off (suc n) at t h e = first_then n at t ∙ ap (λ (b : Bool). b && left-written n (at + 2) rest) e
-
-    pub operands-over : (left at t : ℕ) → left ≡ 0 → left-written left at t ≡ true
-    operands-over zero at t z = refl
-    operands-over (suc n) at t z = absurd (omega arith)
-
-  -- two operands
-  module _ (s : List ℕ) (at p q : ℕ) where
-    pub two-off : every test (span (u16 s at) (width p)) ≡ false → false ≡ every test (spans (types 2 p q) (addresses 2 s at))
-    two-off e = sym (operands-off s q 2 at p (omega arith) e)
-
-    pub two-on : every test (span (u16 s at) (width p)) ≡ true → {r : Bool} → r ≡ every test (span (u16 s (at + 2)) (width q))
-        → r ≡ every test (spans (types 2 p q) (addresses 2 s at))
-    two-on e g =
-        g
-        ∙ sym (every_append test (span (u16 s (at + 2)) (width q)) [] ∙ and-true (every test (span (u16 s (at + 2)) (width q))))
-        ∙ sym (operands-on s q 2 at p (omega arith) e)

@@ -1,7 +1,7 @@
 -- One instruction: the check of its row, with its operands before a word, and the words that it may read, against the reading of it.
 use Prim.Native.Nat.{ℕ, zero, suc, ◌+◌, ◌-◌, ◌*◌, ◌≤◌, ◌<◌}
 use mathlib.Core.Path.{◌≡◌, refl, ap, sym, ◌∙◌}
-use mathlib.Core.Bool.{Bool, true, false, ◌&&◌, cond}
+use mathlib.Core.Bool.{Bool, true, false, ◌&&◌}
 use mathlib.Core.List.{List, [], ◌∷◌}
 use mathlib.Core.Option.{Option, none, some}
 use native.Mathlib.Omega.{arith}
@@ -21,11 +21,11 @@ use Rattle.bytecode.specs.declared.Version.{Version}
 use Rattle.bytecode.specs.declared.Version.TheVariants.{V1}
 use Rattle.bytecode.specs.Code.{guard, addresses, readable, result_at, read_instruction}
 use Rattle.bytecode.proofs.Readable.{readable-behind, width_some, every_append, every-span}
-use Rattle.executor.specs.Execution.{instruction_at, end_of, words_given}
+use Rattle.executor.specs.Execution.{instruction_at, end_of}
 use Rattle.executor.proofs.Loop.{operands_at}
-use Rattle.runner.specs.declared.Cursor.{Cursor}
-use Rattle.runner.specs.declared.Progress.TheVariants.{Passed, Refused}
-use Rattle.runner.specs.Checks.{all_below, all_less, followed, instruction_passed}
+use Rattle.runner.specs.Checks.{all_below, all_less, marked, Recorded, operands_good}
+use Rattle.runner.proofs.Marks.{both_ways, every-same}
+use Rattle.executor.specs.Instructions.{version_by}
 
 -- ---- words before the next result
 
@@ -59,54 +59,27 @@ pub less-reads : (written : List Range) (xs : List ℕ) → every (readable V1 w
 less-reads written [] = refl
 less-reads written (x ∷ xs) = ap (λ (b : Bool). ltb x (behind written) && b) (less-reads written xs)
 
--- ---- the check of the row
+-- ---- operands that pass, against the words that may be read
 
-module _ (s : List ℕ) (at from result : ℕ) where
-  abbrev k : ℕ
-  k = byte s at
+below-good : (marks : List Bool) (high : ℕ) (ts xs : List ℕ) → operands_good false marks high ts xs ≡ all_below high ts xs
+below-good marks high [] xs = refl
+below-good marks high (t ∷ ts) [] = refl
+below-good marks high (t ∷ ts) (a ∷ xs) = ap (λ (x : Bool). leb (a + width t) high && x) (below-good marks high ts xs)
 
-  abbrev t : ℕ
-  t = byte s (at + 1)
+written-good : (marks : List Bool) (high : ℕ) (ts xs : List ℕ) → operands_good true marks high ts xs ≡ every (marked marks) (spans ts xs)
+written-good marks high [] xs = refl
+written-good marks high (t ∷ ts) [] = refl
+written-good marks high (t ∷ ts) (a ∷ xs) =
+    ap (λ (x : Bool). every (marked marks) (span a (width t)) && x) (written-good marks high ts xs)
+    ∙ sym (every_append (marked marks) (span a (width t)) (spans ts xs))
 
-  abbrev allowed : Bool
-  allowed = every constant_word (constants (constant_words (kind_of k)) s (from + 2 * arity (kind_of k)))
-
-  abbrev below : Bool
-  below = all_below result (takes (kind_of k) t) (addresses (arity (kind_of k)) s from)
-
-  pass : legal_instruction (kind_of k) t ≡ true → leb (end_of k from) (length s) ≡ true → below ≡ true → allowed ≡ true
-      → instruction_passed s at from result ≡ Passed (record { at = end_of k from; result = result + words_given k t })
-  unfolding instruction_passed followed
-  pass a b c d = rw (a, b, c, d) refl
-
-  pub record Passes (x : Cursor) : Type 0 where
-    pub legal : legal_instruction (kind_of k) t ≡ true
-    pub fits : leb (end_of k from) (length s) ≡ true
-    pub stands : below ≡ true
-    pub consts : allowed ≡ true
-    pub at-is : x.at ≡ end_of k from
-    pub result-is : x.result ≡ result + words_given k t
-
-  pub passes : (x : Cursor) → instruction_passed s at from result ≡ Passed x → Passes x
-  unfolding instruction_passed followed
-  passes x e = go (legal_instruction (kind_of k) t) refl (leb (end_of k from) (length s)) refl (below && allowed) refl e
-    where
-      go : (a : Bool) → legal_instruction (kind_of k) t ≡ a → (b : Bool) → leb (end_of k from) (length s) ≡ b → (c : Bool) → below && allowed ≡ c
-          → cond a (cond (b && c) (Passed (record { at = end_of k from; result = result + words_given k t })) Refused) Refused ≡ Passed x → Passes x
-      go true p true q true r e =
-          let z : record { at = end_of k from; result = result + words_given k t } ≡ x = cc in
-          let (u, w) = and-inv below allowed r in
-          record {
-            legal = p;
-            fits = q;
-            stands = u;
-            consts = w;
-            at-is = sym (ap (λ (y : Cursor). y.at) z);
-            result-is = sym (ap (λ (y : Cursor). y.result) z);
-          }
-      go true p true q false r e = let z : ◌≡◌ {A = ℕ} 0 1 = cc in absurd (omega arith)
-      go true p false q c r e = let z : ◌≡◌ {A = ℕ} 0 1 = cc in absurd (omega arith)
-      go false p b q c r e = let z : ◌≡◌ {A = ℕ} 0 1 = cc in absurd (omega arith)
+pub good-reads : (b : Bool) (written : List Range) (marks : List Bool) → Recorded b written marks → (ts xs : List ℕ)
+    → operands_good b marks (behind written) ts xs ≡ every (readable (version_by b) written) (spans ts xs)
+good-reads false written marks r ts xs =
+    below-good marks (behind written) ts xs
+    ∙ both_ways (all_below (behind written) ts xs) (every (readable V1 written) (spans ts xs)) (below-reads written ts xs) (reads-below V1 written ts xs)
+good-reads true written marks r ts xs =
+    written-good marks (behind written) ts xs ∙ every-same (marked marks) (readable (version_by true) written) r.is (spans ts xs)
 
 -- ---- the reading
 
@@ -143,22 +116,6 @@ module _ (v : Version) (written : List Range) (s : List ℕ) (at : ℕ) where
       (λ c. unless-passed (every (readable v written) reads_of) _
       (λ d. unless-passed all_allowed _
       (λ e. absurd (f (leb-true _ _ a) b c d e))))))
-
-  pub none-short : length s < operands_at v at → read_instruction v written s at ≡ none
-  none-short h = unread (λ a b c d e. let f : end_of kind (operands_at v at) ≤ length s = leb-true _ _ c in omega arith)
-
-  pub none-illegal : legal_instruction (kind_of kind) type ≡ false → read_instruction v written s at ≡ none
-  none-illegal h = unread (λ a b c d e. let z : ◌≡◌ {A = ℕ} 0 1 = cc in omega arith)
-
-  pub none-unread : every (readable v written) reads_of ≡ false → read_instruction v written s at ≡ none
-  none-unread h = unread (λ a b c d e. let z : ◌≡◌ {A = ℕ} 0 1 = cc in omega arith)
-
-  pub none-refused : instruction_passed s at (operands_at v at) (behind written) ≡ Refused → read_instruction v written s at ≡ none
-  none-refused h =
-      unread (λ a b c d e.
-      let p = pass s at (operands_at v at) (behind written) b c (reads-below v written (takes (kind_of kind) type) (addresses (arity (kind_of kind)) s (operands_at v at)) d) e in
-      let z : ◌≡◌ {A = ℕ} 0 1 = cc in
-      omega arith)
 
   pub is_read : at + 2 ≤ length s → legal_instruction (kind_of kind) type ≡ true → leb (end_of kind (operands_at v at)) (length s) ≡ true
       → every (readable v written) reads_of ≡ true → all_allowed ≡ true → read_instruction v written s at ≡ some instruction_of

@@ -1,4 +1,5 @@
 -- The list behind the header, and the whole code: each test against the reading, in the version that the header names.
+use Rattle.std.specs.Prelude.{Some, None}
 use Prim.Native.Nat.{ℕ, zero, suc, ◌+◌, ◌*◌, ◌≤◌, ◌<◌}
 use mathlib.Core.Path.{◌≡◌, refl, ap, sym, ◌∙◌}
 use mathlib.Core.Bool.{Bool, true, false, ◌&&◌, cond}
@@ -6,13 +7,14 @@ use mathlib.Core.List.{List, [], ◌∷◌}
 use mathlib.Core.Option.{Option, none, some}
 use mathlib.Core.Logic.{◌⊎◌, inl, inr, ⊎_elim}
 use native.Mathlib.Omega.{arith}
-use borrow.Author.Tests.{le-leb, lt-leb, leb-true, leb-false, eq-eqb, ne_eqb}
+use borrow.Author.Tests.{le-leb, lt-leb, leb-true, leb-false, eq-eqb, ne_eqb, eqb-true, eqb-false}
 use lib.Dec.{leb, eqb}
 use lib.ListN.{length, replicate}
+use Rattle.std.specs.Bool.{then_some}
 use Rattle.base.specs.Bytes.{byte, u16}
 use Rattle.base.specs.Lists.{every}
 use Rattle.base.specs.Limits.{port_word_limit, operation_limit, word_limit, within_limits}
-use Rattle.base.proofs.Bools.{and-inv}
+use Rattle.base.proofs.Bools.{and-inv, and-inv-false}
 use Rattle.base.proofs.Lists.{some_is}
 use Rattle.base.specs.Outcome.{Part}
 use Rattle.bytecode.specs.Run.{Instruction, BoardList}
@@ -27,9 +29,8 @@ use Rattle.executor.specs.Instructions.{version_by}
 use Rattle.executor.proofs.Loop.{operands_at, read-inv}
 use Rattle.runner.specs.declared.Counts.{Counts}
 use Rattle.runner.specs.declared.Cursor.{Cursor}
-use Rattle.runner.specs.declared.Progress.TheVariants.{Passed, Refused}
-use Rattle.runner.specs.declared.Checked.TheVariants.{Formed, Malformed}
-use Rattle.runner.specs.Checks.{all_less, marked, Recorded, Extended, ended_of, written_of, Ended, Listable, checked_of, header_counts, list_of}
+use Rattle.runner.specs.Answers.{Progress, Checked}
+use Rattle.runner.specs.Checks.{all_less, marked, behind_good, Recorded, Extended, ended_of, written_of, Ended, Listable, checked_of, header_counts, list_of}
 use Rattle.runner.proofs.Marks.{records-first, every-same}
 use Rattle.runner.proofs.Reading.{less-reads}
 
@@ -55,24 +56,24 @@ count-is v (suc n) s at written l e =
     sym (ap (λ (x : Listed). length x.instructions) (some_is e2)) ∙ ap suc (count-is v n s i.next (result_value i.it ∷ written) r er)
 
 -- what the check of all tells
-passed-end : (o : Option Listed) (x : Cursor) → ended_of o ≡ Passed x → (l : Listed) × (o ≡ some l) × (x.at ≡ l.at) × (x.result ≡ behind l.written)
+passed-end : (o : Option Listed) (x : Cursor) → ended_of o ≡ Some x → (l : Listed) × (o ≡ some l) × (x.at ≡ l.at) × (x.result ≡ behind l.written)
 unfolding ended_of
 passed-end none x e = let z : ◌≡◌ {A = ℕ} 0 1 = cc in absurd (omega arith)
 passed-end (some l) x e = go (leb (behind l.written) word_limit) e
   where
-    go : (b : Bool) → cond b (Passed (record { at = l.at; result = behind l.written })) Refused ≡ Passed x
+    go : (b : Bool) → cond b (Some (record { at = l.at; result = behind l.written })) None ≡ Some x
         → (l' : Listed) × (some l ≡ some l') × (x.at ≡ l'.at) × (x.result ≡ behind l'.written)
     go true e =
         let q : record { at = l.at; result = behind l.written } ≡ x = cc in
         (l, refl, sym (ap (λ (y : Cursor). y.at) q), sym (ap (λ (y : Cursor). y.result) q))
     go false e = let z : ◌≡◌ {A = ℕ} 0 1 = cc in absurd (omega arith)
 
-refused_end : (o : Option Listed) → ended_of o ≡ Refused → (o ≡ none) ⊎ ((l : Listed) × (o ≡ some l) × (word_limit < behind l.written))
+refused_end : (o : Option Listed) → ended_of o ≡ None → (o ≡ none) ⊎ ((l : Listed) × (o ≡ some l) × (word_limit < behind l.written))
 unfolding ended_of
 refused_end none e = inl refl
 refused_end (some l) e = go (leb (behind l.written) word_limit) refl e
   where
-    go : (b : Bool) → leb (behind l.written) word_limit ≡ b → cond b (Passed (record { at = l.at; result = behind l.written })) Refused ≡ Refused
+    go : (b : Bool) → leb (behind l.written) word_limit ≡ b → cond {A = Progress} b (Some (record { at = l.at; result = behind l.written })) None ≡ None
         → (some l ≡ none) ⊎ ((l' : Listed) × (some l ≡ some l') × (word_limit < behind l'.written))
     go true q e = let z : ◌≡◌ {A = ℕ} 0 1 = cc in absurd (omega arith)
     go false q e = inr (l, refl, leb-false _ _ q)
@@ -87,9 +88,13 @@ pub on-check : {b : Bool} (o : Option BoardList) → b ≡ true → checked_of (
 unfolding guard
 on-check o e = rw e
 
-pub off-check : {b : Bool} (o : Option BoardList) → b ≡ false → checked_of (guard b o) ≡ Malformed
+pub off-check : {b : Bool} (o : Option BoardList) → b ≡ false → checked_of (guard b o) ≡ None
 unfolding guard checked_of
 off-check o e = rw e
+
+pub some_by : (b : Bool) (c : Counts) → then_some b c ≡ cond {A = Checked} b (Some c) None
+some_by true c = refl
+some_by false c = refl
 
 -- ---- the list
 
@@ -106,7 +111,7 @@ module _ (b : Bool) {s : List ℕ} {c : Counts} {marks : List Bool} (h : Listabl
   abbrev all : Option Listed
   all = read_instructions v c.instructions s 12 (argument_words c.arguments)
 
-  pub no-list : ended_of all ≡ Refused → Malformed ≡ checked_of (list_of v s c)
+  pub no-list : ended_of all ≡ None → None ≡ checked_of (list_of v s c)
   unfolding then checked_of
   no-list e = ⊎_elim
       (λ q. rw q)
@@ -115,7 +120,7 @@ module _ (b : Bool) {s : List ℕ} {c : Counts} {marks : List Bool} (h : Listabl
       rw q (sym (off-check _ (ne_eqb (behind l.written) c.words (λ z. absurd (omega arith))))))
       (refused_end all e)
 
-  module _ {after : List Bool} {x : Cursor} (e : Ended b all after (Passed x)) where
+  module _ {after : List Bool} {x : Cursor} (e : Ended b all after (Some x)) where
     found : (l : Listed) × (all ≡ some l) × (x.at ≡ l.at) × (x.result ≡ behind l.written)
     found = passed-end all x (sym e.answer)
 
@@ -141,14 +146,14 @@ module _ (b : Bool) {s : List ℕ} {c : Counts} {marks : List Bool} (h : Listabl
     unfolding then
     listed = rw is-list
 
-    pub other-words : (x.result ≡ c.words → ⊥) → Malformed ≡ checked_of (list_of v s c)
+    pub other-words : (x.result ≡ c.words → ⊥) → None ≡ checked_of (list_of v s c)
     other-words d = sym (listed ∙ off-check _ (ne_eqb (behind the-list.written) c.words (λ q. d (words-is ∙ q))))
 
     module _ (same : x.result ≡ c.words) where
       counted : eqb (behind the-list.written) c.words ≡ true
       counted = eq-eqb (behind the-list.written) c.words (sym words-is ∙ same)
 
-      pub other_length : (x.at + 2 * c.outputs ≡ length s → ⊥) → Malformed ≡ checked_of (list_of v s c)
+      pub other_length : (x.at + 2 * c.outputs ≡ length s → ⊥) → None ≡ checked_of (list_of v s c)
       other_length d =
           sym (listed ∙ on-check _ counted ∙ off-check _ (ne_eqb (the-list.at + 2 * c.outputs) (length s) (λ q. d (ap (λ (a : ℕ). a + 2 * c.outputs) at-is ∙ q))))
 
@@ -164,17 +169,34 @@ module _ (b : Bool) {s : List ℕ} {c : Counts} {marks : List Bool} (h : Listabl
             outputs-are b the-list.written after (e.recorded x refl the-list.written (written_is all the-list is-list)) c.words (sym words-is ∙ same) (addresses c.outputs s the-list.at)
             ∙ ap (λ (a : ℕ). cond b (every (marked after) (addresses c.outputs s a)) (all_less c.words (addresses c.outputs s a))) (sym at-is)
 
-        pub bad-output : outputs_pass ≡ false → Malformed ≡ checked_of (list_of v s c)
+        pub bad-output : outputs_pass ≡ false → None ≡ checked_of (list_of v s c)
         bad-output d = sym (listed ∙ on-check _ counted ∙ on-check _ ended-there ∙ off-check _ (outputs-is ∙ d))
 
-        pub formed : outputs_pass ≡ true → Formed c ≡ checked_of (list_of v s c)
+        pub formed : outputs_pass ≡ true → Some c ≡ checked_of (list_of v s c)
         unfolding checked_of
         formed d =
             let n : length (addresses c.outputs s the-list.at) ≡ c.outputs = addresses-length c.outputs s the-list.at in
             let m : length the-list.instructions ≡ c.instructions = count-is v c.instructions s 12 (argument_words c.arguments) the-list is-list in
-            ap (λ (o : ℕ). Formed (record { arguments = c.arguments; outputs = o; instructions = c.instructions; words = c.words })) (sym n)
-            ∙ ap (λ (i : ℕ). Formed (record { arguments = c.arguments; outputs = length (addresses c.outputs s the-list.at); instructions = i; words = c.words })) (sym m)
+            ap (λ (o : ℕ). Some (record { arguments = c.arguments; outputs = o; instructions = c.instructions; words = c.words })) (sym n)
+            ∙ ap (λ (i : ℕ). Some (record { arguments = c.arguments; outputs = length (addresses c.outputs s the-list.at); instructions = i; words = c.words })) (sym m)
             ∙ sym (listed ∙ on-check _ counted ∙ on-check _ ended-there ∙ on-check _ (outputs-is ∙ d))
+
+    -- by what stands behind the instructions
+    pub by-behind : {r : Checked} → r ≡ cond (behind_good b s c x after) (Some c) None → r ≡ checked_of (list_of v s c)
+    by-behind {r} d =
+        go (eqb x.result c.words) refl (eqb (x.at + 2 * c.outputs) (length s)) refl
+        (cond b (every (marked after) (addresses c.outputs s x.at)) (all_less c.words (addresses c.outputs s x.at))) refl
+      where
+        given : {p : Bool} → behind_good b s c x after ≡ p → r ≡ cond {A = Checked} p (Some c) None
+        given q = d ∙ ap (λ (y : Bool). cond {A = Checked} y (Some c) None) q
+
+        go : (p : Bool) → eqb x.result c.words ≡ p → (q : Bool) → eqb (x.at + 2 * c.outputs) (length s) ≡ q
+            → (y : Bool) → cond b (every (marked after) (addresses c.outputs s x.at)) (all_less c.words (addresses c.outputs s x.at)) ≡ y
+            → r ≡ checked_of (list_of v s c)
+        go false i q j y k = given {p = false} (rw i refl) ∙ other-words (eqb-false _ _ i)
+        go true i false j y k = given {p = false} (rw (i, j) refl) ∙ other_length (eqb-true _ _ i) (eqb-false _ _ j)
+        go true i true j false k = given {p = false} (rw (i, j, k) refl) ∙ bad-output (eqb-true _ _ i) (eqb-true _ _ j) k
+        go true i true j true k = given {p = true} (rw (i, j, k) refl) ∙ formed (eqb-true _ _ i) (eqb-true _ _ j) k
 
 -- with the marks of the arguments
 pub with-marks : {s : List ℕ} {c : Counts} {marks : List Bool} → Listable false s c [] → Extended 0 c.arguments (replicate word_limit false) marks → Listable true s c marks
@@ -200,12 +222,20 @@ listable s c l e =
 -- ---- the code
 
 module _ (s : List ℕ) where
-  pub no_header : length s < 12 → Malformed ≡ checked_of (decode s)
+  pub no_header : length s < 12 → None ≡ checked_of (decode s)
   unfolding decode
   no_header h = sym (off-check _ (lt-leb 12 (length s) h))
 
+  pub not-headed : leb 12 (length s) && code_marked s ≡ false → None ≡ checked_of (decode s)
+  unfolding decode
+  not-headed e = sym (⊎_elim (λ h. off-check _ h) (λ h. go (leb 12 (length s)) refl h) (and-inv-false (leb 12 (length s)) (code_marked s) e))
+    where
+      go : (p : Bool) → leb 12 (length s) ≡ p → code_marked s ≡ false → checked_of (decode s) ≡ None
+      go false q h = off-check _ q
+      go true q h = on-check _ q ∙ off-check _ h
+
   module _ (long : 12 ≤ length s) where
-    pub no-mark : code_marked s ≡ false → Malformed ≡ checked_of (decode s)
+    pub no-mark : code_marked s ≡ false → None ≡ checked_of (decode s)
     unfolding decode
     no-mark e = sym (on-check _ (le-leb 12 (length s) long) ∙ off-check _ e)
 
@@ -217,11 +247,11 @@ module _ (s : List ℕ) where
       unfolding decode
       read = on-check _ (le-leb 12 (length s) long) ∙ on-check _ mark
 
-      pub over-limits : counts_fit (byte s 5) (byte s 6) (u16 s 8) (u16 s 10) ≡ false → Malformed ≡ checked_of (decode s)
+      pub over-limits : counts_fit (byte s 5) (byte s 6) (u16 s 8) (u16 s 10) ≡ false → None ≡ checked_of (decode s)
       unfolding then checked_of
       over-limits e = sym (read ∙ go (version_of (u16 s 3)))
         where
-          go : (o : Option Version) → checked_of (then o in_version) ≡ Malformed
+          go : (o : Option Version) → checked_of (then o in_version) ≡ None
           go none = refl
           go (some v) = off-check _ e
 
@@ -230,6 +260,6 @@ module _ (s : List ℕ) where
         unfolding then
         by-version v e = sym (read ∙ ap (λ (o : Option Version). checked_of (then o in_version)) (ap version_of e ∙ version-number v) ∙ on-check _ limits)
 
-      pub no-version : (u16 s 3 ≡ 1 → ⊥) → (u16 s 3 ≡ 2 → ⊥) → Malformed ≡ checked_of (decode s)
+      pub no-version : (u16 s 3 ≡ 1 → ⊥) → (u16 s 3 ≡ 2 → ⊥) → None ≡ checked_of (decode s)
       unfolding then checked_of
       no-version a b = sym (read ∙ rw (ne_eqb (u16 s 3) 1 a, ne_eqb (u16 s 3) 2 b) refl)

@@ -1,39 +1,36 @@
 -- The check of a code: its counts, or that it is not well formed.
-use Rattle.std.specs.Prelude.{ℕ, ◌+◌, ◌*◌, ◌^◌, ◌≤◌, ◌<◌, max, ◌≡◌, Bool, true, false, ◌&&◌, ◌||◌, cond, List, [], ◌∷◌, ◌↔◌, leb, ltb, length, get_or}
+use Rattle.std.specs.Prelude.{Some, None, ℕ, ◌+◌, ◌*◌, ◌≤◌, ◌<◌, max, ◌≡◌, Bool, true, false, ◌&&◌, ◌||◌, cond, List, [], ◌∷◌, ◌↔◌, leb, ltb, eqb, length, get_or}
 use Rattle.std.proofs.Math.Option.{Option, none, some}
 use Rattle.ports.specs.declared.Ports.{Ports}
 use Rattle.ports.specs.Kinds.{kind_of}
-use Rattle.ports.specs.Ports.{width, ports_of, types, takes, takes_row, arity, constant_in, constant_words, result_words, executable, type_fits, legal_instruction}
+use Rattle.ports.specs.Ports.{width, ports_of, own, types, takes_row, constant_in, result_words, executable, type_fits}
 use Rattle.base.specs.Bytes.{byte, u16, constants}
-use Rattle.base.specs.Lists.{every}
+use Rattle.base.specs.Lists.{every, span}
 use Rattle.base.specs.Limits.{port_word_limit, word_limit, header_length}
 use Rattle.value.specs.Values.{constant_word}
-use Rattle.bytecode.specs.Run.{BoardList, spans}
+use Rattle.bytecode.specs.Run.{BoardList}
 use Rattle.bytecode.specs.Ranges.{Range, inside, behind}
 use Rattle.bytecode.specs.declared.Version.{Version}
 use Rattle.bytecode.specs.declared.Version.TheVariants.{V2}
-use Rattle.bytecode.specs.Code.{then, addresses, readable, argument_words, Listed, read_instructions, read_outputs}
+use Rattle.bytecode.specs.Code.{then, addresses, readable, result_bytes, argument_words, Listed, read_instructions, read_outputs}
 use Rattle.bytecode.specs.WellFormed.{Codes}
-use Rattle.executor.specs.Execution.{end_of, words_given}
+use Rattle.executor.specs.Instructions.{version_by}
 use Rattle.runner.specs.declared.Counts.{Counts}
-use Rattle.runner.specs.declared.Checked.{Checked}
-use Rattle.runner.specs.declared.Checked.TheVariants.{Formed, Malformed}
+use Rattle.runner.specs.Answers.{Checked, Progress}
 use Rattle.runner.specs.declared.Cursor.{Cursor}
-use Rattle.runner.specs.declared.Progress.{Progress}
-use Rattle.runner.specs.declared.Progress.TheVariants.{Passed, Refused}
 
 -- the counts of a board list
 abbrev pub counts_of : BoardList → Counts
 counts_of b = record { arguments = b.arguments; outputs = length b.outputs; instructions = length b.instructions; words = b.words }
 
 unfoldable pub checked_of : Option BoardList → Checked
-checked_of none = Malformed
-checked_of (some b) = Formed (counts_of b)
+checked_of none = None
+checked_of (some b) = Some (counts_of b)
 
 -- well formed, by the lists that have a code and not by the reading: in no version the code of a list, or in one the code of a list with these counts
 pub record Exactly (s : List ℕ) (r : Checked) : Type 0 where
-  pub malformed : (r ≡ Malformed) ↔ ((v : Version) (b : BoardList) → Codes v s b → ⊥)
-  pub formed : (c : Counts) → (r ≡ Formed c) ↔ ((v : Version) × (b : BoardList) × Codes v s b × (counts_of b ≡ c))
+  pub malformed : (r ≡ None) ↔ ((v : Version) (b : BoardList) → Codes v s b → ⊥)
+  pub formed : (c : Counts) → (r ≡ Some c) ↔ ((v : Version) × (b : BoardList) × Codes v s b × (counts_of b ≡ c))
 
 -- the counts that a header says
 abbrev pub header_counts : List ℕ → Counts
@@ -56,38 +53,6 @@ abbrev pub all_less : ℕ → List ℕ → Bool
 all_less n [] = true
 all_less n (a ∷ xs) = ltb a n && all_less n xs
 
--- what follows bytes that end within the code and are as they should be
-unfoldable pub followed : List ℕ → (end : ℕ) → Bool → (next : ℕ) → Progress
-followed s end good next = cond (leb end (length s) && good) (Passed (record { at = end; result = next })) Refused
-
--- operands of these types, their words all before `result`
-abbrev pub operands_passed : List ℕ → (at count first rest result next : ℕ) → Progress
-operands_passed s at count first rest result next = followed s (at + 2 * count) (all_below result (types count first rest) (addresses count s at)) next
-
--- the words of a constant
-abbrev pub constant_passed : List ℕ → (at count next : ℕ) → Progress
-constant_passed s at count next = followed s (at + 8 * count) (every constant_word (constants count s at)) next
-
--- an instruction at `at` whose operands stand at `from`, their words all before `result`: the place behind it, and the word behind its result, if that
--- were the next
-unfoldable pub instruction_passed : List ℕ → (at from result : ℕ) → Progress
-instruction_passed s at from result =
-    let k = byte s at in
-    let t = byte s (at + 1) in
-    cond (legal_instruction (kind_of k) t)
-    (followed s (end_of k from)
-    (all_below result (takes (kind_of k) t) (addresses (arity (kind_of k)) s from)
-    && every constant_word (constants (constant_words (kind_of k)) s (from + 2 * arity (kind_of k))))
-    (result + words_given k t))
-    Refused
-
--- its head is there, up to its operands, and the row of its kind
-pub record Begun (s : List ℕ) (at from result : ℕ) (row : Ports) : Type 0 where
-  pub head : at + 2 ≤ from
-  pub bytes : from ≤ length s
-  pub row_is : row ≡ ports_of (kind_of (byte s at))
-  pub result-small : result < 2 ^ 32
-
 -- ---- version 2's record of the words that are written: a mark for each
 
 abbrev pub marked : List Bool → ℕ → Bool
@@ -107,44 +72,88 @@ pub record Extended (first n : ℕ) (marks after : List Bool) : Type 0 where
   pub size : length after ≡ length marks
   pub is : (a : ℕ) → marked after a ≡ inside (record { first = first; width = n }) a || marked marks a
 
--- an instruction of version 2 but for its result, by its kind's row: all that it reads was written
+-- ---- one instruction, of version 2 or of version 1: version 2's carries its result's address
+
 abbrev pub legal_row : Ports → ℕ → Bool
 legal_row row t = executable row.form && type_fits row t
 
-abbrev pub was_written : List ℕ → (at : ℕ) → Ports → (t : ℕ) → List Bool → Bool
-was_written s at row t marks = every (marked marks) (spans (takes_row row t) (addresses row.operands s (at + 2 + 2)))
+-- where its operands stand
+abbrev pub operands_from : Bool → ℕ → ℕ
+operands_from b at = at + 2 + result_bytes (version_by b)
 
-unfoldable pub read_passed : List ℕ → (at : ℕ) → Ports → (t : ℕ) → List Bool → Bool
-read_passed s at row t marks =
-    let n = row.operands in
-    let c = constant_in row.form row.words in
-    let from = at + 2 + 2 in
-    legal_row row t && leb (from + (2 * n + 8 * c)) (length s) && was_written s at row t marks && every constant_word (constants c s (from + 2 * n))
+-- an operand of the type t at the word a: in version 1 its words stand before the next result, in version 2 each was written
+abbrev pub operand_good : Bool → List Bool → (high t a : ℕ) → Bool
+operand_good false marks high t a = leb (a + width t) high
+operand_good true marks high t a = every (marked marks) (span a (width t))
 
--- what follows a result of some words at an address: they are within the record, and are marked
-pub record Stored (first words next high : ℕ) (marks after : List Bool) (r : Progress) : Type 0 where
-  pub answer : r ≡ cond (leb (first + words) (length marks)) (Passed (record { at = next; result = max high (first + words) })) Refused
-  pub extended : (x : Cursor) → r ≡ Passed x → Extended first words marks after
+abbrev pub operands_good : Bool → List Bool → ℕ → List ℕ → List ℕ → Bool
+operands_good b marks high [] xs = true
+operands_good b marks high (t ∷ ts) [] = true
+operands_good b marks high (t ∷ ts) (a ∷ xs) = operand_good b marks high t a && operands_good b marks high ts xs
 
--- what follows an instruction
-unfoldable pub write_passed : List ℕ → (at : ℕ) → Ports → (high : ℕ) → List Bool → Progress
-write_passed s at row high marks =
+-- its operands and its constant from `from` on: the place behind them, and whether they pass
+abbrev pub inputs_end : Ports → ℕ → ℕ
+inputs_end row from = from + (2 * row.operands + 8 * constant_in row.form row.words)
+
+unfoldable pub inputs_good : Bool → List ℕ → (from : ℕ) → Ports → (t high : ℕ) → List Bool → Bool
+inputs_good b s from row t high marks =
+    leb (inputs_end row from) (length s) && operands_good b marks high (takes_row row t) (addresses row.operands s from)
+    && every constant_word (constants (constant_in row.form row.words) s (from + 2 * row.operands))
+
+-- the same of operands of these types and no constant, of two, and of a constant alone
+abbrev pub several_good : Bool → List ℕ → (from count first rest high : ℕ) → List Bool → Bool
+several_good b s from count first rest high marks =
+    leb (from + 2 * count) (length s) && operands_good b marks high (types count first rest) (addresses count s from)
+
+abbrev pub both_good : Bool → List ℕ → (from first second high : ℕ) → List Bool → Bool
+both_good b s from first second high marks =
+    leb (from + 4) (length s) && operand_good b marks high first (u16 s from) && operand_good b marks high second (u16 s (from + 2))
+
+abbrev pub constant_good : List ℕ → (from words : ℕ) → Bool
+constant_good s from words = leb (from + 8 * words) (length s) && every constant_word (constants words s from)
+
+-- the row, the types of the operands and the words of the result of the instruction at `at`, which is legal
+pub record Given (s : List ℕ) (at : ℕ) (row : Ports) (first rest words : ℕ) : Type 0 where
+  pub row_is : row ≡ ports_of (kind_of (byte s at))
+  pub legal : legal_row row (byte s (at + 1)) ≡ true
+  pub first_is : first ≡ own (byte s (at + 1)) row.first
+  pub rest_is : rest ≡ own (byte s (at + 1)) row.rest
+  pub words_is : words ≡ result_words row (byte s (at + 1))
+  pub few : words < 256
+
+-- what follows its result: in version 1 the next words are the result's, in version 2 those at an address, which are within the record, and are marked
+abbrev pub placed : Bool → (first words next high room : ℕ) → Progress
+placed false first words next high room = Some (record { at = next; result = high + words })
+placed true first words next high room = cond (leb (first + words) room) (Some (record { at = next; result = max high (first + words) })) None
+
+abbrev pub Writes : Bool → (first words : ℕ) → (marks after : List Bool) → Type 0
+Writes false first words marks after = Unit {0}
+Writes true first words marks after = Extended first words marks after
+
+pub record Put (b : Bool) (first words next high : ℕ) (marks after : List Bool) (r : Progress) : Type 0 where
+  pub answer : r ≡ placed b first words next high (length marks)
+  pub extended : (x : Cursor) → r ≡ Some x → Writes b first words marks after
+
+-- what follows it, where it passes
+unfoldable pub step : Bool → List ℕ → (at high : ℕ) → List Bool → Progress
+step b s at high marks =
+    let row = ports_of (kind_of (byte s at)) in
     let t = byte s (at + 1) in
-    let end = u16 s (at + 2) + result_words row t in
-    cond (read_passed s at row t marks && leb end (length marks))
-    (Passed (record { at = at + 2 + 2 + 2 * row.operands + 8 * constant_in row.form row.words; result = max high end }))
-    Refused
+    let from = operands_from b at in
+    cond (legal_row row t && inputs_good b s from row t high marks)
+    (placed b (u16 s (at + 2)) (result_words row t) (inputs_end row from) high (length marks))
+    None
 
-pub record Wrote (s : List ℕ) (at : ℕ) (row : Ports) (high : ℕ) (marks after : List Bool) (r : Progress) : Type 0 where
-  pub answer : r ≡ write_passed s at row high marks
-  pub extended : (x : Cursor) → r ≡ Passed x → Extended (u16 s (at + 2)) (result_words row (byte s (at + 1))) marks after
+pub record Stepped (b : Bool) (s : List ℕ) (at high : ℕ) (marks after : List Bool) (r : Progress) : Type 0 where
+  pub answer : r ≡ step b s at high marks
+  pub extended : (x : Cursor) → r ≡ Some x → Writes b (u16 s (at + 2)) (result_words (ports_of (kind_of (byte s at))) (byte s (at + 1))) marks after
 
 -- ---- all instructions
 
 -- what stands behind them: no code has more words than the limit
 unfoldable pub ended_of : Option Listed → Progress
-ended_of none = Refused
-ended_of (some l) = cond (leb (behind l.written) word_limit) (Passed (record { at = l.at; result = behind l.written })) Refused
+ended_of none = None
+ended_of (some l) = cond (leb (behind l.written) word_limit) (Some (record { at = l.at; result = behind l.written })) None
 
 unfoldable pub written_of : Option Listed → Option (List Range)
 written_of none = none
@@ -158,9 +167,15 @@ pub record Checkable (b : Bool) (s : List ℕ) (count first : ℕ) (marks : List
 
 pub record Ended (b : Bool) (o : Option Listed) (marks : List Bool) (r : Progress) : Type 0 where
   pub answer : r ≡ ended_of o
-  pub recorded : (x : Cursor) → r ≡ Passed x → (written : List Range) → written_of o ≡ some written → Recorded b written marks
+  pub recorded : (x : Cursor) → r ≡ Some x → (written : List Range) → written_of o ≡ some written → Recorded b written marks
 
 -- ---- the list behind the header
+
+-- what stands behind its instructions
+abbrev pub behind_good : Bool → List ℕ → Counts → Cursor → List Bool → Bool
+behind_good b s c next marks =
+    eqb next.result c.words && eqb (next.at + 2 * c.outputs) (length s)
+    && cond b (every (marked marks) (addresses c.outputs s next.at)) (all_less c.words (addresses c.outputs s next.at))
 
 pub record Listable (b : Bool) (s : List ℕ) (c : Counts) (marks : List Bool) : Type 0 where
   pub long : header_length ≤ length s

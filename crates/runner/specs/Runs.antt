@@ -1,26 +1,24 @@
 -- What a run answers, and the buffers after it.
-use Rattle.std.specs.Prelude.{ℕ, ◌+◌, ◌*◌, ◌≤◌, ◌<◌, ◌≡◌, List, true, ◌↔◌, length}
+use Rattle.std.specs.Prelude.{Some, ℕ, ◌+◌, ◌*◌, ◌≤◌, ◌<◌, ◌≡◌, List, true, ◌↔◌, length}
 use Rattle.std.proofs.Math.Option.{Option, none, some}
 use Rattle.std.proofs.lemmas.List.Edits.{sets}
 use Rattle.value.specs.Values.{argument_word}
 use Rattle.base.specs.Lists.{every, Each}
 use Rattle.base.specs.Outcome.{Outcome, ok, fault}
+use Rattle.base.specs.Refusals.{mapped}
 use Rattle.bytecode.specs.Run.{BoardList, run}
 use Rattle.bytecode.specs.declared.Version.{Version}
 use Rattle.bytecode.specs.Code.{addresses, decode}
 use Rattle.bytecode.specs.WellFormed.{Codes}
 use Rattle.bytecode.specs.Answers.{Buffers}
 use Rattle.runner.specs.declared.Counts.{Counts}
-use Rattle.runner.specs.declared.Checked.TheVariants.{Formed}
-use Rattle.runner.specs.declared.Ran.{Ran}
-use Rattle.runner.specs.declared.Ran.TheVariants.{Done, Refused}
 use Rattle.runner.specs.Checks.{checked_of}
 
 -- ---- a run with its refusals
 
-unfoldable pub answer_of : Outcome Buffers → Ran
-answer_of (ok b) = Done b.count
-answer_of (fault n p) = Refused n p
+-- the count of output words
+abbrev pub answer_of : Outcome Buffers → Outcome ℕ
+answer_of = mapped (λ b. b.count)
 
 -- a refusal leaves both buffers as they were
 
@@ -32,20 +30,20 @@ unfoldable pub out_after : Outcome Buffers → List ℕ → List ℕ
 out_after (ok b) out = b.out
 out_after (fault n p) out = out
 
-pub record Answered (g : Outcome Buffers) (work out work' out' : List ℕ) (r : Ran) : Type 0 where
+pub record Answered (g : Outcome Buffers) (work out work' out' : List ℕ) (r : Outcome ℕ) : Type 0 where
   pub answer : r ≡ answer_of g
   pub work-after : work' ≡ work_after g work
   pub out-after : out' ≡ out_after g out
 
 -- 18 exactly when the bytes are in no version the code of a list
-abbrev pub Refused18 : List ℕ → Ran → Type 0
-Refused18 s r = (r ≡ Refused 18 0) ↔ ((v : Version) (b : BoardList) → Codes v s b → ⊥)
+abbrev pub Refused18 : List ℕ → Outcome ℕ → Type 0
+Refused18 s r = (r ≡ fault 18 0) ↔ ((v : Version) (b : BoardList) → Codes v s b → ⊥)
 
 -- ---- a run of a code that was checked
 
 -- with these counts, on these arguments and buffers of these lengths
 pub record Runnable (s : List ℕ) (c : Counts) (arguments : List ℕ) (work out : ℕ) : Type 0 where
-  pub formed : checked_of (decode s) ≡ Formed c
+  pub formed : checked_of (decode s) ≡ Some c
   pub arguments-all : length arguments ≡ c.arguments
   pub allowed : every argument_word arguments ≡ true
   pub work-room : c.words ≤ work

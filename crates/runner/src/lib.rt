@@ -1,21 +1,22 @@
 // The runner of board lists: the check of a code, and the run of a code that was checked.
 #![tactic(auto)]
 
-ghost use Rattle.std.specs.Prelude.{◌≡◌, true, false, cond, [], map, ◌+◌, ◌*◌, ◌≤◌, eqb, length};
+ghost use Rattle.std.specs.Prelude.{◌≡◌, true, false, cond, [], map, ◌&&◌, leb, ◌+◌, ◌*◌, ◌≤◌, eqb, length};
 ghost use Rattle.std.proofs.lemmas.List.Edits.{sets};
 ghost use Rattle.base.specs.Limits.{header_length};
 ghost use Rattle.base.specs.Bytes.{u16};
 ghost use Rattle.base.specs.Lists.{word_at, every};
+ghost use Rattle.base.specs.Refusals.{outcome};
 ghost use Rattle.value.specs.Values.{argument_word};
 ghost use Rattle.bytecode.specs.Code as Code;
 ghost use Rattle.bytecode.specs.declared.Version.TheVariants.{V1, V2};
 ghost use Rattle.bytecode.specs.Code.{addresses, argument_words, read_instructions, counts_fit, decode};
 ghost use Rattle.bytecode.specs.Answers.{ran};
 ghost use Rattle.executor.specs.Instructions.{version_by};
-ghost use Rattle.runner.specs.Checks.{all_less, marked, Checkable, Ended, Listable, list_of, checked_of, Exactly, header_counts};
+ghost use Rattle.runner.specs.Checks.{all_less, marked, behind_good, Checkable, Ended, Listable, list_of, checked_of, Exactly, header_counts};
 ghost use Rattle.runner.specs.Runs.{Answered, Refused18, Runnable, OutputsReady, memory_of, outputs_of};
 
-use base::{HEADER_LENGTH, WORD_LIMIT};
+use base::{Fault, HEADER_LENGTH, Refusal, WORD_LIMIT};
 
 mod row;
 mod written;
@@ -29,32 +30,11 @@ pub struct Counts {
     pub words: usize,
 }
 
-// A code that is well formed has these counts.
-#[derive(Clone, Copy)]
-pub enum Checked {
-    Formed(Counts),
-    Malformed,
-}
-
-// The answer of a run: the count of output words, or the number of a refusal and its place.
-#[derive(Clone, Copy)]
-pub enum Ran {
-    Done(usize),
-    Refused(u8, usize),
-}
-
 // Where the next instruction stands, and the word behind all results so far: in version 1 its result goes there.
 #[derive(Clone, Copy)]
 pub struct Cursor {
     pub at: usize,
     pub result: usize,
-}
-
-// What follows the instructions that passed.
-#[derive(Clone, Copy)]
-pub enum Progress {
-    Passed(Cursor),
-    Refused,
 }
 
 // ---- the check of a code
@@ -63,192 +43,113 @@ fn outputs_less(s: &[u8], from: usize, count: usize, words: usize) -> bool
     requires { from + 2 * count ≤ length s.now }
     ensures { result ≡ all_less words (addresses count s.now from) }
 {
-    let mut at = from;
-    let mut left = count;
-    while 0 < left {
-        if words <= base::u16_at(s, at) {
-            return false;
-        }
-        at += 2;
-        left -= 1;
-    }
-    true
+    (0..count).all(|i| base::u16_at(s, from + 2 * i) < words)
 }
 
-// The instructions of version 1, from behind the header and the word `first` on: what stands behind them.
-fn check_sequence(s: &[u8], count: usize, first: usize) -> Progress
-    requires { Checkable false s.now count first [] }
-    ensures { Ended false (read_instructions V1 count s.now header_length (argument_words first)) [] result }
-{
-    let rows = ports::PORTS;
-    let mut at = HEADER_LENGTH;
-    let mut result = first;
-    let mut left = count;
-    while 0 < left {
-        if s.len() - at < 2 {
-            return Progress::Refused;
-        }
-        let k = base::byte_at(s, at);
-        if rows.len() <= k {
-            return Progress::Refused;
-        }
-        let row = rows[k];
-        let Progress::Passed(next) = row::check_instruction(s, at, at + 2, result, row) else {
-            return Progress::Refused;
-        };
-        at = next.at;
-        result = next.result;
-        left -= 1;
-    }
-    if WORD_LIMIT < result {
-        return Progress::Refused;
-    }
-    Progress::Passed(Cursor { at, result })
-}
-
-// Those of version 2, with the marks of the arguments.
-fn check_writes(s: &[u8], count: usize, first: usize, marks: &mut [bool]) -> Progress
-    requires { Checkable true s.now count first marks.old }
-    ensures { Ended true (read_instructions V2 count s.now header_length (argument_words first)) marks.new result }
-{
-    let rows = ports::PORTS;
-    let mut at = HEADER_LENGTH;
-    let mut high = first;
-    let mut left = count;
-    while 0 < left {
-        if s.len() - at < 2 + 2 {
-            return Progress::Refused;
-        }
-        let k = base::byte_at(s, at);
-        if rows.len() <= k {
-            return Progress::Refused;
-        }
-        let row = rows[k];
-        let Progress::Passed(next) = written::check_written(s, at, row, high, marks) else {
-            return Progress::Refused;
-        };
-        at = next.at;
-        high = next.result;
-        left -= 1;
-    }
-    if WORD_LIMIT < high {
-        return Progress::Refused;
-    }
-    Progress::Passed(Cursor { at, result: high })
-}
-
-fn check_instructions(
+// The instructions, from behind the header and the word `first` on: what stands behind them. Those of version 2 carry the
+// addresses of their results, and mark the words there. The table of rows stands outside the loop: it is built where it is named.
+fn check_instructions<const ADDRESSED: bool>(
     s: &[u8],
-    addressed: bool,
     count: usize,
     first: usize,
     marks: &mut [bool],
-) -> Progress
-    requires { Checkable addressed s.now count first marks.old }
-    ensures { Ended addressed (read_instructions (version_by addressed) count s.now header_length (argument_words first)) marks.new result }
+) -> Option<Cursor>
+    requires { Checkable ADDRESSED s.now count first marks.old }
+    ensures { Ended ADDRESSED (read_instructions (version_by ADDRESSED) count s.now header_length (argument_words first)) marks.new result }
 {
-    if addressed {
-        check_writes(s, count, first, marks)
-    } else {
-        check_sequence(s, count, first)
+    let rows = ports::PORTS;
+    let mut cursor = Cursor {
+        at: HEADER_LENGTH,
+        result: first,
+    };
+    for _ in 0..count {
+        if s.len() < row::operands_from::<ADDRESSED>(cursor.at) {
+            return None;
+        }
+        let kind = usize::from(s[cursor.at]);
+        if rows.len() <= kind {
+            return None;
+        }
+        cursor = row::check_instruction::<ADDRESSED>(s, cursor, rows[kind], marks)?;
     }
+    if WORD_LIMIT < cursor.result {
+        return None;
+    }
+    Some(cursor)
 }
 
 // Outputs of words that are written.
-fn outputs_readable(
+fn outputs_readable<const ADDRESSED: bool>(
     s: &[u8],
-    addressed: bool,
     from: usize,
     count: usize,
     words: usize,
     marks: &[bool],
 ) -> bool
     requires { from + 2 * count ≤ length s.now }
-    ensures { result ≡ cond addressed (every (marked marks.now) (addresses count s.now from)) (all_less words (addresses count s.now from)) }
+    ensures { result ≡ cond ADDRESSED (every (marked marks.now) (addresses count s.now from)) (all_less words (addresses count s.now from)) }
 {
-    if addressed {
+    if ADDRESSED {
         written::outputs_written(s, from, count, marks)
     } else {
         outputs_less(s, from, count, words)
     }
 }
 
-// The list behind the header.
-fn check_list(s: &[u8], addressed: bool, counts: Counts, marks: &mut [bool]) -> Checked
-    requires { Listable addressed s.now counts marks.old }
-    ensures { result ≡ checked_of (list_of (version_by addressed) s.now counts) }
+// What stands behind the instructions: the list has as many words as it says, and then its outputs follow, and nothing else.
+fn is_ended<const ADDRESSED: bool>(s: &[u8], counts: Counts, next: Cursor, marks: &[bool]) -> bool
+    requires { (next.at ≤ length s.now) × (counts.outputs ≤ 255) }
+    ensures { result ≡ behind_good ADDRESSED s.now counts next marks.now }
 {
-    let Progress::Passed(next) = check_instructions(
-        s,
-        addressed,
-        counts.instructions,
-        counts.arguments,
-        marks,
-    ) else {
-        return Checked::Malformed;
-    };
-    let at = next.at;
-    if next.result != counts.words {
-        return Checked::Malformed;
-    }
-    if s.len() - at != 2 * counts.outputs {
-        return Checked::Malformed;
-    }
-    if !outputs_readable(s, addressed, at, counts.outputs, counts.words, marks) {
-        return Checked::Malformed;
-    }
-    Checked::Formed(counts)
+    next.result == counts.words
+        && s.len() - next.at == 2 * counts.outputs
+        && outputs_readable::<ADDRESSED>(s, next.at, counts.outputs, counts.words, marks)
+}
+
+// The list behind the header.
+fn check_list<const ADDRESSED: bool>(s: &[u8], counts: Counts, marks: &mut [bool]) -> Option<Counts>
+    requires { Listable ADDRESSED s.now counts marks.old }
+    ensures { result ≡ checked_of (list_of (version_by ADDRESSED) s.now counts) }
+{
+    let next = check_instructions::<ADDRESSED>(s, counts.instructions, counts.arguments, marks)?;
+    is_ended::<ADDRESSED>(s, counts, next, marks).then_some(counts)
 }
 
 // Version 1 keeps no marks.
-fn check_sequential(s: &[u8], counts: Counts) -> Checked
+fn check_sequential(s: &[u8], counts: Counts) -> Option<Counts>
     requires { Listable false s.now counts [] }
     ensures { result ≡ checked_of (list_of V1 s.now counts) }
 {
     let mut marks = [false; 0];
-    check_list(s, false, counts, &mut marks)
+    check_list::<false>(s, counts, &mut marks)
 }
 
 // Version 2, with a mark for each word: the arguments are written first.
-fn check_addressed(s: &[u8], counts: Counts) -> Checked
+fn check_addressed(s: &[u8], counts: Counts) -> Option<Counts>
     requires { Listable false s.now counts [] }
     ensures { result ≡ checked_of (list_of V2 s.now counts) }
 {
     let mut marks = [false; WORD_LIMIT];
     written::mark_words(&mut marks, 0, counts.arguments);
-    check_list(s, true, counts, &mut marks)
+    check_list::<true>(s, counts, &mut marks)
 }
 
-// Mark and zero byte.
-fn marked(s: &[u8]) -> bool
-    requires { header_length ≤ length s.now }
-    ensures { result ≡ Code.code_marked s.now }
+// A header, with its mark and its zero byte.
+fn is_headed(s: &[u8]) -> bool
+    ensures { result ≡ leb header_length (length s.now) && Code.code_marked s.now }
 {
-    if s[0] != 0x49 {
-        return false;
-    }
-    if s[1] != 0x46 {
-        return false;
-    }
-    if s[2] != 0x52 {
-        return false;
-    }
-    s[7] == 0
+    HEADER_LENGTH <= s.len() && s[0] == 0x49 && s[1] == 0x46 && s[2] == 0x52 && s[7] == 0
 }
 
 fn header_counts(s: &[u8]) -> Counts
     requires { header_length ≤ length s.now }
     ensures { (result ≡ header_counts s.now) × (result.arguments ≤ 255) × (result.outputs ≤ 255) × (result.instructions ≤ 65535) }
 {
-    let arguments = base::byte_at(s, 5);
-    let outputs = base::byte_at(s, 6);
-    let instructions = base::u16_at(s, 8);
-    let words = base::u16_at(s, 10);
     Counts {
-        arguments,
-        outputs,
-        instructions,
-        words,
+        arguments: usize::from(s[5]),
+        outputs: usize::from(s[6]),
+        instructions: base::u16_at(s, 8),
+        words: base::u16_at(s, 10),
     }
 }
 
@@ -257,69 +158,45 @@ fn header_counts(s: &[u8]) -> Counts
 fn counts_fit(c: Counts) -> bool
     ensures { result ≡ counts_fit c.arguments c.outputs c.instructions c.words }
 {
-    if base::PORT_WORD_LIMIT < c.arguments {
-        return false;
-    }
-    if c.outputs < 1 {
-        return false;
-    }
-    if base::PORT_WORD_LIMIT < c.outputs {
-        return false;
-    }
-    if base::OPERATION_LIMIT < c.instructions {
-        return false;
-    }
-    c.words <= base::WORD_LIMIT
+    c.arguments <= base::PORT_WORD_LIMIT
+        && 1 <= c.outputs
+        && c.outputs <= base::PORT_WORD_LIMIT
+        && c.instructions <= base::OPERATION_LIMIT
+        && c.words <= base::WORD_LIMIT
 }
 
 // Whether a code is well formed, and its counts.
-pub fn check_code(s: &[u8]) -> Checked
+pub fn check_code(s: &[u8]) -> Option<Counts>
     ensures value { result ≡ checked_of (decode s.now) }
     ensures exactly { Exactly s.now result }
 {
-    if s.len() < HEADER_LENGTH {
-        return Checked::Malformed;
-    }
-    if !marked(s) {
-        return Checked::Malformed;
+    if !is_headed(s) {
+        return None;
     }
     let counts = header_counts(s);
     if !counts_fit(counts) {
-        return Checked::Malformed;
+        return None;
     }
-    let version = base::u16_at(s, 3);
-    if version == 1 {
-        return check_sequential(s, counts);
+    // The version is no part of `Counts`, which are in clauses of callers; it is one load where it is asked.
+    match base::u16_at(s, 3) {
+        1 => check_sequential(s, counts),
+        2 => check_addressed(s, counts),
+        _ => None,
     }
-    if version == 2 {
-        return check_addressed(s, counts);
-    }
-    Checked::Malformed
 }
 
 // Whether every argument is finite.
 pub fn arguments_allowed(xs: &[u64]) -> bool
     ensures { result ≡ every argument_word xs.now }
 {
-    let mut i = 0;
-    while i < xs.len() {
-        if !value::argument_word(xs[i]) {
-            return false;
-        }
-        i += 1;
-    }
-    true
+    xs.iter().all(|w| value::argument_word(*w))
 }
 
 fn copy(from: &[u64], to: &mut [u64])
     requires { length from.now ≤ length to.old }
     ensures { to.new ≡ sets to.old 0 from.now }
 {
-    let mut i = 0;
-    while i < from.len() {
-        to[i] = from[i];
-        i += 1;
-    }
+    to[..from.len()].copy_from_slice(from);
 }
 
 // The words at `count` addresses, which stand at the byte `from`.
@@ -327,11 +204,8 @@ fn copy_outputs(s: &[u8], from: usize, count: usize, work: &[u64], out: &mut [u6
     requires { OutputsReady s.now from count (length work.now) (length out.old) }
     ensures { out.new ≡ sets out.old 0 (map (word_at work.now) (addresses count s.now from)) }
 {
-    let mut i = 0;
-    while i < count {
-        let a = base::u16_at(s, from + 2 * i);
-        out[i] = work[a];
-        i += 1;
+    for i in 0..count {
+        out[i] = work[base::u16_at(s, from + 2 * i)];
     }
 }
 
@@ -363,25 +237,30 @@ pub fn run_checked(
 }
 
 // Runs a code on arguments: 18, 19, 20 and 21 are judged before any word is written.
-pub fn run(code: &[u8], arguments: &[u64], work: &mut [u64], out: &mut [u64]) -> Ran
-    ensures answered { Answered (ran code.now arguments.now work.old out.old) work.old out.old work.new out.new result }
-    ensures refused18 { Refused18 code.now result }
+pub fn run(
+    code: &[u8],
+    arguments: &[u64],
+    work: &mut [u64],
+    out: &mut [u64],
+) -> Result<usize, Refusal>
+    ensures answered { Answered (ran code.now arguments.now work.old out.old) work.old out.old work.new out.new (outcome result) }
+    ensures refused18 { Refused18 code.now (outcome result) }
 {
-    let Checked::Formed(counts) = check_code(code) else {
-        return Ran::Refused(18, 0);
+    let Some(counts) = check_code(code) else {
+        return Err(Fault::Malformed.at(0));
     };
     if arguments.len() != counts.arguments {
-        return Ran::Refused(19, 0);
+        return Err(Fault::ArgumentCount.at(0));
     }
     if !arguments_allowed(arguments) {
-        return Ran::Refused(20, 0);
+        return Err(Fault::Argument.at(0));
     }
     if work.len() < counts.words {
-        return Ran::Refused(21, 0);
+        return Err(Fault::Room.at(0));
     }
     if out.len() < counts.outputs {
-        return Ran::Refused(21, 0);
+        return Err(Fault::Room.at(0));
     }
     run_checked(code, counts, arguments, work, out);
-    Ran::Done(counts.outputs)
+    Ok(counts.outputs)
 }

@@ -1,141 +1,189 @@
-// One instruction of a code, by its kind's row of the port list.
-ghost use Rattle.std.specs.Prelude.{◌≡◌, ◌+◌, ◌*◌, ◌≤◌, ◌<◌, length, replicate};
-ghost use Rattle.ports.specs.Ports.{types};
+// One instruction of a code of either version, by its kind's row of the port list. Those of version 2 carry the addresses of
+// their results: `ADDRESSED`, a `bool`, since a const parameter takes no enum. Code, place and marks stay parameters: the marks are
+// read here and written there, and only in version 2.
+ghost use Rattle.std.specs.Prelude.{◌≡◌, ◌+◌, ◌*◌, ◌^◌, ◌≤◌, ◌<◌, length};
+ghost use Rattle.base.specs.Bytes.{byte, u16};
+ghost use Rattle.ports.specs.Kinds.{kind_of};
+ghost use Rattle.ports.specs.Ports.{types, constant_in, ports_of};
 ghost use Rattle.bytecode.specs.Code.{addresses};
-ghost use Rattle.runner.specs.Checks.{all_below, operands_passed, constant_passed, instruction_passed, Begun};
+ghost use Rattle.runner.specs.Checks.{operands_from, operand_good, operands_good, several_good, both_good, constant_good, Given, Put, Stepped};
 
-use super::{Cursor, Progress};
+use super::{Cursor, written};
 use ports::Ports;
 
-// Operands of the type t, their words all before `result`.
-fn operands_below(s: &[u8], from: usize, count: usize, t: u8, res: usize) -> bool
-    requires { from + 2 * count ≤ length s.now }
-    ensures { result ≡ all_below res (replicate count t) (addresses count s.now from) }
+// Where the operands of the instruction at `at` stand.
+pub fn operands_from<const ADDRESSED: bool>(at: usize) -> usize
+    requires { at < 2 ^ 63 }
+    ensures { result ≡ operands_from ADDRESSED at }
 {
-    let width = ports::width(t);
-    let mut at = from;
-    let mut left = count;
-    while 0 < left {
-        if res < base::u16_at(s, at) + width {
+    if ADDRESSED { at + 4 } else { at + 2 }
+}
+
+// An operand of the type t: its words stand before the next result, or in version 2 each was written.
+fn operand_good<const ADDRESSED: bool>(
+    s: &[u8],
+    at: usize,
+    t: u8,
+    high: usize,
+    marks: &[bool],
+) -> bool
+    requires { at + 2 ≤ length s.now }
+    ensures { result ≡ operand_good ADDRESSED marks.now high t (u16 s.now at) }
+{
+    let a = base::u16_at(s, at);
+    if ADDRESSED {
+        written::value_written(marks, a, t)
+    } else {
+        a + ports::width(t) <= high
+    }
+}
+
+// Operands, the first of the type `first` and the others of the type `rest`. A loop: a closure gets no proof in a function with
+// a const parameter.
+fn operands_good<const ADDRESSED: bool>(
+    s: &[u8],
+    from: usize,
+    count: usize,
+    first: u8,
+    rest: u8,
+    high: usize,
+    marks: &[bool],
+) -> bool
+    requires { from + 2 * count ≤ length s.now }
+    ensures { result ≡ operands_good ADDRESSED marks.now high (types count first rest) (addresses count s.now from) }
+{
+    let mut t = first;
+    for i in 0..count {
+        if !operand_good::<ADDRESSED>(s, from + 2 * i, t, high, marks) {
             return false;
         }
-        at += 2;
-        left -= 1;
+        t = rest;
     }
     true
 }
 
-// The same, where the first operand may be of another type.
-fn all_below(s: &[u8], at: usize, count: usize, first: u8, rest: u8, res: usize) -> bool
-    requires { at + 2 * count ≤ length s.now }
-    ensures { result ≡ all_below res (types count first rest) (addresses count s.now at) }
-{
-    if count == 0 {
-        return true;
-    }
-    if res < base::u16_at(s, at) + ports::width(first) {
-        return false;
-    }
-    operands_below(s, at + 2, count - 1, rest, res)
-}
-
-// Operands at `at`, and what follows them.
-fn check_operands(
+// Any number of operands.
+fn several_good<const ADDRESSED: bool>(
     s: &[u8],
-    at: usize,
+    from: usize,
     count: usize,
     first: u8,
     rest: u8,
-    res: usize,
+    high: usize,
+    marks: &[bool],
+) -> bool
+    requires { (from ≤ length s.now) × (count < 256) }
+    ensures { result ≡ several_good ADDRESSED s.now from count first rest high marks.now }
+{
+    2 * count <= s.len() - from
+        && operands_good::<ADDRESSED>(s, from, count, first, rest, high, marks)
+}
+
+// The words of a constant.
+fn constant_good(s: &[u8], from: usize, words: usize) -> bool
+    requires { (from ≤ length s.now) × (words < 256) }
+    ensures { result ≡ constant_good s.now from words }
+{
+    8 * words <= s.len() - from && value::constants_allowed(s, from, words)
+}
+
+// Two operands, as most kinds have.
+fn both_good<const ADDRESSED: bool>(
+    s: &[u8],
+    from: usize,
+    first: u8,
+    second: u8,
+    high: usize,
+    marks: &[bool],
+) -> bool
+    requires { from ≤ length s.now }
+    ensures { result ≡ both_good ADDRESSED s.now from first second high marks.now }
+{
+    4 <= s.len() - from
+        && operand_good::<ADDRESSED>(s, from, first, high, marks)
+        && operand_good::<ADDRESSED>(s, from + 2, second, high, marks)
+}
+
+// Where the result goes, and what follows it.
+fn place_result<const ADDRESSED: bool>(
+    s: &[u8],
+    cursor: Cursor,
+    words: usize,
     next: usize,
-) -> Progress
-    requires { (at ≤ length s.now) × (count < 256) }
-    ensures { result ≡ operands_passed s.now at count first rest res next }
+    marks: &mut [bool],
+) -> Option<Cursor>
+    requires { (operands_from ADDRESSED cursor.at ≤ length s.now) × (words < 256) × (cursor.result < 2 ^ 32) }
+    ensures { Put ADDRESSED (u16 s.now (cursor.at + 2)) words next cursor.result marks.old marks.new result }
 {
-    let size = 2 * count;
-    if s.len() - at < size {
-        return Progress::Refused;
+    if ADDRESSED {
+        let first = base::u16_at(s, cursor.at + 2);
+        written::write_result(first, words, next, cursor.result, marks)
+    } else {
+        Some(Cursor {
+            at: next,
+            result: cursor.result + words,
+        })
     }
-    if !all_below(s, at, count, first, rest, res) {
-        return Progress::Refused;
-    }
-    Progress::Passed(Cursor {
-        at: at + size,
-        result: next,
-    })
 }
 
-// Two operands, as most kinds have: the place behind them does not wait for the row, and the check takes half the time.
-fn check_two(s: &[u8], at: usize, first: u8, second: u8, res: usize, next: usize) -> Progress
-    requires { at ≤ length s.now }
-    ensures { result ≡ operands_passed s.now at 2 first second res next }
+// The instruction, its kind and its type byte legal, of operands of these types and a result of these words. Without operands
+// it has a constant of as many. With two the place behind them does not wait for the row: the check takes half the time.
+// Inlined, as the caller knows more of the types and words: else the check takes twice the instructions.
+#[inline(always)]
+fn check_inputs<const ADDRESSED: bool>(
+    s: &[u8],
+    cursor: Cursor,
+    row: Ports,
+    first: u8,
+    rest: u8,
+    words: usize,
+    marks: &mut [bool],
+) -> Option<Cursor>
+    requires { (operands_from ADDRESSED cursor.at ≤ length s.now) × (cursor.result < 2 ^ 32) × Given s.now cursor.at row first rest words }
+    ensures { Stepped ADDRESSED s.now cursor.at cursor.result marks.old marks.new result }
 {
-    if s.len() - at < 4 {
-        return Progress::Refused;
+    let from = operands_from::<ADDRESSED>(cursor.at);
+    let high = cursor.result;
+    if row.operands == 0 {
+        if !constant_good(s, from, words) {
+            return None;
+        }
+        return place_result::<ADDRESSED>(s, cursor, words, from + 8 * words, marks);
     }
-    if res < base::u16_at(s, at) + ports::width(first) {
-        return Progress::Refused;
+    if row.operands == 2 {
+        if !both_good::<ADDRESSED>(s, from, first, rest, high, marks) {
+            return None;
+        }
+        return place_result::<ADDRESSED>(s, cursor, words, from + 4, marks);
     }
-    if res < base::u16_at(s, at + 2) + ports::width(second) {
-        return Progress::Refused;
+    let count = usize::from(row.operands);
+    if !several_good::<ADDRESSED>(s, from, count, first, rest, high, marks) {
+        return None;
     }
-    Progress::Passed(Cursor {
-        at: at + 4,
-        result: next,
-    })
+    place_result::<ADDRESSED>(s, cursor, words, from + 2 * count, marks)
 }
 
-// The words of a constant at `at`, and what follows them.
-fn check_constant(s: &[u8], at: usize, count: usize, next: usize) -> Progress
-    requires { (at ≤ length s.now) × (count < 256) }
-    ensures { result ≡ constant_passed s.now at count next }
+// One instruction, its kind byte at the cursor, by its kind's row: T first, as a kind with T has one width for all. Asked for
+// each operand and the result apart, the check takes half as much again.
+pub fn check_instruction<const ADDRESSED: bool>(
+    s: &[u8],
+    cursor: Cursor,
+    row: Ports,
+    marks: &mut [bool],
+) -> Option<Cursor>
+    requires { (operands_from ADDRESSED cursor.at ≤ length s.now) × (cursor.result < 2 ^ 32) × (row ≡ ports_of (kind_of (byte s.now cursor.at))) }
+    ensures { Stepped ADDRESSED s.now cursor.at cursor.result marks.old marks.new result }
 {
-    let size = 8 * count;
-    if s.len() - at < size {
-        return Progress::Refused;
-    }
-    if !value::constants_allowed(s, at, count) {
-        return Progress::Refused;
-    }
-    Progress::Passed(Cursor {
-        at: at + size,
-        result: next,
-    })
-}
-
-// One instruction, its kind byte at `at` and its operands at `from`, by its kind's row.
-pub fn check_instruction(s: &[u8], at: usize, from: usize, res: usize, row: Ports) -> Progress
-    requires { Begun s.now at from res row }
-    ensures { result ≡ instruction_passed s.now at from res }
-{
-    let t = s[at + 1];
-    let n = row.operands as usize;
-    if ports::has_type(row) {
+    let t = s[cursor.at + 1];
+    if row.has_type() {
         if !ports::is_type(t) {
-            return Progress::Refused;
+            return None;
         }
-        let next = res + ports::width(t);
-        if n == 2 {
-            return check_two(s, from, t, t, res, next);
-        }
-        return check_operands(s, from, n, t, t, res, next);
+        return check_inputs::<ADDRESSED>(s, cursor, row, t, t, ports::width(t), marks);
     }
-    if t != 0 {
-        return Progress::Refused;
+    if t != 0 || !row.form.executable() {
+        return None;
     }
-    let words = row.words as usize;
-    let next = res + words;
-    let form = row.form;
-    if !ports::executable(form) {
-        return Progress::Refused;
-    }
-    if n == 0 {
-        return check_constant(s, from, words, next);
-    }
-    let first = row.first;
-    let rest = row.rest;
-    if n == 2 {
-        return check_two(s, from, first, rest, res, next);
-    }
-    check_operands(s, from, n, first, rest, res, next)
+    let words = usize::from(row.words);
+    check_inputs::<ADDRESSED>(s, cursor, row, row.first, row.rest, words, marks)
 }

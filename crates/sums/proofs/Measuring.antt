@@ -22,7 +22,7 @@ use Rattle.sums.specs.declared.Sums.{Sums}
 use Rattle.sums.specs.declared.PortWords.{PortWords}
 use Rattle.sums.specs.Position.{place_of, function_in, before}
 use Rattle.sums.specs.CodeSums.{function_instructions, function_bytes, instructions_of, bytes_of_function}
-use Rattle.sums.specs.Capped.{operation_cap, word_cap, byte_cap, operations_at, result_words_at, instructions_at, bytes_at, own_sums, cap_sums, sums_at, Summed}
+use Rattle.sums.specs.Capped.{operation_cap, word_cap, byte_cap, operations_at, result_words_at, instructions_at, bytes_at, own_sums, cap_sums, capped_sums}
 use Rattle.sums.specs.Answers.{code_length, PortWordsAt, capped_sizes, Measures}
 use Rattle.sums.proofs.CodeSizes.{encode-length}
 use Rattle.sums.proofs.CodeLimits.{bytes_below}
@@ -78,11 +78,11 @@ module _ (s : List ℕ) (k : ℕ) where
   unfolding function_at
   place_is = refl
 
-  pub measured-at : AllSound (function_in s k ∷ before s k) → ReadsFunction s (place_of s k) → (os ws cs bs : List ℕ) → Summed s os ws cs bs k → (p w c : ℕ) (x : Sums) (t : PortWords)
-      → p ≡ place_of s k → x ≡ sums_at os ws cs bs k → PortWordsAt s p t → w ≡ min word_cap (t.inputs + x.words) → c ≡ code_length x.operations w x.bytes t.outputs
+  pub measured-at : AllSound (function_in s k ∷ before s k) → ReadsFunction s (place_of s k) → (p w c : ℕ) (x : Sums) (t : PortWords)
+      → p ≡ place_of s k → x ≡ capped_sums s k → PortWordsAt s p t → w ≡ min word_cap (t.inputs + x.words) → c ≡ code_length x.operations w x.bytes t.outputs
       → Measures s k (record { place = p; operations = x.operations; words = w; instructions = x.instructions; bytes = x.bytes; code = c; arguments = t.inputs; outputs = t.outputs })
-  measured-at sound reads os ws cs bs h p w c x t ep ex pw ew ec =
-      let e = ex ∙ h ∙ ap cap_sums own-are in
+  measured-at sound reads p w c x t ep ex pw ew ec =
+      let e = ex ∙ ap cap_sums own-are in
       record {
         sizes =
             sizes-are (before s k) (function_in s k) sound p x.operations x.words w x.instructions x.bytes c t.inputs t.outputs (ep ∙ place_is)

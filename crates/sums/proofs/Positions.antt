@@ -2,7 +2,7 @@
 use Prim.Native.Nat.{ℕ, zero, suc, ◌≤◌, ◌<◌}
 use mathlib.Core.Path.{◌≡◌, refl, sym, ap, ◌∙◌, subst}
 use mathlib.Core.Bool.{Bool, true, false, cond}
-use mathlib.Core.List.{List, []}
+use mathlib.Core.List.{List, [], ◌∷◌}
 use mathlib.Core.Logic.{◌⊎◌, inl, inr, ⊎_elim}
 use native.Mathlib.Omega.{arith}
 use lib.Dec.{eqb}
@@ -13,8 +13,10 @@ use Rattle.graph.specs.Graph.{Function}
 use Rattle.graph.specs.Sums.{operations_of, result_words_of}
 use Rattle.graph.specs.Format.{format_of}
 use Rattle.reader.specs.Layout.{function_at, earlier}
-use Rattle.reader.specs.Find.{function_found}
-use Rattle.reader.specs.declared.Found.TheVariants.{At}
+use Rattle.std.specs.Prelude.{Option, Some, None, MatchOption}
+use Rattle.std.specs.Option.{option_map}
+use Rattle.reader.specs.Find.{found_at as found_record, function_found}
+use Rattle.reader.specs.declared.Found.{Found}
 use Rattle.reader.proofs.Passed.{length-earlier}
 use Rattle.sums.specs.declared.Sums.{Sums}
 use Rattle.sums.specs.CodeSums.{instructions_of, bytes_of_function}
@@ -28,7 +30,7 @@ position-more : (s : List ℕ) (m c : ℕ) → position_of s (suc m) c ≡ cond 
 unfolding position_of earlier function_at
 position-more s m c = pick_one (eqb (u16 s (place_of s m)) c)
   where
-    pick_one : (b : Bool) → found_at (cond b (At (length (before s m)) (place_of s m)) (function_found c (before s m))) ≡ cond b m (found_at (function_found c (before s m)))
+    pick_one : (b : Bool) → found_at (cond b (found_record (length (before s m)) (place_of s m)) (function_found c (before s m))) ≡ cond b m (found_at (function_found c (before s m)))
     pick_one true = length-earlier (format_of s).header s m
     pick_one false = refl
 
@@ -40,6 +42,25 @@ position-range s (suc m) c = rw (position-more s m c) (pick_one (eqb (u16 s (pla
     pick_one : (b : Bool) → (position_of s m c < m) ⊎ (position_of s m c ≡ function_limit) → (cond b m (position_of s m c) < suc m) ⊎ (cond b m (position_of s m c) ≡ function_limit)
     pick_one true h = inl (omega arith)
     pick_one false h = ⊎_elim (λ l. inl (omega arith)) (λ e. inr e) h
+
+-- what a search says that ends at a place, and one that ends at none
+found-below : (c : ℕ) (fs : List Function) {x : Found} → Some x ≡ function_found c fs → x.index < length fs
+found-below c [] e = cc
+found-below c (f ∷ fs) {x} e = pick_one (eqb f.id c) (found-below c fs) e
+  where
+    pick_one : (b : Bool) → (Some x ≡ function_found c fs → x.index < length fs) → Some x ≡ cond b (found_record (length fs) f.place) (function_found c fs) → x.index < suc (length fs)
+    pick_one true ih q = let l : x.index ≡ length fs = ap found_at q in omega arith
+    pick_one false ih q = let l : x.index < length fs = ih q in omega arith
+
+-- its index is the function's position
+pub position-found : (s : List ℕ) (k c : ℕ) {o : Option Found} {r : Option ℕ} → k ≤ function_limit → o ≡ function_found c (before s k) → r ≡ option_map (λ (x : Found). x.index) o
+    → MatchOption r ((position_of s k c ≡ function_limit) × (k ≤ position_of s k c)) (λ g. (g ≡ position_of s k c) × (g < k))
+unfolding position_of
+position-found s k c {o} {r} few e er = subst (λ (r : Option ℕ). MatchOption r ((position_of s k c ≡ function_limit) × (k ≤ position_of s k c)) (λ g. (g ≡ position_of s k c) × (g < k))) (sym er) (by_answer o e)
+  where
+    by_answer : (o : Option Found) → o ≡ function_found c (before s k) → MatchOption (option_map (λ (x : Found). x.index) o) ((position_of s k c ≡ function_limit) × (k ≤ position_of s k c)) (λ g. (g ≡ position_of s k c) × (g < k))
+    by_answer (Some x) q = (ap found_at q, let l = found-below c (before s k) q in let n = length-earlier (format_of s).header s k in omega arith)
+    by_answer None q = let same : function_limit ≡ position_of s k c = ap found_at q in (sym same, omega arith)
 
 -- ---- of the function of an id, and of the function at its position
 

@@ -21,7 +21,7 @@ use Rattle.reader.proofs.Passed.{first_reads, rest-reads}
 use Rattle.sums.specs.declared.Sums.{Sums}
 use Rattle.sums.specs.CodeSums.{node_instructions, node_bytes, instructions_of, bytes_of_function}
 use Rattle.sums.specs.Position.{place_of, before, position_of}
-use Rattle.sums.specs.Capped.{operation_cap, word_cap, byte_cap, operations_at, result_words_at, instructions_at, bytes_at, own_sums, adds_words, adds_sums, no_sums, both, cap_sums, Small, nodes_sums, call_sums, plain_sums, Caps, sums_at, AllSummed}
+use Rattle.sums.specs.Capped.{operation_cap, word_cap, byte_cap, operations_at, result_words_at, instructions_at, bytes_at, own_sums, adds_words, adds_sums, no_sums, both, cap_sums, Small, nodes_sums, call_sums, plain_sums, Caps, sums_at, SumsHeld}
 use Rattle.sums.proofs.Nodes.{row_is, call-payload, plain_form}
 use Rattle.sums.proofs.Positions.{sums_of, sums-at, sums_none}
 
@@ -57,8 +57,8 @@ module _ (s : List ℕ) (k p kind : ℕ) (row : Ports) (ek : kind ≡ byte s (p 
     cap-call : (x : Sums) → cap_sums (call_sums (cap_sums x)) ≡ cap_sums (call_sums x)
     cap-call x = equal _ _ (omega arith) (omega arith) (omega arith) (omega arith)
 
-    pub called-sums : k ≤ function_limit → (os ws cs bs : List ℕ) → AllSummed s os ws cs bs k → g < k → (y : Sums) → y ≡ sums_at os ws cs bs g → Caps s k (node_at s p) (call_sums y)
-    called-sums le os ws cs bs all lt y ey =
+    pub called-sums : k ≤ function_limit → (xs : List Sums) → SumsHeld s xs k → g < k → (y : Sums) → y ≡ sums_at xs g → Caps s k (node_at s p) (call_sums y)
+    called-sums le xs all lt y ey =
         let e : y ≡ cap_sums (own_sums s g) = ey ∙ all g lt in
         let a : adds_sums s k (node_at s p) ≡ call_sums (own_sums s g) = added ∙ ap call_sums (sums-at s k callee g eg le lt) in
         record {
@@ -122,9 +122,6 @@ module _ (s : List ℕ) (n first k : ℕ) where
 
   pub sum-here : (x : Sums) (i p : ℕ) → Summing x i p → i < n → ReadsNode s p
   sum-here x i p h l = first_reads s (n - i) p (omega arith) h.reads
-
-  pub sum-small : (x : Sums) (i p : ℕ) → Summing x i p → Small x
-  sum-small x i p h = subst Small h.capped (omega arith, omega arith, omega arith, omega arith)
 
   pub sum_step : (x : Sums) (i p : ℕ) → Summing x i p → i < n → (r : Sums) → Caps s k (node_at s p) r → (y : Sums) (q : ℕ) → y ≡ cap_sums (both x r) → q ≡ node_end s p → Summing y (i + 1) q
   unfolding nodes_at

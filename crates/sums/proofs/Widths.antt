@@ -3,8 +3,6 @@ use Prim.Native.Nat.{ℕ, zero, suc, ◌+◌, ◌-◌, ◌*◌, ◌≤◌, ◌<�
 use mathlib.Core.Path.{◌≡◌, refl, ap, ◌∙◌}
 use mathlib.Core.List.{List, ◌∷◌}
 use native.Mathlib.Omega.{arith}
-use lib.ListN.{length}
-use native.Mathlib.Nat.{suc-mul}
 use Rattle.base.specs.Limits.{port_word_limit, value_limit}
 use Rattle.ports.specs.Ports.{width, widths}
 use Rattle.base.specs.Bytes.{byte}
@@ -47,37 +45,27 @@ port-words s p i n wi wo ei en ew eo li lo =
 -- ---- one after another
 
 module _ (s : List ℕ) (p step n : ℕ) where
-  pub record Adding (w q i : ℕ) : Type 0 where
-    pub index : i ≤ n
-    pub inside : q + (n - i) * step ≤ length s
+  -- w has the words of the first i types
+  pub record Adding (w i : ℕ) : Type 0 where
     pub few : w ≤ value_limit * i
-    pub total : w + widths (types_by step (n - i) s q) ≡ widths (types_by step n s p)
+    pub total : w + widths (types_by step (n - i) s (p + i * step)) ≡ widths (types_by step n s p)
 
-  pub add_start : p + n * step ≤ length s → Adding 0 p 0
-  add_start l =
-      let z : n - 0 ≡ n = omega arith in
-      record { index = omega arith; inside = rw z l; few = omega arith; total = rw z (omega arith) }
+  pub add_start : Adding 0 0
+  add_start = let z : n - 0 ≡ n = omega arith in let y : p + 0 * step ≡ p = omega arith in record { few = omega arith; total = rw (z, y) (omega arith) }
 
-  -- the byte at hand is there
-  pub add-here : (w q i : ℕ) → Adding w q i → i < n → q + step + (n - (i + 1)) * step ≤ length s
-  add-here w q i h l =
+  pub add_step : (w i x : ℕ) → Adding w i → i < n → x ≡ width (byte s (p + i * step)) → x ≤ value_limit → Adding (w + x) (i + 1)
+  add_step w i x h l e m =
       let z : n - i ≡ suc (n - (i + 1)) = omega arith in
-      let a = h.inside in
-      let b : q + suc (n - (i + 1)) * step ≤ length s = rw z at a in
-      let c : suc (n - (i + 1)) * step ≡ (n - (i + 1)) * step + step = suc-mul (n - (i + 1)) step in
-      omega arith
-
-  pub add_step : (w q i x : ℕ) → Adding w q i → i < n → x ≡ width (byte s q) → x ≤ value_limit → Adding (w + x) (q + step) (i + 1)
-  add_step w q i x h l e m =
-      let z : n - i ≡ suc (n - (i + 1)) = omega arith in
+      let y : p + i * step + step ≡ p + (i + 1) * step = omega arith in
       let t = h.total in
-      let u : w + (width (byte s q) + widths (types_by step (n - (i + 1)) s (q + step))) ≡ widths (types_by step n s p) = rw z at t in
+      let u : w + (width (byte s (p + i * step)) + widths (types_by step (n - (i + 1)) s (p + i * step + step))) ≡ widths (types_by step n s p) = rw z at t in
+      let v : w + (width (byte s (p + i * step)) + widths (types_by step (n - (i + 1)) s (p + (i + 1) * step))) ≡ widths (types_by step n s p) = rw y at u in
       let few = h.few in
-      record { index = omega arith; inside = add-here w q i h l; few = omega arith; total = omega arith }
+      record { few = omega arith; total = omega arith }
 
-  pub add_done : (w q i : ℕ) → Adding w q i → n ≤ i → w ≡ widths (types_by step n s p)
-  add_done w q i h le =
-      let z : n - i ≡ 0 = omega arith in
+  pub add_done : (w : ℕ) → Adding w n → w ≡ widths (types_by step n s p)
+  add_done w h =
+      let z : n - n ≡ 0 = omega arith in
       let t = h.total in
       let u : w + 0 ≡ widths (types_by step n s p) = rw z at t in
       omega arith

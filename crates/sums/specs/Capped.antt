@@ -99,10 +99,11 @@ pub record Caps (s : List ℕ) (k : ℕ) (n : Node) (r : Sums) : Type 0 where
   pub same : cap_sums r ≡ cap_sums (adds_sums s k n)
   pub small : Small r
 
--- ---- in the arrays
+-- ---- in the array
 
-abbrev pub capped_operations : List ℕ → ℕ → ℕ
-capped_operations s k = min operation_cap (operations_at s k)
+-- of the function at a position
+abbrev pub capped_sums : List ℕ → ℕ → Sums
+capped_sums s k = cap_sums (own_sums s k)
 
 abbrev pub capped_words : List ℕ → ℕ → ℕ
 capped_words s k = min word_cap (result_words_at s k)
@@ -110,25 +111,10 @@ capped_words s k = min word_cap (result_words_at s k)
 abbrev pub capped_instructions : List ℕ → ℕ → ℕ
 capped_instructions s k = min operation_cap (instructions_at s k)
 
-abbrev pub capped_bytes : List ℕ → ℕ → ℕ
-capped_bytes s k = min byte_cap (bytes_at s k)
-
 -- those that stand at j
-abbrev pub sums_at : List ℕ → List ℕ → List ℕ → List ℕ → ℕ → Sums
-sums_at os ws cs bs j = record { operations = get_or os j 0; words = get_or ws j 0; instructions = get_or cs j 0; bytes = get_or bs j 0 }
+abbrev pub sums_at : List Sums → ℕ → Sums
+sums_at xs j = get_or xs j no_sums
 
--- they are those of the function at position j
-abbrev pub Summed : List ℕ → List ℕ → List ℕ → List ℕ → List ℕ → ℕ → Type 0
-Summed s os ws cs bs j = sums_at os ws cs bs j ≡ cap_sums (own_sums s j)
-
--- and so of all before k
-abbrev pub AllSummed : List ℕ → List ℕ → List ℕ → List ℕ → List ℕ → ℕ → Type 0
-AllSummed s os ws cs bs k = (j : ℕ) → j < k → Summed s os ws cs bs j
-
--- the words of the functions before k
-abbrev pub WordsHeld : List ℕ → List ℕ → ℕ → Type 0
-WordsHeld s words k = (g : ℕ) → g < k → get_or words g 0 ≡ capped_words s g
-
--- and their instructions
-abbrev pub CountsHeld : List ℕ → List ℕ → ℕ → Type 0
-CountsHeld s counts k = (g : ℕ) → g < k → get_or counts g 0 ≡ capped_instructions s g
+-- the sums of the functions before k
+abbrev pub SumsHeld : List ℕ → List Sums → ℕ → Type 0
+SumsHeld s xs k = (g : ℕ) → g < k → sums_at xs g ≡ capped_sums s g

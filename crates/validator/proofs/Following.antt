@@ -33,11 +33,9 @@ use Rattle.bytecode.proofs.Origins.{start-length}
 use Rattle.bytecode.proofs.Sequential.{fit-up}
 use Rattle.executor.specs.Execution.{end_of}
 use Rattle.executor.proofs.Loop.{operands_at}
-use Rattle.validator.specs.declared.Judgement.TheVariants.{Accepted, Refused}
-use Rattle.validator.specs.declared.Step.{Step}
-use Rattle.validator.specs.declared.Step.TheVariants.{Next, Wrong}
+use Rattle.std.specs.Prelude.{Option, Some, None}
 use Rattle.validator.specs.Judge.{same_origin, alike, follow, paired, own_readings, own_origins, followed}
-use Rattle.validator.specs.Tests.{held_at, own_end, end_at, words_at, passed_at, result_of, stored_at, Steppable, Stepped, halves, results_from, Listed, first_words, judgement_of, followed_in, Judgeable}
+use Rattle.validator.specs.Tests.{held_at, own_end, end_at, words_at, passed_at, result_of, stored_at, Steppable, Stepped, halves, results_from, Listed, first_words, followed_in, Judgeable}
 use Rattle.validator.proofs.Standing.{Stands, AllStand, stand, known, known_is, codes-decoded}
 use Rattle.validator.proofs.Records.{held-outputs}
 use Rattle.validator.proofs.Carrying.{their-result}
@@ -61,7 +59,7 @@ pub kept : (l : List ℕ) (at : ℕ) (xs : List ℕ) {n : List ℕ} → n ≡ se
 kept l at xs e = ap length e ∙ length-sets l at xs
 
 -- so does a step
-pub step_kept : {ours code : List ℕ} {at m count : ℕ} {index words index' words' : List ℕ} {r : Step} → Stepped ours code at m count index words index' words' r
+pub step_kept : {ours code : List ℕ} {at m count : ℕ} {index words index' words' : List ℕ} {r : Option ℕ} → Stepped ours code at m count index words index' words' r
     → (length index' ≡ length index) × (length words' ≡ length words)
 step_kept {ours} {code} {at} {m} {count} {index} {words} {index'} {words'} s = (
   ap length s.indexed ∙ either (passed_at ours code at m count index words) (set index m 0) index (length-set index m 0),
@@ -302,7 +300,7 @@ module _ {ours code numbers : List ℕ} {arguments outputs count total index-siz
         ∙ passed_is b j.fit few ours g.seen g.o index words g.state code at m t.i g.written t.here t.low
 
     -- the instruction is at fault
-    pub wrong : {n : ℕ} {index' words' : List ℕ} {r : Step} → n ≡ m → Stepped ours code at n count index words index' words' r → r ≡ Wrong → all ≡ fault 29 p
+    pub wrong : {n : ℕ} {index' words' : List ℕ} {r : Option ℕ} → n ≡ m → Stepped ours code at n count index words index' words' r → r ≡ None → all ≡ fault 29 p
     wrong {index' = index'} {words'} {r} en s₀ e = pick test refl
       where
         s : Stepped ours code at m count index words index' words' r
@@ -310,32 +308,32 @@ module _ {ours code numbers : List ℕ} {arguments outputs count total index-siz
 
         pick : (q : Bool) → test ≡ q → all ≡ fault 29 p
         pick true q =
-            let z : Next (end_at code at) ≡ Wrong = sym (ap (λ (x : Bool). cond x (Next (end_at code at)) Wrong) (test-is ∙ q)) ∙ sym s.answer ∙ e in
+            let z : Some (end_at code at) ≡ None = sym (ap (λ (x : Bool). cond x (Some (end_at code at)) None) (test-is ∙ q)) ∙ sym s.answer ∙ e in
             absurd (differ z)
           where
-            differ : {n : ℕ} → Next n ≡ Wrong → ⊥
+            differ : {n : ℕ} → Some n ≡ None → ⊥
             differ z = let w : ◌≡◌ {A = ℕ} 0 1 = cc in omega arith
         pick false q = t.rest ∙ fails test 29 p _ q
 
     -- it is right, and the next stands behind it
-    pub going_next : {n : ℕ} {index' words' : List ℕ} {r : Step} → n ≡ m → Stepped ours code at n count index words index' words' r → (next : ℕ) → r ≡ Next next
+    pub going_next : {n : ℕ} {index' words' : List ℕ} {r : Option ℕ} → n ≡ m → Stepped ours code at n count index words index' words' r → (next : ℕ) → r ≡ Some next
         → Going (p + 1) next index' words'
     going_next {index' = index'} {words'} {r} en s₀ next e = subst (λ (k : ℕ). Going k next index' words') (sym (add-one p)) (pick test refl)
       where
         s : Stepped ours code at m count index words index' words' r
         s = subst (λ (k : ℕ). Stepped ours code at k count index words index' words' r) en s₀
 
-        differ : {n : ℕ} → Wrong ≡ Next n → ⊥
+        differ : {n : ℕ} → None ≡ Some n → ⊥
         differ z = let w : ◌≡◌ {A = ℕ} 0 1 = cc in omega arith
 
-        next-is : {x y : ℕ} → Next x ≡ Next y → x ≡ y
+        next-is : {x y : ℕ} → Some x ≡ Some y → x ≡ y
         next-is z = cc
 
         pick : (q : Bool) → test ≡ q → Going (suc p) next index' words'
-        pick false q = absurd (differ (sym (ap (λ (x : Bool). cond x (Next (end_at code at)) Wrong) (test-is ∙ q)) ∙ sym s.answer ∙ e))
+        pick false q = absurd (differ (sym (ap (λ (x : Bool). cond x (Some (end_at code at)) None) (test-is ∙ q)) ∙ sym s.answer ∙ e))
         pick true q =
             let passed = test-is ∙ q in
-            let end : end_at code at ≡ next = next-is (sym (ap (λ (x : Bool). cond x (Next (end_at code at)) Wrong) passed) ∙ sym s.answer ∙ e) in
+            let end : end_at code at ≡ next = next-is (sym (ap (λ (x : Bool). cond x (Some (end_at code at)) None) passed) ∙ sym s.answer ∙ e) in
             let ei : set index m 0 ≡ index' = sym (s.indexed ∙ ap (λ (x : Bool). cond x (set index m 0) index) passed) in
             let ew : stored_at code at m words ≡ words' = sym (s.stored ∙ ap (λ (x : Bool). cond x (stored_at code at m words) words) passed) in
             let state = tracing-next b j.fit few ours g.seen g.o index words g.state code at m t.i g.written t.here t.low t.fits q in
@@ -356,13 +354,12 @@ module _ {ours code numbers : List ℕ} {arguments outputs count total index-siz
 
   -- ---- the end
 
-  pub decoded-both : judgement_of (followed_in (decode ours) (decode code) numbers) ≡ judgement_of (followed b b' numbers)
+  pub decoded-both : followed_in (decode ours) (decode code) numbers ≡ followed b b' numbers
   unfolding followed_in
   decoded-both = rw (codes-decoded V1 ours b j.own, codes-decoded V2 code b' j.theirs) refl
 
-  pub refused : {p : ℕ} → all ≡ fault 29 p → Refused 29 p ≡ judgement_of (followed_in (decode ours) (decode code) numbers)
-  unfolding judgement_of
-  refused {p} e = sym (decoded-both ∙ ap judgement_of (stops all _ 29 p e))
+  pub refused : {p : ℕ} → all ≡ fault 29 p → fault 29 p ≡ followed_in (decode ours) (decode code) numbers
+  refused {p} e = sym (decoded-both ∙ stops all _ 29 p e)
 
   -- the places of the output words
   pub outputs-there : (2 * outputs ≤ length ours) × (2 * outputs ≤ length code)
@@ -407,16 +404,10 @@ module _ {ours code numbers : List ℕ} {arguments outputs count total index-siz
         ∙ held-outputs b j.fit few g.o words g.state.traced b.outputs b'.outputs low (subst (λ (n : ℕ). Each (λ y. y < n) b'.outputs) (sym g.size) low')
 
     module _ {r : Bool} (e : r ≡ alike eqb (map (held_at words) (addresses outputs code (length code - 2 * outputs))) (addresses outputs ours (length ours - 2 * outputs))) where
-      pub accepted : r ≡ true → Accepted count ≡ judgement_of (followed_in (decode ours) (decode code) numbers)
-      unfolding judgement_of
+      pub accepted : r ≡ true → ok count ≡ followed_in (decode ours) (decode code) numbers
       accepted q =
-          sym (decoded-both
-          ∙ ap judgement_of (takes all _ g.o walked ∙ passes outputs-same 29 (length b.instructions) _ (sym (held-is e) ∙ q))
-          ∙ ap Accepted (sym j.count-is))
+          sym (decoded-both ∙ takes all _ g.o walked ∙ passes outputs-same 29 (length b.instructions) _ (sym (held-is e) ∙ q) ∙ ap ok (sym j.count-is))
 
-      pub outputs-wrong : r ≡ false → Refused 29 count ≡ judgement_of (followed_in (decode ours) (decode code) numbers)
-      unfolding judgement_of
+      pub outputs-wrong : r ≡ false → fault 29 count ≡ followed_in (decode ours) (decode code) numbers
       outputs-wrong q =
-          sym (decoded-both
-          ∙ ap judgement_of (takes all _ g.o walked ∙ fails outputs-same 29 (length b.instructions) _ (sym (held-is e) ∙ q))
-          ∙ ap (Refused 29) (sym j.count-is))
+          sym (decoded-both ∙ takes all _ g.o walked ∙ fails outputs-same 29 (length b.instructions) _ (sym (held-is e) ∙ q) ∙ ap (fault 29) (sym j.count-is))

@@ -1,13 +1,15 @@
--- The record of what each word holds: loops that end at the first test that fails, and runs of stores.
-use Prim.Native.Nat.{ℕ, zero, suc, ◌+◌, ◌-◌, ◌≤◌, ◌<◌}
+-- The record of what each word holds: a test of each of so many places, and runs of stores.
+use Prim.Native.Nat.{ℕ, zero, suc, ◌+◌, ◌-◌, ◌*◌, ◌<◌}
 use mathlib.Core.Path.{◌≡◌, refl, ap, ap₂, sym, ◌∙◌}
-use mathlib.Core.Bool.{Bool, true, false, ◌&&◌}
-use mathlib.Core.List.{List, [], ◌∷◌, map}
+use mathlib.Core.Bool.{Bool, true, false, ◌&&◌, cond}
+use mathlib.Core.List.{List, ◌∷◌, map}
 use native.Mathlib.Omega.{arith}
-use native.Mathlib.Numerals.{sub-one, add-one}
-use borrow.Author.Tests.{eq-eqb, ne_eqb}
+use native.Mathlib.Nat.{add-zero}
+use native.Mathlib.Numerals.{add-one}
+use Rattle.std.specs.List.{list_all, range_with_len}
+use borrow.Author.Tests.{ne_eqb}
 use lib.Dec.{eqb}
-use lib.ListN.{length, get_or, set, replicate}
+use lib.ListN.{set, replicate}
 use lib.Seq.{sets}
 use Rattle.ports.specs.Ports.{width, types}
 use Rattle.base.specs.Bytes.{u16, u64, constants}
@@ -18,41 +20,19 @@ use Rattle.bytecode.specs.Code.{addresses}
 use Rattle.validator.specs.Judge.{alike}
 use Rattle.validator.specs.Tests.{no_word, held_at, held_words, held_operands, first_words}
 
--- ---- two numbers that were read
+-- ---- a test of each of so many places
 
-module _ {a b x y : ℕ} (ea : a ≡ x) (eb : b ≡ y) where
-  pub agree : a ≡ b → eqb x y ≡ true
-  agree e = eq-eqb x y (sym ea ∙ e ∙ eb)
-
-  pub differ : (a ≡ b → ⊥) → eqb x y ≡ false
-  differ n = ne_eqb x y (λ e. n (ea ∙ e ∙ sym eb))
-
--- ---- what a word holds, when it is there
-
-pub there : (l : List ℕ) (i d e : ℕ) → i < length l → get_or l i d ≡ get_or l i e
-there [] i d e h = absurd (omega arith)
-there (x ∷ l) zero d e h = refl
-there (x ∷ l) (suc i) d e h = there l i d e (omega arith)
-
--- ---- loops that end at the first test that fails
-
--- R is the test T at `left` places, each with the next after it
+-- R is the test T at n places, each with the next after it
 pub record Walk {S : Type 0} (R : ℕ → S → Bool) (T : S → Bool) (next : S → S) : Type 0 where
   pub none : (s : S) → R 0 s ≡ true
-  pub more : (left : ℕ) (s : S) → R (suc left) s ≡ (T s && R left (next s))
+  pub more : (n : ℕ) (s : S) → R (suc n) s ≡ (T s && R n (next s))
 
-module _ {S : Type 0} {R : ℕ → S → Bool} {T : S → Bool} {next : S → S} (w : Walk R T next) where
-  pub on : (left : ℕ) (s : S) → 0 < left → T s ≡ true → R left s ≡ R (left - 1) (next s)
-  on zero s h e = absurd (omega arith)
-  on (suc left) s h e = w.more left s ∙ ap (λ (b : Bool). b && R left (next s)) e ∙ rw sub-one
-
-  pub off : (left : ℕ) (s : S) → 0 < left → T s ≡ false → R left s ≡ false
-  off zero s h e = absurd (omega arith)
-  off (suc left) s h e = w.more left s ∙ ap (λ (b : Bool). b && R left (next s)) e
-
-  pub over : (left : ℕ) (s : S) → left ≡ 0 → R left s ≡ true
-  over zero s z = w.none s
-  over (suc left) s z = absurd (omega arith)
+-- the places by an index
+pub walked : {S : Type 0} {R : ℕ → S → Bool} {T : S → Bool} {next : S → S} → Walk R T next → (place : ℕ → S) → ((i : ℕ) → next (place i) ≡ place (i + 1)) → (n i : ℕ)
+    → list_all (λ j. T (place j)) (range_with_len i n) ≡ R n (place i)
+walked w place step zero i = sym (w.none (place i))
+walked {R = R} {T} w place step (suc n) i =
+    ap (λ (b : Bool). T (place i) && b) (walked w place step n (i + 1) ∙ ap (R n) (sym (step i))) ∙ sym (w.more n (place i))
 
 -- ---- words and operands
 
@@ -76,28 +56,10 @@ module _ (words : List ℕ) where
         more = λ n s. ap₂ (λ (a w : ℕ). eqb (held_at words s.0) s.1 && held_words words a w n) (sym (add-one s.0)) (sym (add-one s.1));
       }
 
-  module _ (a w count : ℕ) where
-    pub words-start : held_words words (a + 0) (w + 0) (count - 0) ≡ held_words words a w count
-    words-start =
-        let x : a + 0 ≡ a = omega arith in
-        let y : w + 0 ≡ w = omega arith in
-        let z : count - 0 ≡ count = omega arith in
-        rw (x, y, z)
-
-    module _ (i : ℕ) where
-      pub words-on : i < count → eqb (held_at words (a + i)) (w + i) ≡ true
-          → held_words words (a + i) (w + i) (count - i) ≡ held_words words (a + (i + 1)) (w + (i + 1)) (count - (i + 1))
-      words-on h e =
-          let x : a + i + 1 ≡ a + (i + 1) = omega arith in
-          let y : w + i + 1 ≡ w + (i + 1) = omega arith in
-          let z : count - i - 1 ≡ count - (i + 1) = omega arith in
-          on words-walk (count - i) (a + i, w + i) (omega arith) e ∙ (rw (x, y, z))
-
-      pub words-off : i < count → eqb (held_at words (a + i)) (w + i) ≡ false → held_words words (a + i) (w + i) (count - i) ≡ false
-      words-off h e = off words-walk (count - i) (a + i, w + i) (omega arith) e
-
-      pub words-over : count ≤ i → held_words words (a + i) (w + i) (count - i) ≡ true
-      words-over h = over words-walk (count - i) (a + i, w + i) (omega arith)
+  pub words-walked : (a w count : ℕ) → list_all (λ i. eqb (held_at words (a + i)) (w + i)) (range_with_len 0 count) ≡ held_words words a w count
+  words-walked a w count =
+      walked words-walk (λ i. (a + i, w + i)) (λ i. ap₂ (λ (x y : ℕ). (x, y)) (omega arith) (omega arith)) count 0
+      ∙ ap₂ (λ (x y : ℕ). held_words words x y count) (add-zero a) (add-zero w)
 
   module _ (ours code : List ℕ) where
     -- the place in `ours`, that in `code`, and the type of the next operand
@@ -116,9 +78,39 @@ module _ (words : List ℕ) where
         (λ (s : ℕ × ℕ). (s.0 + 2, s.1 + 2))
     outputs-walk = record { none = λ s. refl; more = λ n s. refl }
 
+    pub outputs-walked : (from at count : ℕ) → list_all (λ i. eqb (held_at words (u16 code (at + 2 * i))) (u16 ours (from + 2 * i))) (range_with_len 0 count)
+        ≡ alike eqb (map (held_at words) (addresses count code at)) (addresses count ours from)
+    outputs-walked from at count =
+        walked outputs-walk (λ i. (from + 2 * i, at + 2 * i)) (λ i. ap₂ (λ (x y : ℕ). (x, y)) (omega arith) (omega arith)) count 0
+        ∙ ap₂ (λ (x y : ℕ). alike eqb (map (held_at words) (addresses count code y)) (addresses count ours x)) (add-zero from) (add-zero at)
+
+    -- the type of operand i
+    abbrev pub type_of : ℕ → ℕ → ℕ → ℕ
+    type_of first rest i = cond (eqb i 0) first rest
+
+    pub operands-walked : (from at count first rest : ℕ)
+        → list_all (λ i. held_words words (u16 code (at + 2 * i)) (u16 ours (from + 2 * i)) (width (type_of first rest i))) (range_with_len 0 count)
+        ≡ held_operands words (types count first rest) (addresses count ours from) (addresses count code at)
+    operands-walked from at count first rest =
+        walked (operands-walk rest) (λ i. (from + 2 * i, at + 2 * i, type_of first rest i)) step count 0
+        ∙ ap₂ (λ (x y : ℕ). held_operands words (types count first rest) (addresses count ours x) (addresses count code y)) (add-zero from) (add-zero at)
+      where
+        step : (i : ℕ) → ◌≡◌ {A = ℕ × ℕ × ℕ} (from + 2 * i + 2, at + 2 * i + 2, rest) (from + 2 * (i + 1), at + 2 * (i + 1), type_of first rest (i + 1))
+        step i =
+            let x : from + 2 * i + 2 ≡ from + 2 * (i + 1) = omega arith in
+            let y : at + 2 * i + 2 ≡ at + 2 * (i + 1) = omega arith in
+            let z : rest ≡ type_of first rest (i + 1) = sym (ap (λ (b : Bool). cond b first rest) (ne_eqb (i + 1) 0 (λ e. omega arith))) in
+            λ k. (x k, y k, z k)
+
 pub constants-walk : (ours code : List ℕ)
     → Walk (λ n s. alike eqb (constants n code s.1) (constants n ours s.0)) (λ s. eqb (u64 code s.1) (u64 ours s.0)) (λ (s : ℕ × ℕ). (s.0 + 8, s.1 + 8))
 constants-walk ours code = record { none = λ s. refl; more = λ n s. refl }
+
+pub constants-walked : (ours code : List ℕ) (from at count : ℕ)
+    → list_all (λ i. eqb (u64 code (at + 8 * i)) (u64 ours (from + 8 * i))) (range_with_len 0 count) ≡ alike eqb (constants count code at) (constants count ours from)
+constants-walked ours code from at count =
+    walked (constants-walk ours code) (λ i. (from + 8 * i, at + 8 * i)) (λ i. ap₂ (λ (x y : ℕ). (x, y)) (omega arith) (omega arith)) count 0
+    ∙ ap₂ (λ (x y : ℕ). alike eqb (constants count code y) (constants count ours x)) (add-zero from) (add-zero at)
 
 -- ---- runs of words
 
@@ -126,28 +118,16 @@ module _ (w n : ℕ) where
   abbrev pub span_left : ℕ → List ℕ
   span_left i = span (w + i) (n - i)
 
-  pub span-start : span_left 0 ≡ span w n
-  span-start =
-      let x : w + 0 ≡ w = omega arith in
-      let y : n - 0 ≡ n = omega arith in
-      rw (x, y)
-
   pub span-next : (i : ℕ) → i < n → span_left i ≡ (w + i) ∷ span_left (i + 1)
   span-next i h =
       let x : n - i ≡ suc (n - (i + 1)) = omega arith in
       let y : suc (w + i) ≡ w + (i + 1) = omega arith in
       rw (x, y)
 
-  pub span-over : (i : ℕ) → n ≤ i → span_left i ≡ []
-  span-over i h = let z : n - i ≡ 0 = omega arith in ap (span (w + i)) z
-
 pub one-held : (words : List ℕ) (a w count : ℕ) → count ≡ 1 → set words a w ≡ sets words a (span w count)
 one-held words a w count e = sym (ap (λ (n : ℕ). sets words a (span w n)) e)
 
 -- the words behind the arguments
-
-pub replicate_next : (x end i : ℕ) → i < end → replicate (end - i) x ≡ x ∷ replicate (end - (i + 1)) x
-replicate_next x end i h = let z : end - i ≡ suc (end - (i + 1)) = omega arith in ap (λ (n : ℕ). replicate n x) z
 
 pub first-words : (l : List ℕ) {m k : List ℕ} (arguments rest : ℕ) → m ≡ sets l 0 (span 0 arguments) → k ≡ sets m arguments (replicate rest no_word)
     → k ≡ sets l 0 (first_words arguments rest)

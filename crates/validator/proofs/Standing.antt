@@ -4,6 +4,7 @@ use mathlib.Core.Path.{◌≡◌, refl, ap, sym, ◌∙◌, subst}
 use mathlib.Core.Bool.{true}
 use mathlib.Core.List.{List, [], ◌∷◌}
 use mathlib.Core.Option.{some}
+use Rattle.std.specs.Prelude.{Some}
 use native.Mathlib.Omega.{arith}
 use lib.ListN.{length}
 use Rattle.ports.specs.Kinds.{kind_of}
@@ -24,7 +25,6 @@ use Rattle.bytecode.proofs.Decoded.{then-inv}
 use Rattle.executor.specs.Execution.{instruction_at, end_of}
 use Rattle.executor.proofs.Loop.{operands_at, read-inv}
 use Rattle.runner.specs.Checks.{counts_of, checked_of}
-use Rattle.runner.specs.declared.Checked.TheVariants.{Formed}
 use Rattle.runner.proofs.Decoding.{Decoded, decoded}
 
 -- an instruction at its place, which reads words that are written
@@ -63,7 +63,7 @@ module _ (v : Version) (s : List ℕ) (b : BoardList) (c : Codes v s b) where
   pub codes-decoded : decode s ≡ some b
   codes-decoded = ap decode c.bytes ∙ decode-encode v b c.formed
 
-  counted : checked_of (decode s) ≡ Formed (counts_of b)
+  counted : checked_of (decode s) ≡ Some (counts_of b)
   unfolding checked_of
   counted = rw codes-decoded refl
 

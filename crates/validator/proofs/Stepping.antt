@@ -16,7 +16,7 @@ use Rattle.base.specs.Lists.{span}
 use Rattle.base.specs.Limits.{address_limit, word_limit, header_length}
 use Rattle.base.proofs.Stores.{Run, run-start, run_step, run-done, none_left}
 use Rattle.bytecode.specs.Code.{addresses}
-use Rattle.validator.specs.declared.Step.TheVariants.{Next, Wrong}
+use Rattle.std.specs.Prelude.{Some, None}
 use Rattle.validator.specs.Judge.{alike}
 use Rattle.validator.specs.Tests.{held_operands, Comparable, carried_at, behind_at, passed_at, own_end, end_at, words_at, result_of, stored_at, Steppable, Stepped, halves, results_from, Listed}
 
@@ -33,6 +33,10 @@ module _ {ours : List ℕ} {from : ℕ} {code : List ℕ} {at : ℕ} {row : Port
 
   pub ours-there : byte code at ≡ byte ours from → from + 2 + (2 * n + 8 * m) ≤ length ours
   ours-there ek = rw (counted (byte ours from) (h.row_is ∙ ap (λ (k : ℕ). ports_of (kind_of k)) ek) (from + 2)) h.own-there
+
+-- two numbers that differ, as a test found them
+pub not-same : {v : Bool} {x y : ℕ} → v ≡ eqb x y → (x ≡ y → ⊥) → v ≡ true → false ≡ true
+not-same {x = x} {y} e n t = sym (ne_eqb x y n) ∙ sym e ∙ t
 
 -- ---- what is carried out, by the kind's row
 
@@ -87,25 +91,25 @@ module _ (ours : List ℕ) (from : ℕ) (code : List ℕ) (at : ℕ) (words : Li
 -- ---- a step
 
 module _ (ours code : List ℕ) (at m count : ℕ) (index words : List ℕ) where
-  refused : passed_at ours code at m count index words ≡ false → Stepped ours code at m count index words index words Wrong
+  refused : passed_at ours code at m count index words ≡ false → Stepped ours code at m count index words index words None
   refused e = record { answer = rw e; indexed = rw e; stored = rw e }
 
-  pub no_number : count ≤ m → Stepped ours code at m count index words index words Wrong
+  pub no_number : count ≤ m → Stepped ours code at m count index words index words None
   unfolding passed_at
   no_number h = refused (rw (le-ltb m count h))
 
   module _ (h : m < count) where
-    pub again : get_or index m 0 ≡ 0 → Stepped ours code at m count index words index words Wrong
+    pub again : get_or index m 0 ≡ 0 → Stepped ours code at m count index words index words None
     unfolding passed_at
     again z = refused (rw (lt-ltb m count h, eq-eqb (get_or index m 0) 0 z))
 
     module _ (n : get_or index m 0 ≡ 0 → ⊥) where
-      pub not_carried : carried_at ours (2 * get_or index m 0) code at words ≡ false → Stepped ours code at m count index words index words Wrong
+      pub not_carried : carried_at ours (2 * get_or index m 0) code at words ≡ false → Stepped ours code at m count index words index words None
       unfolding passed_at
       not_carried e = refused (rw (lt-ltb m count h, ne_eqb (get_or index m 0) 0 n, e))
 
       pub stepped : carried_at ours (2 * get_or index m 0) code at words ≡ true → {next : ℕ} {words' : List ℕ} → next ≡ end_at code at → words' ≡ stored_at code at m words
-          → Stepped ours code at m count index words (set index m 0) words' (Next next)
+          → Stepped ours code at m count index words (set index m 0) words' (Some next)
       unfolding passed_at
       stepped e en ew =
           let p : passed_at ours code at m count index words ≡ true = rw (lt-ltb m count h, ne_eqb (get_or index m 0) 0 n, e) in

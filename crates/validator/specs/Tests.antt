@@ -1,6 +1,7 @@
 -- The tests of the code, as it reads two codes and its record: for each word of the proposed list the word of version 1 that it holds, and behind
 -- these the first result word of each instruction of version 1, by its number.
-use Rattle.std.specs.Prelude.{ℕ, zero, suc, ◌+◌, ◌*◌, ◌/◌, ◌≤◌, ◌<◌, ◌≡◌, Bool, true, not, ◌&&◌, cond, List, [], ◌∷◌, ◌++◌, eqb, ltb, length, get_or, set, replicate}
+use Rattle.std.specs.Prelude as Rust
+use Rattle.std.specs.Prelude.{Some, None, ℕ, zero, suc, ◌+◌, ◌*◌, ◌/◌, ◌≤◌, ◌<◌, ◌≡◌, Bool, true, not, ◌&&◌, cond, List, [], ◌∷◌, ◌++◌, eqb, ltb, length, get_or, set, replicate}
 use Rattle.std.proofs.Math.Option.{Option, none, some}
 use Rattle.std.proofs.lemmas.List.Edits.{sets}
 use Rattle.ports.specs.declared.Ports.{Ports}
@@ -9,16 +10,12 @@ use Rattle.ports.specs.Ports.{width, takes, arity, constant_words, ports_of, res
 use Rattle.base.specs.Bytes.{byte, u16, constants}
 use Rattle.base.specs.Lists.{span}
 use Rattle.base.specs.Limits.{address_limit, word_limit}
-use Rattle.base.specs.Outcome.{Outcome, ok, fault}
+use Rattle.base.specs.Outcome.{Outcome, fault}
 use Rattle.bytecode.specs.Run.{BoardList}
 use Rattle.bytecode.specs.Sequential.{AllFit}
 use Rattle.bytecode.specs.declared.Version.TheVariants.{V1, V2}
 use Rattle.bytecode.specs.WellFormed.{Codes}
 use Rattle.bytecode.specs.Code.{addresses}
-use Rattle.validator.specs.declared.Judgement.{Judgement}
-use Rattle.validator.specs.declared.Judgement.TheVariants.{Accepted, Refused}
-use Rattle.validator.specs.declared.Step.{Step}
-use Rattle.validator.specs.declared.Step.TheVariants.{Next, Wrong}
 use Rattle.validator.specs.Judge.{alike, followed}
 use Rattle.validator.specs.Accepts.{Counted}
 
@@ -101,8 +98,8 @@ pub record Steppable (ours code : List ℕ) (at m count : ℕ) (row : Ports) (in
   pub small : m < count → result_of words m + words_at code at ≤ address_limit
   pub room : u16 code (at + 2) + words_at code at ≤ length words
 
-pub record Stepped (ours code : List ℕ) (at m count : ℕ) (index words index' words' : List ℕ) (r : Step) : Type 0 where
-  pub answer : r ≡ cond (passed_at ours code at m count index words) (Next (end_at code at)) Wrong
+pub record Stepped (ours code : List ℕ) (at m count : ℕ) (index words index' words' : List ℕ) (r : Rust.Option ℕ) : Type 0 where
+  pub answer : r ≡ cond (passed_at ours code at m count index words) (Some (end_at code at)) None
   pub indexed : index' ≡ cond (passed_at ours code at m count index words) (set index m 0) index
   pub stored : words' ≡ cond (passed_at ours code at m count index words) (stored_at code at m words) words
 
@@ -127,10 +124,6 @@ abbrev pub first_words : ℕ → ℕ → List ℕ
 first_words arguments rest = span 0 arguments ++ replicate rest no_word
 
 -- ---- the whole
-
-unfoldable pub judgement_of : Outcome ℕ → Judgement
-judgement_of (ok n) = Accepted n
-judgement_of (fault n p) = Refused n p
 
 unfoldable pub followed_in : Option BoardList → Option BoardList → List ℕ → Outcome ℕ
 followed_in none c numbers = fault 18 0

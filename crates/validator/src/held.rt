@@ -9,14 +9,14 @@ ghost use Rattle.bytecode.specs.Code.{addresses};
 ghost use Rattle.validator.specs.Judge.{alike};
 ghost use Rattle.validator.specs.Tests.{held_at, held_words, held_operands, first_words};
 
-// Nothing yet.
+// Nothing yet: a number and no `Option`, since the record is lent as numbers of 16 bits.
 const NO_WORD: usize = 0xFFFF;
 
 fn held_at(words: &[u16], a: usize) -> usize
     ensures { result ≡ held_at words.now a }
 {
     if a < words.len() {
-        base::wide16(words[a])
+        usize::from(words[a])
     } else {
         NO_WORD
     }
@@ -27,17 +27,7 @@ fn held_words(words: &[u16], a: usize, w: usize, count: usize) -> bool
     requires { (a < address_limit) × (w < address_limit) × (count ≤ 16) }
     ensures { result ≡ held_words words.now a w count }
 {
-    let mut i = 0;
-    while i < count {
-        let here = a + i;
-        let own = w + i;
-        let held = held_at(words, here);
-        if held != own {
-            return false;
-        }
-        i += 1;
-    }
-    true
+    (0..count).all(|i| held_at(words, a + i) == w + i)
 }
 
 // A value of the type t, a scalar without a loop.
@@ -66,20 +56,15 @@ pub fn held_operands(
     requires { (from + 2 * count ≤ length ours.now) × (at + 2 * count ≤ length code.now) }
     ensures { result ≡ held_operands words.now (types count first rest) (addresses count ours.now from) (addresses count code.now at) }
 {
-    let mut own = from;
-    let mut here = at;
-    let mut left = count;
-    let mut t = first;
-    while 0 < left {
-        if !held_value(words, base::u16_at(code, here), base::u16_at(ours, own), t) {
-            return false;
-        }
-        own += 2;
-        here += 2;
-        left -= 1;
-        t = rest;
-    }
-    true
+    (0..count).all(|i| {
+        let t = if i == 0 { first } else { rest };
+        held_value(
+            words,
+            base::u16_at(code, at + 2 * i),
+            base::u16_at(ours, from + 2 * i),
+            t,
+        )
+    })
 }
 
 // Of output words.
@@ -94,20 +79,8 @@ pub fn held_outputs(
     requires { (from + 2 * count ≤ length ours.now) × (at + 2 * count ≤ length code.now) }
     ensures { result ≡ alike eqb (map (held_at words.now) (addresses count code.now at)) (addresses count ours.now from) }
 {
-    let mut own = from;
-    let mut here = at;
-    let mut left = count;
-    while 0 < left {
-        let held = held_at(words, base::u16_at(code, here));
-        let wanted = base::u16_at(ours, own);
-        if held != wanted {
-            return false;
-        }
-        own += 2;
-        here += 2;
-        left -= 1;
-    }
-    true
+    (0..count).all(|i| held_at(words, base::u16_at(code, at + 2 * i))
+        == base::u16_at(ours, from + 2 * i))
 }
 
 // Whether two codes have the same `count` constant words.
@@ -115,18 +88,7 @@ pub fn same_constants(ours: &[u8], from: usize, code: &[u8], at: usize, count: u
     requires { (from + 8 * count ≤ length ours.now) × (at + 8 * count ≤ length code.now) }
     ensures { result ≡ alike eqb (constants count code.now at) (constants count ours.now from) }
 {
-    let mut own = from;
-    let mut here = at;
-    let mut more = count;
-    while 0 < more {
-        if base::u64_at(code, here) != base::u64_at(ours, own) {
-            return false;
-        }
-        own += 8;
-        here += 8;
-        more -= 1;
-    }
-    true
+    (0..count).all(|i| base::u64_at(code, at + 8 * i) == base::u64_at(ours, from + 8 * i))
 }
 
 // The `count` words from `a` on hold version 1's from `w` on. One word apart from the loop, as most results have one.
@@ -138,10 +100,8 @@ pub fn note_words(words: &mut [u16], a: usize, w: usize, count: usize)
         words[a] = w as u16;
         return;
     }
-    let mut j = 0;
-    while j < count {
+    for j in 0..count {
         words[a + j] = (w + j) as u16;
-        j += 1;
     }
 }
 
@@ -151,10 +111,5 @@ pub fn note_arguments(words: &mut [u16], arguments: usize, rest: usize)
     ensures { words.new ≡ sets words.old 0 (first_words arguments rest) }
 {
     note_words(words, 0, 0, arguments);
-    let end = arguments + rest;
-    let mut i = arguments;
-    while i < end {
-        words[i] = 0xFFFF;
-        i += 1;
-    }
+    words[arguments..arguments + rest].fill(0xFFFF);
 }

@@ -4,31 +4,32 @@ ghost use Rattle.std.proofs.lemmas.List.Edits.{sets};
 ghost use Rattle.base.specs.Limits.{header_length, word_limit};
 ghost use Rattle.validator.specs.Tests.{carried_at, Comparable, Steppable, Stepped, halves, results_from, Listed};
 
-use super::Step;
 use super::held::{held_operands, note_words, same_constants};
 use base::{HEADER_LENGTH, WORD_LIMIT};
 use ports::Ports;
 
-// Whether the instruction at `at` has the kind, the type and the constants of version 1's at `from`, and reads the same words.
+// Whether the instruction at `at` has the kind, the type and the constants of version 1's at `from`, and reads the same words. The two
+// lists and their places stay parameters: each call stands at another place of each.
 fn carried(ours: &[u8], from: usize, code: &[u8], at: usize, row: Ports, words: &[u16]) -> bool
     requires { Comparable ours.now from code.now at row }
     ensures { result ≡ carried_at ours.now from code.now at words.now }
 {
-    if code[at] != ours[from] {
-        return false;
-    }
     let t = code[at + 1];
-    if t != ours[from + 1] {
-        return false;
-    }
-    let n = base::wide(row.operands);
-    let constants = ports::constant_words(row);
-    if !same_constants(ours, from + 2 + 2 * n, code, at + 4 + 2 * n, constants) {
-        return false;
-    }
-    let first = ports::own(t, row.first);
-    let rest = ports::own(t, row.rest);
-    held_operands(words, ours, from + 2, code, at + 4, n, first, rest)
+    let n = usize::from(row.operands);
+    let constants = row.constant_words();
+    code[at] == ours[from]
+        && t == ours[from + 1]
+        && same_constants(ours, from + 2 + 2 * n, code, at + 4 + 2 * n, constants)
+        && held_operands(
+            words,
+            ours,
+            from + 2,
+            code,
+            at + 4,
+            n,
+            ports::own(t, row.first),
+            ports::own(t, row.rest),
+        )
 }
 
 // The instruction at `at`, whose number is m: its number is taken, and the words of its result hold version 1's.
@@ -41,29 +42,26 @@ pub fn carry_out(
     count: usize,
     index: &mut [u16],
     words: &mut [u16],
-) -> Step
+) -> Option<usize>
     requires { Steppable ours.now code.now at m count row index.old words.old }
     ensures { Stepped ours.now code.now at m count index.old words.old index.new words.new result }
 {
     if count <= m {
-        return Step::Wrong;
+        return None;
     }
-    let half = base::wide16(index[m]);
-    if half == 0 {
-        return Step::Wrong;
-    }
-    if !carried(ours, 2 * half, code, at, row, words) {
-        return Step::Wrong;
+    let half = usize::from(index[m]);
+    if half == 0 || !carried(ours, 2 * half, code, at, row, words) {
+        return None;
     }
     index[m] = 0;
-    let w = base::wide16(words[WORD_LIMIT + m]);
+    let w = usize::from(words[WORD_LIMIT + m]);
     note_words(
         words,
         base::u16_at(code, at + 2),
         w,
-        ports::result_words(row, code[at + 1]),
+        row.result_words(code[at + 1]),
     );
-    Step::Next(at + 4 + 2 * base::wide(row.operands) + 8 * ports::constant_words(row))
+    Some(at + 4 + 2 * usize::from(row.operands) + 8 * row.constant_words())
 }
 
 // Of the instructions of version 1, whose first result has the word `first`: half the place of each, and its result's first word, by its number.
@@ -73,13 +71,11 @@ pub fn index_list(ours: &[u8], count: usize, first: usize, index: &mut [u16], wo
 {
     let mut at = HEADER_LENGTH;
     let mut w = first;
-    let mut i = 0;
-    while i < count {
+    for i in 0..count {
         let row = ports::ports_of(ours[at]);
         index[i] = (at / 2) as u16;
         words[WORD_LIMIT + i] = w as u16;
-        w += ports::result_words(row, ours[at + 1]);
-        at += 2 + 2 * base::wide(row.operands) + 8 * ports::constant_words(row);
-        i += 1;
+        w += row.result_words(ours[at + 1]);
+        at += 2 + 2 * usize::from(row.operands) + 8 * row.constant_words();
     }
 }

@@ -3,10 +3,11 @@
 #![tactic(auto)]
 
 ghost use Rattle.std.specs.Prelude.{◌≡◌, length};
+ghost use Rattle.base.specs.Refusals.{outcome};
 ghost use Rattle.bytecode.specs.Code.{decode};
-ghost use Rattle.validator.specs.Tests.{Judgeable, judgement_of, followed_in};
+ghost use Rattle.validator.specs.Tests.{Judgeable, followed_in};
 
-use base::{HEADER_LENGTH, OPERATION_LIMIT, PORT_WORD_LIMIT, WORD_LIMIT};
+use base::{Fault, HEADER_LENGTH, OPERATION_LIMIT, PORT_WORD_LIMIT, Refusal, WORD_LIMIT};
 use held::{held_outputs, note_arguments};
 use instruction::{carry_out, index_list};
 
@@ -19,22 +20,10 @@ pub const LIST_LIMIT: usize = HEADER_LENGTH
     + 8 * WORD_LIMIT
     + 2 * PORT_WORD_LIMIT;
 
-// What is said of a proposed list: how many instructions it has, or the number of a refusal and its place.
-#[derive(Clone, Copy)]
-pub enum Judgement {
-    Accepted(usize),
-    Refused(u8, usize),
-}
-
-// What follows an instruction: the place behind it, or that it is at fault.
-#[derive(Clone, Copy)]
-pub enum Step {
-    Next(usize),
-    Wrong,
-}
-
-// A proposed list beside version 1's with the same counts: accepted, or 29 with the first instruction at fault, or the instruction count where
-// only an output is. `index` and `words` are lent for the work; what they hold before and after says nothing.
+// A proposed list beside version 1's with the same counts: accepted with the instruction count, or `Fault::Placement` at the first
+// instruction at fault, or at the instruction count where only an output is. `index` and `words` are lent for the work; what they
+// hold before and after says nothing. They are buffers that the caller has for other work, so that no more stack is needed: so
+// what is kept of each instruction of version 1 stands in both, and not in structs.
 pub fn judge(
     ours: &[u8],
     code: &[u8],
@@ -45,24 +34,20 @@ pub fn judge(
     total: usize,
     index: &mut [u16],
     words: &mut [u16],
-) -> Judgement
+) -> Result<usize, Refusal>
     requires { Judgeable ours.now code.now numbers.now arguments outputs count total (length index.old) (length words.old) }
-    ensures { result ≡ judgement_of (followed_in (decode ours.now) (decode code.now) numbers.now) }
+    ensures { outcome result ≡ followed_in (decode ours.now) (decode code.now) numbers.now }
 {
-    let rows = ports::PORTS;
     index_list(ours, count, arguments, index, words);
     note_arguments(words, arguments, total - arguments);
     let mut at = HEADER_LENGTH;
-    let mut p = 0;
-    while p < count {
-        let k = base::byte_at(code, at);
-        let row = rows[k];
-        let m = base::wide16(numbers[p]);
-        let Step::Next(next) = carry_out(ours, code, at, row, m, count, index, words) else {
-            return Judgement::Refused(29, p);
+    for p in 0..count {
+        let row = ports::ports_of(code[at]);
+        let m = usize::from(numbers[p]);
+        let Some(next) = carry_out(ours, code, at, row, m, count, index, words) else {
+            return Err(Fault::Placement.at(p));
         };
         at = next;
-        p += 1;
     }
     let size = 2 * outputs;
     if held_outputs(
@@ -73,8 +58,8 @@ pub fn judge(
         code.len() - size,
         outputs,
     ) {
-        Judgement::Accepted(count)
+        Ok(count)
     } else {
-        Judgement::Refused(29, count)
+        Err(Fault::Placement.at(count))
     }
 }

@@ -1,19 +1,13 @@
--- The first of some constants, and those behind it.
-use Prim.Native.Nat.{ℕ, zero, suc, ◌+◌, ◌-◌, ◌<◌}
-use mathlib.Core.Path.{◌≡◌, refl}
-use mathlib.Core.Bool.{true, false}
-use mathlib.Core.List.{List}
-use native.Mathlib.Omega.{arith}
-use native.Mathlib.Nat.{not-suc-le-zero}
+-- A test of each of some constants, by their numbers.
+use Rattle.std.proofs.Common.{◌≡◌, ℕ, zero, suc, ◌+◌, ◌*◌, Bool, ◌&&◌, List, refl, ap, arith}
+use Rattle.std.specs.List.{list_all, range_with_len}
 use Rattle.base.specs.Bytes.{u64, constants}
 use Rattle.base.specs.Lists.{every}
-use Rattle.value.specs.Values.{constant_word}
 
-module _ (s : List ℕ) where
-  pub first-refused : (n at : ℕ) → 0 < n → constant_word (u64 s at) ≡ false → every constant_word (constants n s at) ≡ false
-  first-refused zero at h e = absurd (not-suc-le-zero h)
-  first-refused (suc n) at h e = rw e refl
-
-  pub first-allowed : (n at : ℕ) → 0 < n → constant_word (u64 s at) ≡ true → every constant_word (constants n s at) ≡ every constant_word (constants (n - 1) s (at + 8))
-  first-allowed zero at h e = absurd (not-suc-le-zero h)
-  first-allowed (suc n) at h e = let m : suc n - 1 ≡ n = omega arith in rw (m, e) refl
+pub each-in-turn : (ok : ℕ → Bool) (s : List ℕ) (from n a : ℕ)
+    → list_all (λ i. ok (u64 s (from + 8 * i))) (range_with_len a n) ≡ every ok (constants n s (from + 8 * a))
+each-in-turn ok s from zero a = refl
+each-in-turn ok s from (suc n) a =
+    let next : from + 8 * (a + 1) ≡ from + 8 * a + 8 = omega arith in
+    let rest = each-in-turn ok s from n (a + 1) in
+    ap (λ b. ok (u64 s (from + 8 * a)) && b) (rw next at rest)

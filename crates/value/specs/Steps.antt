@@ -1,5 +1,5 @@
 -- The arithmetic: steps on floats, each rounded once, and what is made of them in the order written.
-use Rattle.std.specs.Prelude.{false, cond, pos, Float}
+use Rattle.std.specs.Prelude.{ℕ, false, cond, pos, Float}
 use Rattle.std.specs.Float.Ieee as Ieee
 use Rattle.std.specs.Float.{nan, inf, fin, binary64}
 use Rattle.value.specs.declared.Vec3.{Vec3}
@@ -67,6 +67,19 @@ step_of Remainder a b c d = remainder a b
 step_of Select a b c d = selected a b c d
 step_of Clamp a b c d = clamped a b c
 
+-- the operands that it reads
+abbrev pub operands_of : Operator → ℕ
+operands_of Add = 2
+operands_of Subtract = 2
+operands_of Multiply = 2
+operands_of Divide = 2
+operands_of Minimum = 2
+operands_of Maximum = 2
+operands_of Absolute = 1
+operands_of Remainder = 2
+operands_of Select = 4
+operands_of Clamp = 3
+
 -- ---- a value as a scalar, a vector, a matrix; zeros where it is of another type, which is never asked of an accepted table
 
 abbrev pub zero64 : Float
@@ -100,6 +113,9 @@ matrix (Vector v) = zero_mat
 matrix (Matrix m) = m
 
 -- ---- component by component, on up to four values of one type
+
+abbrev pub each_float : Step → Float → Float → Float → Float → Float
+each_float g a b c d = g a b c d
 
 abbrev pub each_vec : Step → Vec3 → Vec3 → Vec3 → Vec3 → Vec3
 each_vec g a b c d = vec (g a.x b.x c.x d.x) (g a.y b.y c.y d.y) (g a.z b.z c.z d.z)

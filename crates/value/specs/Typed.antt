@@ -1,5 +1,5 @@
 -- Values of given types, words that stand for finite values, and canonical words, as statements.
-use Rattle.std.specs.Prelude.{ℕ, ◌≤◌, true, List, [], ◌∷◌, ◌≡◌, T, Float}
+use Rattle.std.specs.Prelude.{ℕ, ◌+◌, ◌<◌, length, ◌≤◌, true, List, [], ◌∷◌, ◌≡◌, T, Float}
 use Rattle.std.specs.Float.Ieee as Ieee
 use Rattle.std.specs.Float.{binary64}
 use Rattle.value.specs.declared.Vec3.{Vec3}
@@ -8,7 +8,7 @@ use Rattle.value.specs.declared.Mat4.{Mat4}
 use Rattle.value.specs.declared.Value.{Value}
 use Rattle.value.specs.declared.Value.TheVariants.{Scalar, Vector, Matrix}
 use Rattle.value.specs.Values.{type_of, word, finite}
-use Rattle.base.specs.Lists.{Word}
+use Rattle.base.specs.Lists.{Word, word_at}
 
 abbrev pub TypeCode : ℕ → Type 0
 TypeCode t = (1 ≤ t) × (t ≤ 3)
@@ -20,6 +20,11 @@ Finite w = Word w × (finite w ≡ true)
 -- the word of the float that it stands for: a NaN has one
 abbrev pub Canonical : ℕ → Type 0
 Canonical w = word (Ieee.of_bits binary64 w) ≡ w
+
+-- n words at an address of m, each of which is so
+pub record Standing (P : ℕ → Type 0) (m : List ℕ) (at n : ℕ) : Type 0 where
+  pub room : at + n ≤ length m
+  pub each : (i : ℕ) → at ≤ i → i < at + n → P (word_at m i)
 
 -- ---- floats that binary64 holds
 

@@ -37,11 +37,14 @@ vec_words v = word v.x ∷ word v.y ∷ word v.z ∷ []
 abbrev pub row_words : Row → List ℕ
 row_words r = word r.c0 ∷ word r.c1 ∷ word r.c2 ∷ word r.c3 ∷ []
 
--- a matrix goes row by row
+-- row by row
+abbrev pub mat_words : Mat4 → List ℕ
+mat_words m = row_words m.r0 ++ row_words m.r1 ++ row_words m.r2 ++ row_words m.r3
+
 abbrev pub words_of : Value → List ℕ
 words_of (Scalar a) = word a ∷ []
 words_of (Vector v) = vec_words v
-words_of (Matrix m) = row_words m.r0 ++ row_words m.r1 ++ row_words m.r2 ++ row_words m.r3
+words_of (Matrix m) = mat_words m
 
 -- the words of values, one after another
 abbrev pub all_words : List Value → List ℕ

@@ -1,91 +1,9 @@
-// A value as one of its types, products, and vectors and matrices made of parts.
+// Products, and vectors and matrices made of parts.
 ghost use Rattle.std.specs.Prelude.{◌≡◌};
-ghost use Rattle.value.specs.Values.{vec, type_of};
-ghost use Rattle.value.specs.Steps.{zero64, zero_vec, zero_row, zero_mat, scalar, vector, matrix, dot_product, cross_product, row_times, matrix_times, from_columns, from_rows, transposed};
+ghost use Rattle.value.specs.Values.{vec};
+ghost use Rattle.value.specs.Steps.{dot_product, cross_product, row_times, matrix_times, from_columns, from_rows, transposed};
 
-use super::{Mat4, Row, Value, Vec3};
-
-// ---- a value as a scalar, a vector, a matrix; zeros where it is of another type
-
-pub fn zero() -> f64
-    ensures { result ≡ zero64 }
-{
-    0.0
-}
-
-pub fn zero_vec() -> Vec3
-    ensures { result ≡ zero_vec }
-{
-    Vec3 {
-        x: 0.0,
-        y: 0.0,
-        z: 0.0,
-    }
-}
-
-fn zero_row() -> Row
-    ensures { result ≡ zero_row }
-{
-    Row {
-        c0: 0.0,
-        c1: 0.0,
-        c2: 0.0,
-        c3: 0.0,
-    }
-}
-
-pub fn zero_mat() -> Mat4
-    ensures { result ≡ zero_mat }
-{
-    let r = zero_row();
-    Mat4 {
-        r0: r,
-        r1: r,
-        r2: r,
-        r3: r,
-    }
-}
-
-pub fn scalar_of(v: Value) -> f64
-    ensures { result ≡ scalar v }
-{
-    match v {
-        Value::Scalar(a) => a,
-        Value::Vector(a) => 0.0,
-        Value::Matrix(a) => 0.0,
-    }
-}
-
-pub fn vector_of(v: Value) -> Vec3
-    ensures { result ≡ vector v }
-{
-    match v {
-        Value::Scalar(a) => zero_vec(),
-        Value::Vector(a) => a,
-        Value::Matrix(a) => zero_vec(),
-    }
-}
-
-pub fn matrix_of(v: Value) -> Mat4
-    ensures { result ≡ matrix v }
-{
-    match v {
-        Value::Scalar(a) => zero_mat(),
-        Value::Vector(a) => zero_mat(),
-        Value::Matrix(a) => a,
-    }
-}
-
-// The type of a value: 1 scalar, 2 vector, 3 matrix.
-pub fn type_of(v: Value) -> u8
-    ensures { result ≡ type_of v }
-{
-    match v {
-        Value::Scalar(a) => 1,
-        Value::Vector(a) => 2,
-        Value::Matrix(a) => 3,
-    }
-}
+use super::{Mat4, Row, Vec3};
 
 // ---- products
 
@@ -202,30 +120,5 @@ pub fn from_columns(a: Vec3, b: Vec3, c: Vec3, d: Vec3) -> Mat4
 pub fn from_rows(a: Vec3, b: Vec3, c: Vec3, d: Vec3) -> Mat4
     ensures { result ≡ from_rows a b c d }
 {
-    Mat4 {
-        r0: Row {
-            c0: a.x,
-            c1: a.y,
-            c2: a.z,
-            c3: 0.0,
-        },
-        r1: Row {
-            c0: b.x,
-            c1: b.y,
-            c2: b.z,
-            c3: 0.0,
-        },
-        r2: Row {
-            c0: c.x,
-            c1: c.y,
-            c2: c.z,
-            c3: 0.0,
-        },
-        r3: Row {
-            c0: d.x,
-            c1: d.y,
-            c2: d.z,
-            c3: 1.0,
-        },
-    }
+    transpose(from_columns(a, b, c, d))
 }

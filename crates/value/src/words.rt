@@ -1,5 +1,5 @@
 // Words and the floats they stand for.
-ghost use Rattle.std.specs.Prelude.{◌≡◌, ◌+◌, ◌*◌, ◌≤◌, length};
+ghost use Rattle.std.specs.Prelude.{◌≡◌, ◌+◌, ◌*◌, ◌≤◌, ℕ, length};
 ghost use Rattle.std.specs.Float.Ieee as Ieee;
 ghost use Rattle.std.specs.Float.{binary64};
 ghost use Rattle.base.specs.Bytes.{constants};
@@ -8,45 +8,72 @@ ghost use Rattle.value.specs.Values as Values;
 ghost use Rattle.value.specs.Values.{word, constant_word, argument_word};
 ghost use Rattle.value.specs.Typed.{Finite, Canonical};
 
+use std::num;
+
 // The word of a float: its bit pattern, and one pattern for every NaN.
 pub fn word_of(x: f64) -> u64
     ensures { result ≡ word x }
 {
-    if x != x {
-        0x7FF8_0000_0000_0000
-    } else {
-        f64::to_bits(x)
-    }
+    num::f64_to_bits_with_nan(x)
 }
 
-// The same of a float that is finite.
+// The same of a float that is finite, with no test for a NaN.
+#[tactic(auto, using(crate::proofs::Floats::finite_no_nan))]
 pub fn finite_word(x: f64) -> u64
     requires { Finite (word x) }
     ensures { result ≡ word x }
 {
-    f64::to_bits(x)
+    x.to_bits()
 }
 
 // The float of a word, whatever the word.
 pub fn float_of(w: u64) -> f64
     ensures { result ≡ Ieee.of_bits binary64 w }
 {
-    if 0x7FF0_0000_0000_0000 < w % 0x8000_0000_0000_0000 {
-        0.0 / 0.0
-    } else {
-        f64::from_bits(w)
-    }
+    num::f64_from_bits_with_nan(w)
 }
 
-// The same of a canonical word: a NaN has one pattern.
+// The same of a canonical word, where one comparison is enough: a NaN has one pattern. Every operand of a run is read so.
+#[tactic(auto, using(crate::proofs::Floats::regular))]
 pub fn read_word(w: u64) -> f64
     requires { Canonical w }
     ensures { result ≡ Ieee.of_bits binary64 w }
 {
     if w == 0x7FF8_0000_0000_0000 {
-        0.0 / 0.0
+        f64::NAN
     } else {
         f64::from_bits(w)
+    }
+}
+
+// How a memory's words are read.
+pub trait Reading {
+    ghost readable: { ℕ → Type 0 };
+
+    fn read(w: u64) -> f64
+        requires { readable w }
+        ensures { result ≡ Ieee.of_bits binary64 w };
+}
+
+// Whatever the words.
+pub struct AnyWord;
+
+impl Reading for AnyWord {
+    ghost readable = { λ w. Unit {0} };
+
+    fn read(w: u64) -> f64 {
+        float_of(w)
+    }
+}
+
+// Where they are canonical.
+pub struct CanonicalWord;
+
+impl Reading for CanonicalWord {
+    ghost readable = { Canonical };
+
+    fn read(w: u64) -> f64 {
+        read_word(w)
     }
 }
 
@@ -57,7 +84,7 @@ pub fn finite(w: u64) -> bool
     w % 0x8000_0000_0000_0000 < 0x7FF0_0000_0000_0000
 }
 
-// Whether a word may be a constant's.
+// Whether a word may be a constant's: a name apart from an argument's, as the definitions have it.
 pub fn constant_word(w: u64) -> bool
     ensures { result ≡ constant_word w }
 {
@@ -69,16 +96,7 @@ pub fn constants_allowed(s: &[u8], from: usize, count: usize) -> bool
     requires { from + 8 * count ≤ length s.now }
     ensures { result ≡ every constant_word (constants count s.now from) }
 {
-    let mut at = from;
-    let mut left = count;
-    while 0 < left {
-        if !constant_word(base::u64_at(s, at)) {
-            return false;
-        }
-        at += 8;
-        left -= 1;
-    }
-    true
+    (0..count).all(|i| constant_word(base::u64_at(s, from + 8 * i)))
 }
 
 // Whether a word may be an argument's.

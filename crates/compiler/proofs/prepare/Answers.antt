@@ -1,125 +1,51 @@
-use Prim.Native.Nat.{ℕ, suc, ◌+◌, ◌≤◌, ◌<◌}
-use mathlib.Core.Path.{◌≡◌, ap, ◌∙◌}
+use Prim.Native.Nat.{suc, ◌+◌}
+use mathlib.Core.Path.{◌≡◌, ◌∙◌}
 use native.Mathlib.Omega.{arith}
-use lib.ListN.{get_or}
-use Rattle.base.specs.Limits.{function_limit, port_limit}
-use Rattle.base.specs.Bytes.{byte}
-use Rattle.reader.specs.Layout.{input_count}
-use Rattle.reader.specs.Find.{ReadsFunction}
-use Rattle.reader.proofs.Passed.{Holds, function-holds}
-use Rattle.sums.specs.Position.{place_of}
-use Rattle.sums.proofs.Accepted.{few, few-ports, fewer}
-use Rattle.sums.proofs.Tabulate.{fewer-starts}
+use Rattle.compiler.proofs.Head.{low, place, holds, input-count}
 use Rattle.compiler.proofs.Inputs.{by-words, by-names, prepared}
+use Rattle.compiler.specs.Locating.{AllocatedTo}
 use Rattle.compiler.proofs.prepare.Goals as goal
+use Rattle.compiler.proofs.prepare.Goals.{in-V1, in-V2}
 
 pub offset_bounds-starts-k : goal.offset_bounds-starts-k
-offset_bounds-starts-k c =
-    let low : c.args.k < function_limit =
-    let l = few c.args.table.now (suc c.args.k) c.requires.accepted.0 in omega arith in
-    let l = low in omega arith
+offset_bounds-starts-k c = omega (arith, low c.args.table.now c.args.k c.requires.accepted.0)
 
 pub bounds-starts-k : goal.bounds-starts-k
-bounds-starts-k c =
-    let low : c.args.k < function_limit =
-    let l = few c.args.table.now (suc c.args.k) c.requires.accepted.0 in omega arith in
-    low
+bounds-starts-k c = omega (arith, low c.args.table.now c.args.k c.requires.accepted.0)
 
 pub overflow_add-p : goal.overflow_add-p
-overflow_add-p c =
-    let place : get_or c.args.starts.now c.args.k 0 ≡ place_of c.args.table.now c.args.k =
-    c.requires.accepted.1.places c.args.k (omega arith) in
-    let was_read : ReadsFunction c.args.table.now (place_of c.args.table.now c.args.k) =
-    c.requires.accepted.1.reads c.args.k (omega arith) in
-    let holds : Holds c.args.table.now (place_of c.args.table.now c.args.k) =
-    function-holds c.args.table.now (place_of c.args.table.now c.args.k) was_read in
-    omega (arith, place, holds.head)
+overflow_add-p c = omega (arith, place c.requires.accepted.1, (holds c.requires.accepted.1).head)
 
 pub bounds-table-p : goal.bounds-table-p
-bounds-table-p c =
-    let place : get_or c.args.starts.now c.args.k 0 ≡ place_of c.args.table.now c.args.k =
-    c.requires.accepted.1.places c.args.k (omega arith) in
-    let was_read : ReadsFunction c.args.table.now (place_of c.args.table.now c.args.k) =
-    c.requires.accepted.1.reads c.args.k (omega arith) in
-    let holds : Holds c.args.table.now (place_of c.args.table.now c.args.k) =
-    function-holds c.args.table.now (place_of c.args.table.now c.args.k) was_read in
-    omega (arith, place, holds.head)
+bounds-table-p c = omega (arith, place c.requires.accepted.1, (holds c.requires.accepted.1).head)
 
--- ---- needs
-pub allocate_functions-cell-requires : goal.allocate_functions-cell-requires
-allocate_functions-cell-requires c =
-    let k = c.args.k in
-    let (outs, order, locations, begins, ins) = c.requires.outs_len in
-    record {
-      accepted = (fewer c.args.table.now (suc k) k c.requires.accepted.0 (omega arith), fewer-starts _ _ _ _ c.requires.accepted.1 (omega arith), (λ j l. c.requires.accepted.2 j (omega arith)));
-      outs_len = (outs, order, locations, begins);
-    }
+pub allocate-requires : goal.allocate-requires
+allocate-requires c = let z : c.args.k + 1 ≡ suc c.args.k = omega arith in rw z (record { accepted = c.requires.accepted })
+
+pub overflow_add-k : goal.overflow_add-k
+overflow_add-k c = omega (arith, low c.args.table.now c.args.k c.requires.accepted.0)
 
 pub overflow_add-p-in-V1 : goal.overflow_add-p-in-V1
-overflow_add-p-in-V1 c =
-    let place : get_or c.args.starts.now c.args.k 0 ≡ place_of c.args.table.now c.args.k =
-    c.requires.accepted.1.places c.args.k (omega arith) in
-    let was_read : ReadsFunction c.args.table.now (place_of c.args.table.now c.args.k) =
-    c.requires.accepted.1.reads c.args.k (omega arith) in
-    let holds : Holds c.args.table.now (place_of c.args.table.now c.args.k) =
-    function-holds c.args.table.now (place_of c.args.table.now c.args.k) was_read in
-    omega (arith, place, holds.head)
+overflow_add-p-in-V1 c = omega (arith, place c.requires.accepted.1, (holds c.requires.accepted.1).head)
 
-pub input_places-requires : goal.input_places-requires
-input_places-requires c =
-    let place : get_or c.args.starts.now c.args.k 0 ≡ place_of c.args.table.now c.args.k =
-    c.requires.accepted.1.places c.args.k (omega arith) in
-    let was_read : ReadsFunction c.args.table.now (place_of c.args.table.now c.args.k) =
-    c.requires.accepted.1.reads c.args.k (omega arith) in
-    let holds : Holds c.args.table.now (place_of c.args.table.now c.args.k) =
-    function-holds c.args.table.now (place_of c.args.table.now c.args.k) was_read in
-    let input-count : let a = c.args in (c.wide-n.result ≡ input_count a.table.now (place_of a.table.now a.k)) × (c.wide-n.result ≤ port_limit) =
-    let s = c.args.table.now in
-    let e = c.wide-n.ensures.0 ∙ ap (λ (q : ℕ). byte s (q + 2)) place in
-    let f = (few-ports s (place_of s c.args.k) was_read).0 in
-    (e, omega arith) in
-    let (e, l) = input-count in
-    let p = place in
-    let h = holds.inputs in
+pub input_places-layout-requires : goal.input_places-layout-requires
+input_places-layout-requires c =
+    let b = c.requires.accepted.1 in
+    let (e, l) = input-count b c.from-n.ensures in
+    let p = place b in
+    let h = (holds b).inputs in
     (omega (arith, e, p, h), l)
 
-pub input_names-requires : goal.input_names-requires
-input_names-requires c =
-    let place : get_or c.args.starts.now c.args.k 0 ≡ place_of c.args.table.now c.args.k =
-    c.requires.accepted.1.places c.args.k (omega arith) in
-    let was_read : ReadsFunction c.args.table.now (place_of c.args.table.now c.args.k) =
-    c.requires.accepted.1.reads c.args.k (omega arith) in
-    let input-count : let a = c.args in (c.wide-n.result ≡ input_count a.table.now (place_of a.table.now a.k)) × (c.wide-n.result ≤ port_limit) =
-    let s = c.args.table.now in
-    let e = c.wide-n.ensures.0 ∙ ap (λ (q : ℕ). byte s (q + 2)) place in
-    let f = (few-ports s (place_of s c.args.k) was_read).0 in
-    (e, omega arith) in
-    input-count.1
+pub input_names-layout-requires : goal.input_names-layout-requires
+input_names-layout-requires c = (input-count c.requires.accepted.1 c.from-n.ensures).1
 
-pub returns-in-V1 : goal.returns-in-V1
-returns-in-V1 c =
-    let place : get_or c.args.starts.now c.args.k 0 ≡ place_of c.args.table.now c.args.k =
-    c.requires.accepted.1.places c.args.k (omega arith) in
-    let was_read : ReadsFunction c.args.table.now (place_of c.args.table.now c.args.k) =
-    c.requires.accepted.1.reads c.args.k (omega arith) in
-    let input-count : let a = c.args in (c.wide-n.result ≡ input_count a.table.now (place_of a.table.now a.k)) × (c.wide-n.result ≤ port_limit) =
-    let s = c.args.table.now in
-    let e = c.wide-n.ensures.0 ∙ ap (λ (q : ℕ). byte s (q + 2)) place in
-    let f = (few-ports s (place_of s c.args.k) was_read).0 in
-    (e, omega arith) in
-    prepared c.in-V1.is c.allocate_next.ensures
-    (by-words c.args.table.now c.args.k input-count.0 c.requires.outs_len.4 place c.input_places.ensures)
-
-pub returns-in-V2 : goal.returns-in-V2
-returns-in-V2 c =
-    let place : get_or c.args.starts.now c.args.k 0 ≡ place_of c.args.table.now c.args.k =
-    c.requires.accepted.1.places c.args.k (omega arith) in
-    let was_read : ReadsFunction c.args.table.now (place_of c.args.table.now c.args.k) =
-    c.requires.accepted.1.reads c.args.k (omega arith) in
-    let input-count : let a = c.args in (c.wide-n.result ≡ input_count a.table.now (place_of a.table.now a.k)) × (c.wide-n.result ≤ port_limit) =
-    let s = c.args.table.now in
-    let e = c.wide-n.ensures.0 ∙ ap (λ (q : ℕ). byte s (q + 2)) place in
-    let f = (few-ports s (place_of s c.args.k) was_read).0 in
-    (e, omega arith) in
-    prepared c.in-V2.is c.allocate_next.ensures
-    (by-names c.args.table.now c.args.k input-count.0 c.requires.outs_len.4 c.input_names.ensures)
+pub returns : goal.returns
+returns c =
+    let (accepted, started, held) = c.requires.accepted in
+    let z : suc c.args.k ≡ c.args.k + 1 = omega arith in
+    let all : AllocatedTo c.args.version c.args.table.now (suc c.args.k) c.allocate.new.layout c.allocate.result = rw z c.allocate.ensures in
+    let (n, l) = input-count started c.from-n.ensures in
+    elim c.match-version.branch [
+      | in-V1 w ↦ prepared w.in-V1.is all (by-words c.args.table.now c.args.k n (place started) (w.layout-is ∙ w.input_places-layout.ensures))
+      | in-V2 w ↦ prepared w.in-V2.is all (by-names c.args.table.now c.args.k n (w.layout-is ∙ w.input_names-layout.ensures))
+    ]

@@ -5,17 +5,18 @@ use Rattle.placement.proofs.place_all.Goals as goal
 pub loop-k-init : goal.loop-k-init
 loop-k-init c = going _ c.args.place.now _ _ _ _ _ c.place_inputs-high.ensures
 
+pub returns-in_err-place-clause-by_index : goal.returns-in_err-place-clause-by_index
+returns-in_err-place-clause-by_index c =
+    let (at, over, p) = c.in_err-place.ensures in
+    rw c.from_residual.ensures
+    (going-over _ c.args.place.now _ _ _ _ _ _ _ _ _ _ c.loop-k.invariant _ _ _ _ c.loop-k-test.true c.requires.2 c.from.ensures p _ _ c.place_inputs-high.ensures over)
+
 pub loop-k-preserved : goal.loop-k-preserved
 loop-k-preserved c =
     let few = c.requires.0 in
     let many = c.requires.1 in
-    going_next _ c.args.place.now _ _ _ _ _ _ _ _ _ _ c.loop-k.invariant _ _ _ _ c.loop-k-test.true c.requires.2 c.wide-w.ensures.0 c.place_one-at.ensures _
-    (omega arith) (omega (arith, c.if-at-w-le-WORD_LIMIT.true)) c.higher-high.ensures
-
-pub returns-else-at-w-le-WORD_LIMIT-clause-by_index : goal.returns-else-at-w-le-WORD_LIMIT-clause-by_index
-returns-else-at-w-le-WORD_LIMIT-clause-by_index c =
-    going-over _ c.args.place.now _ _ _ _ _ _ _ _ _ _ c.loop-k.invariant _ _ _ _ c.loop-k-test.true c.requires.2 c.wide-w.ensures.0 c.place_one-at.ensures _ _
-    c.place_inputs-high.ensures c.if-at-w-le-WORD_LIMIT.false
+    let (fits, high, p) = c.in_ok-place.ensures in
+    going_next _ c.args.place.now _ _ _ _ _ _ _ _ _ _ c.loop-k.invariant _ _ _ _ c.loop-k-test.true c.requires.2 c.from.ensures p _ (omega arith) fits high
 
 pub returns-clause-by_index : goal.returns-clause-by_index
 returns-clause-by_index c =

@@ -1,6 +1,11 @@
-use mathlib.Core.Path.{sym}
-use Rattle.ports.proofs.Laws.{no_row}
+use Rattle.std.proofs.Common.{ℕ, ◌∙◌, ap, sym, arith}
+use Rattle.ports.specs.Kinds.{kind_of}
+use Rattle.ports.specs.Ports.{ports_of}
+use Rattle.ports.proofs.Laws.{row_of, no_kind}
 use Rattle.ports.proofs.ports_of.Goals as goal
 
-pub returns-in_default : goal.returns-in_default
-returns-in_default c = sym (no_row c.args.kind c.in_default.in_default-own.rest)
+pub returns-then-at-lt-KIND_LIMIT : goal.returns-then-at-lt-KIND_LIMIT
+returns-then-at-lt-KIND_LIMIT c = row_of c.from-at.result ∙ ap (λ (k : ℕ). ports_of (kind_of k)) c.from-at.ensures
+
+pub returns-else-at-lt-KIND_LIMIT : goal.returns-else-at-lt-KIND_LIMIT
+returns-else-at-lt-KIND_LIMIT c = sym (no_kind c.args.kind (omega arith))

@@ -1,16 +1,12 @@
-use mathlib.Core.Path.{sym, ◌∙◌, subst}
-use Rattle.quetlapin.specs.Measures.{Finds}
-use Rattle.quetlapin.proofs.Choosing.{its-code, no_code}
+use Rattle.std.proofs.lemmas.Result.{err_from_is_err_and}
+use Rattle.quetlapin.specs.Measures.{code_count}
+use Rattle.quetlapin.proofs.Choosing.{count-refused, its-code}
 use Rattle.quetlapin.proofs.code_length.Goals as goal
 
-pub returns-then-within_limits : goal.returns-then-within_limits
-returns-then-within_limits c =
-    let a = c.args in
-    let found = subst (Finds a.table.now a.id c.find-found.new.starts c.find-found.new.words c.find-found.new.counts) c.in-At.is c.find-found.ensures in
-    its-code a.table.now a.id _ found.named _ found.sizes.sizes (sym c.within_limits.ensures ∙ c.if-within_limits.true)
+pub returns-in_err-found : goal.returns-in_err-found
+returns-in_err-found c =
+    let p = err_from_is_err_and c.from_residual.result c.from_residual.ensures.1 in
+    rw (p.1, p.2) (count-refused code_count c.args.table.now c.args.id c.in_err-found.ensures)
 
-pub returns-else-within_limits : goal.returns-else-within_limits
-returns-else-within_limits c =
-    let a = c.args in
-    let found = subst (Finds a.table.now a.id c.find-found.new.starts c.find-found.new.words c.find-found.new.counts) c.in-At.is c.find-found.ensures in
-    no_code a.table.now a.id _ found.named _ found.sizes.sizes (sym c.within_limits.ensures ∙ c.if-within_limits.false)
+pub returns : goal.returns
+returns c = let f = c.in_ok-found.ensures in rw c.then_some.ensures (its-code c.args.table.now c.args.id _ f.named _ f.sizes.sizes c.within_limits.result c.within_limits.ensures)

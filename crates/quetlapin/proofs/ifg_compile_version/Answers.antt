@@ -1,15 +1,10 @@
 -- `quetlapin::ifg_compile_version`: the compiler's answer as a number.
-use mathlib.Core.Path.{ap, ◌∙◌}
-use native.Mathlib.Omega.{arith}
-use Rattle.lowering.specs.Answers.{compiled}
-use Rattle.quetlapin.specs.Numbers.{of_compiled}
-use Rattle.quetlapin.proofs.Telling.{compiled-bounded, of-compiled, may-tell, told}
+use Rattle.std.proofs.Common.{arith}
+use Rattle.quetlapin.proofs.Telling.{compiled-bounded, may-tell, told}
 use Rattle.quetlapin.proofs.ifg_compile_version.Goals as goal
 
-pub compiled_number-requires : goal.compiled_number-requires
-compiled_number-requires c = may-tell (compiled-bounded _ (λ i. omega (arith, c.type_inv.table i)) _ _ _) (ap of_compiled c.compile.ensures.value ∙ of-compiled (compiled c.args.table.now c.args.id c.args.version c.args.code.now))
+pub tell-requires : goal.tell-requires
+tell-requires c = may-tell (compiled-bounded c.args.table.now (λ i. omega (arith, c.type_inv.table i)) c.args.id c.args.version c.args.code.now) c.compile.ensures.value
 
 pub returns-clause-told : goal.returns-clause-told
-returns-clause-told c =
-    told (compiled-bounded _ (λ i. omega (arith, c.type_inv.table i)) _ _ _) (ap of_compiled c.compile.ensures.value ∙ of-compiled (compiled c.args.table.now c.args.id c.args.version c.args.code.now))
-    c.compiled_number.ensures
+returns-clause-told c = told (compiled-bounded c.args.table.now (λ i. omega (arith, c.type_inv.table i)) c.args.id c.args.version c.args.code.now) c.compile.ensures.value c.tell.ensures

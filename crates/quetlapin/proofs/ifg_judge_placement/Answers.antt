@@ -1,22 +1,20 @@
 -- `quetlapin::ifg_judge_placement`: the judge's answer as a number.
-use mathlib.Core.Path.{ap, ◌∙◌}
 use native.Mathlib.Omega.{arith}
 use Rattle.base.specs.Outcome.{ok, fault}
 use Rattle.acceptance.proofs.Promised.{promised}
-use Rattle.quetlapin.specs.Numbers.{of_judgement}
-use Rattle.quetlapin.proofs.Telling.{judged-bounded, of-judgement, may-judge, judge-told, told_same}
+use Rattle.quetlapin.proofs.Telling.{judged-bounded, may-judge, judge-told, told_same}
 use Rattle.quetlapin.proofs.ifg_judge_placement.Goals as goal
 
-pub judgement_number-requires : goal.judgement_number-requires
-judgement_number-requires c =
+pub tell-requires : goal.tell-requires
+tell-requires c =
     let a = c.args in
-    may-judge (judged-bounded a.table.now (λ i. omega (arith, c.type_inv.table i)) a.id a.code.now a.numbers.now) (ap of_judgement c.judge_placement.ensures.value ∙ of-judgement _)
+    may-judge (judged-bounded a.table.now (λ i. omega (arith, c.type_inv.table i)) a.id a.code.now a.numbers.now) c.judge_placement.ensures.value
 
 pub returns-clause-told : goal.returns-clause-told
 returns-clause-told c =
     let a = c.args in
-    judge-told (judged-bounded a.table.now (λ i. omega (arith, c.type_inv.table i)) a.id a.code.now a.numbers.now) (ap of_judgement c.judge_placement.ensures.value ∙ of-judgement _)
-    c.judgement_number.ensures
+    judge-told (judged-bounded a.table.now (λ i. omega (arith, c.type_inv.table i)) a.id a.code.now a.numbers.now) c.judge_placement.ensures.value
+    c.tell.ensures
 
 pub returns-clause-promise : goal.returns-clause-promise
 returns-clause-promise c =

@@ -1,35 +1,35 @@
 -- `quetlapin::judge_placement`: the function is found, then its list is judged.
-use mathlib.Core.Path.{ap, ◌∙◌, subst}
-use native.Mathlib.Omega.{arith}
-use Rattle.validator.specs.Tests.{judgement_of}
-use Rattle.quetlapin.specs.Measures.{Readies}
+use Rattle.std.proofs.Common.{◌∙◌, arith}
+use Rattle.std.proofs.lemmas.Result.{err_from_is_err_and}
+use Rattle.quetlapin.proofs.Choosing.{compilable-refused}
+use Rattle.quetlapin.proofs.Compiling.{not_ready, ready}
 use Rattle.quetlapin.proofs.Proposing.{judged-found, judged-refused, judged-promised}
 use Rattle.quetlapin.proofs.judge_placement.Goals as goal
 
 pub judge_proposed-requires : goal.judge_proposed-requires
-judge_proposed-requires c =
-    let f = c.find_compilable-found in
-    (c.args.id, f.new.counts, subst (Readies c.args.table.now c.args.id f.new.starts f.new.words f.new.counts) c.in-At.is f.ensures)
+judge_proposed-requires c = (c.args.id, ready _ _ _ c.in_ok-found.ensures _ c.in_ok-check_limits.ensures)
 
-pub returns-in-At-clause-value : goal.returns-in-At-clause-value
-returns-in-At-clause-value c =
-    let a = c.args in
-    let f = c.find_compilable-found in
-    let ready = subst (Readies a.table.now a.id f.new.starts f.new.words f.new.counts) c.in-At.is f.ensures in
-    c.judge_proposed.ensures ∙ ap judgement_of (judged-found ready a.code.now a.numbers.now)
+pub returns-clause-value : goal.returns-clause-value
+returns-clause-value c = c.judge_proposed.ensures ∙ judged-found (ready _ _ _ c.in_ok-found.ensures _ c.in_ok-check_limits.ensures) c.args.code.now c.args.numbers.now
 
-pub returns-in-At-clause-promise : goal.returns-in-At-clause-promise
-returns-in-At-clause-promise c =
-    let a = c.args in
-    judged-promised a.table.now a.id a.code.now a.numbers.now (λ i. omega (arith, c.type_inv.table i)) (λ i. omega (arith, c.type_inv.code i)) (returns-in-At-clause-value c)
+pub returns-clause-promise : goal.returns-clause-promise
+returns-clause-promise c = let a = c.args in
+    judged-promised a.table.now a.id a.code.now a.numbers.now (λ i. omega (arith, c.type_inv.table i)) (λ i. omega (arith, c.type_inv.code i)) _ (returns-clause-value c)
 
-pub returns-in-Refused-clause-value : goal.returns-in-Refused-clause-value
-returns-in-Refused-clause-value c =
-    let a = c.args in
-    let f = c.find_compilable-found in
-    judged-refused a.table.now a.id a.code.now a.numbers.now (subst (Readies a.table.now a.id f.new.starts f.new.words f.new.counts) c.in-Refused.is f.ensures)
+pub returns-in_err-found-clause-value : goal.returns-in_err-found-clause-value
+returns-in_err-found-clause-value c =
+    let p = err_from_is_err_and c.from_residual.result c.from_residual.ensures.1 in
+    rw (p.1, p.2) (judged-refused c.args.table.now c.args.id c.args.code.now c.args.numbers.now (compilable-refused c.args.table.now c.args.id 1 _ _ c.in_err-found.ensures))
 
-pub returns-in-Refused-clause-promise : goal.returns-in-Refused-clause-promise
-returns-in-Refused-clause-promise c =
-    let a = c.args in
-    judged-promised a.table.now a.id a.code.now a.numbers.now (λ i. omega (arith, c.type_inv.table i)) (λ i. omega (arith, c.type_inv.code i)) (returns-in-Refused-clause-value c)
+pub returns-in_err-found-clause-promise : goal.returns-in_err-found-clause-promise
+returns-in_err-found-clause-promise c = let a = c.args in
+    judged-promised a.table.now a.id a.code.now a.numbers.now (λ i. omega (arith, c.type_inv.table i)) (λ i. omega (arith, c.type_inv.code i)) _ (returns-in_err-found-clause-value c)
+
+pub returns-in_err-check_limits-clause-value : goal.returns-in_err-check_limits-clause-value
+returns-in_err-check_limits-clause-value c =
+    let p = err_from_is_err_and c.from_residual-in_err-check_limits.result c.from_residual-in_err-check_limits.ensures.1 in
+    rw (p.1, p.2) (judged-refused c.args.table.now c.args.id c.args.code.now c.args.numbers.now (not_ready _ _ _ c.in_ok-found.ensures _ _ c.in_err-check_limits.ensures))
+
+pub returns-in_err-check_limits-clause-promise : goal.returns-in_err-check_limits-clause-promise
+returns-in_err-check_limits-clause-promise c = let a = c.args in
+    judged-promised a.table.now a.id a.code.now a.numbers.now (λ i. omega (arith, c.type_inv.table i)) (λ i. omega (arith, c.type_inv.code i)) _ (returns-in_err-check_limits-clause-value c)

@@ -1,10 +1,12 @@
-use mathlib.Core.Path.{◌∙◌, subst}
-use Rattle.quetlapin.specs.Measures.{Finds}
-use Rattle.quetlapin.proofs.Choosing.{its-operations}
+use Rattle.std.proofs.lemmas.Result.{err_from_is_err_and}
+use Rattle.quetlapin.specs.Measures.{operation_count}
+use Rattle.quetlapin.proofs.Choosing.{count-refused, its-operations}
 use Rattle.quetlapin.proofs.operations.Goals as goal
 
-pub returns-in-At : goal.returns-in-At
-returns-in-At c =
-    let a = c.args in
-    let found = subst (Finds a.table.now a.id c.find-found.new.starts c.find-found.new.words c.find-found.new.counts) c.in-At.is c.find-found.ensures in
-    c.up_to.ensures ∙ its-operations a.table.now a.id _ found.named _ found.sizes.sizes
+pub returns-in_err-found : goal.returns-in_err-found
+returns-in_err-found c =
+    let p = err_from_is_err_and c.from_residual.result c.from_residual.ensures.1 in
+    rw (p.1, p.2) (count-refused operation_count c.args.table.now c.args.id c.in_err-found.ensures)
+
+pub returns : goal.returns
+returns c = let f = c.in_ok-found.ensures in its-operations c.args.table.now c.args.id _ f.named _ f.sizes.sizes c.up_to.ensures

@@ -15,14 +15,15 @@ pub node_end-at-requires : goal.node_end-at-requires
 node_end-at-requires c = (pass-here c.loop-i.invariant.0 c.loop-i-test.true).reads
 
 pub loop-i-preserved : goal.loop-i-preserved
-loop-i-preserved c = let a = c.args in
-    let s = a.s.now in
+loop-i-preserved c =
+    let s = c.args.s.now in
     let l = c.loop-i in (
       pass_step l.invariant.0 c.loop-i-test.true c.node_end-at.ensures,
-      run_step l.invariant.1 (places-next s (left-next s a.count l.at c.node_end-at.result l.i c.loop-i-test.true c.node_end-at.ensures)) refl,
+      run_step l.invariant.1 (places-next s (left-next s c.args.count l.at c.node_end-at.result l.i c.loop-i-test.true c.node_end-at.ensures)) refl,
     )
 
 pub returns : goal.returns
-returns c = let a = c.args in
+returns c =
+    let a = c.args in
     let l = c.loop-i in
     run-done l.invariant.1 (ap places_of (left-none a.s.now a.count l.at l.i c.loop-i-test.false))

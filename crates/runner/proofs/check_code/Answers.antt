@@ -1,85 +1,72 @@
 -- `runner::check_code`, test by test, then by the version.
-use Prim.Native.Nat.{◌≤◌}
-use mathlib.Core.Path.{◌≡◌, sym, ap, ◌∙◌}
-use mathlib.Core.Bool.{true}
+use mathlib.Core.Path.{sym, ap, ◌∙◌}
 use native.Mathlib.Omega.{arith}
+use lib.Dec.{leb}
 use lib.ListN.{length}
-use borrow.Author.Tests.{not-true, not-false}
-use Rattle.base.specs.Bytes.{byte, u16, Bytes}
+use borrow.Author.Tests.{leb-true}
+use Rattle.base.proofs.Bools.{and-inv}
+use Rattle.base.specs.Bytes.{Bytes}
 use Rattle.bytecode.specs.declared.Version.TheVariants.{V1, V2}
 use Rattle.bytecode.specs.Code.{counts_fit, code_marked}
 use Rattle.runner.specs.declared.Counts.{Counts}
-use Rattle.runner.specs.Checks.{checked_of, header_counts, list_of}
-use Rattle.runner.proofs.Whole.{no_header, no-mark, over-limits, by-version, no-version}
+use Rattle.runner.specs.Checks.{checked_of, list_of}
+use Rattle.runner.proofs.Whole.{not-headed, over-limits, by-version, no-version}
 use Rattle.runner.proofs.Exact.{check-exact}
 use Rattle.runner.proofs.check_code.Goals as goal
 
-pub returns-then-s-lt-HEADER_LENGTH : goal.returns-then-s-lt-HEADER_LENGTH
-returns-then-s-lt-HEADER_LENGTH c =
+pub returns-then-not-is_headed : goal.returns-then-not-is_headed
+returns-then-not-is_headed c =
     let bytes : Bytes c.args.s.now = λ i. omega (arith, c.type_inv.s i) in
-    let whole =
-    check-exact c.args.s.now bytes (no_header c.args.s.now c.if-s-lt-HEADER_LENGTH.true) in
-    record { value = whole.0; exactly = whole.1 }
-
-pub returns-then-not-marked : goal.returns-then-not-marked
-returns-then-not-marked c =
-    let bytes : Bytes c.args.s.now = λ i. omega (arith, c.type_inv.s i) in
-    let whole =
-    check-exact c.args.s.now bytes (no-mark c.args.s.now c.if-s-lt-HEADER_LENGTH.false (sym c.marked.ensures ∙ not-true _ c.if-not-marked.true-raw)) in
+    let whole = check-exact c.args.s.now bytes (not-headed c.args.s.now (sym c.is_headed.ensures ∙ c.if-not-is_headed.true)) in
     record { value = whole.0; exactly = whole.1 }
 
 pub returns-then-not-counts_fit : goal.returns-then-not-counts_fit
 returns-then-not-counts_fit c =
+    let s = c.args.s.now in
     let bytes : Bytes c.args.s.now = λ i. omega (arith, c.type_inv.s i) in
-    let mark-is : code_marked c.args.s.now ≡ true = sym c.marked.ensures ∙ not-false _ c.if-not-marked.false-raw in
-    let counts-are : c.header_counts-counts.result ≡ header_counts c.args.s.now = c.header_counts-counts.ensures.0 in
+    let head = and-inv (leb 12 (length s)) (code_marked s) (sym c.is_headed.ensures ∙ c.if-not-is_headed.false) in
     let whole =
-    let limits-are : let s = c.args.s.now in counts_fit (byte s 5) (byte s 6) (u16 s 8) (u16 s 10) ≡ c.counts_fit.result = ap (λ (n : Counts). counts_fit n.arguments n.outputs n.instructions n.words) (sym counts-are)
-    ∙ sym c.counts_fit.ensures in
-    check-exact c.args.s.now bytes (over-limits c.args.s.now c.if-s-lt-HEADER_LENGTH.false mark-is (limits-are ∙ not-true _ c.if-not-counts_fit.true-raw)) in
+    check-exact s bytes (over-limits s (leb-true _ _ head.0) head.1
+    (ap (λ (n : Counts). counts_fit n.arguments n.outputs n.instructions n.words) (sym c.header_counts-counts.ensures.0) ∙ sym c.counts_fit.ensures
+    ∙ c.if-not-counts_fit.true)) in
     record { value = whole.0; exactly = whole.1 }
 
-pub returns-then-version-eq1 : goal.returns-then-version-eq1
-returns-then-version-eq1 c =
+pub returns-in-1 : goal.returns-in-1
+returns-in-1 c =
+    let s = c.args.s.now in
     let bytes : Bytes c.args.s.now = λ i. omega (arith, c.type_inv.s i) in
-    let mark-is : code_marked c.args.s.now ≡ true = sym c.marked.ensures ∙ not-false _ c.if-not-marked.false-raw in
-    let counts-are : c.header_counts-counts.result ≡ header_counts c.args.s.now = c.header_counts-counts.ensures.0 in
+    let head = and-inv (leb 12 (length s)) (code_marked s) (sym c.is_headed.ensures ∙ c.if-not-is_headed.false) in
     let whole =
-    let limits-are : let s = c.args.s.now in counts_fit (byte s 5) (byte s 6) (u16 s 8) (u16 s 10) ≡ c.counts_fit.result = ap (λ (n : Counts). counts_fit n.arguments n.outputs n.instructions n.words) (sym counts-are)
-    ∙ sym c.counts_fit.ensures in
-    let long-is : 12 ≤ length c.args.s.now = c.if-s-lt-HEADER_LENGTH.false in
-    let bytes-at : Bytes c.args.s.now = bytes in
-    let within-is : let s = c.args.s.now in counts_fit (byte s 5) (byte s 6) (u16 s 8) (u16 s 10) ≡ true = limits-are ∙ not-false _ c.if-not-counts_fit.false-raw in
-    check-exact c.args.s.now bytes-at
+    check-exact s bytes
     (c.check_sequential.ensures
-    ∙ ap (λ (n : Counts). checked_of (list_of V1 c.args.s.now n)) counts-are
-    ∙ by-version c.args.s.now long-is mark-is within-is V1 (sym c.u16_at-version.ensures.0 ∙ c.if-version-eq1.true)) in
+    ∙ ap (λ (n : Counts). checked_of (list_of V1 s n)) c.header_counts-counts.ensures.0
+    ∙ by-version s (leb-true _ _ head.0) head.1
+    (ap (λ (n : Counts). counts_fit n.arguments n.outputs n.instructions n.words) (sym c.header_counts-counts.ensures.0) ∙ sym c.counts_fit.ensures
+    ∙ c.if-not-counts_fit.false)
+    V1 (sym c.u16_at.ensures.0 ∙ c.in-1.is)) in
     record { value = whole.0; exactly = whole.1 }
 
-pub returns-then-version-eq2 : goal.returns-then-version-eq2
-returns-then-version-eq2 c =
+pub returns-in-2 : goal.returns-in-2
+returns-in-2 c =
+    let s = c.args.s.now in
     let bytes : Bytes c.args.s.now = λ i. omega (arith, c.type_inv.s i) in
-    let mark-is : code_marked c.args.s.now ≡ true = sym c.marked.ensures ∙ not-false _ c.if-not-marked.false-raw in
-    let counts-are : c.header_counts-counts.result ≡ header_counts c.args.s.now = c.header_counts-counts.ensures.0 in
+    let head = and-inv (leb 12 (length s)) (code_marked s) (sym c.is_headed.ensures ∙ c.if-not-is_headed.false) in
     let whole =
-    let limits-are : let s = c.args.s.now in counts_fit (byte s 5) (byte s 6) (u16 s 8) (u16 s 10) ≡ c.counts_fit.result = ap (λ (n : Counts). counts_fit n.arguments n.outputs n.instructions n.words) (sym counts-are)
-    ∙ sym c.counts_fit.ensures in
-    let long-is : 12 ≤ length c.args.s.now = c.if-s-lt-HEADER_LENGTH.false in
-    let bytes-at : Bytes c.args.s.now = bytes in
-    let within-is : let s = c.args.s.now in counts_fit (byte s 5) (byte s 6) (u16 s 8) (u16 s 10) ≡ true = limits-are ∙ not-false _ c.if-not-counts_fit.false-raw in
-    check-exact c.args.s.now bytes-at
+    check-exact s bytes
     (c.check_addressed.ensures
-    ∙ ap (λ (n : Counts). checked_of (list_of V2 c.args.s.now n)) counts-are
-    ∙ by-version c.args.s.now long-is mark-is within-is V2 (sym c.u16_at-version.ensures.0 ∙ c.if-version-eq2.true)) in
+    ∙ ap (λ (n : Counts). checked_of (list_of V2 s n)) c.header_counts-counts.ensures.0
+    ∙ by-version s (leb-true _ _ head.0) head.1
+    (ap (λ (n : Counts). counts_fit n.arguments n.outputs n.instructions n.words) (sym c.header_counts-counts.ensures.0) ∙ sym c.counts_fit.ensures
+    ∙ c.if-not-counts_fit.false)
+    V2 (sym c.u16_at.ensures.0 ∙ c.in-2.is)) in
     record { value = whole.0; exactly = whole.1 }
 
-pub returns : goal.returns
-returns c =
+pub returns-in_default : goal.returns-in_default
+returns-in_default c =
+    let s = c.args.s.now in
     let bytes : Bytes c.args.s.now = λ i. omega (arith, c.type_inv.s i) in
-    let mark-is : code_marked c.args.s.now ≡ true = sym c.marked.ensures ∙ not-false _ c.if-not-marked.false-raw in
-    let long-is : 12 ≤ length c.args.s.now = c.if-s-lt-HEADER_LENGTH.false in
-    let bytes-at : Bytes c.args.s.now = bytes in
+    let head = and-inv (leb 12 (length s)) (code_marked s) (sym c.is_headed.ensures ∙ c.if-not-is_headed.false) in
     let whole =
-    check-exact c.args.s.now bytes-at
-    (no-version c.args.s.now long-is mark-is (λ q. c.if-version-eq1.false (c.u16_at-version.ensures.0 ∙ q)) (λ q. c.if-version-eq2.false (c.u16_at-version.ensures.0 ∙ q))) in
+    check-exact s bytes
+    (no-version s (leb-true _ _ head.0) head.1 (λ q. omega (arith, q, c.u16_at.ensures.0)) (λ q. omega (arith, q, c.u16_at.ensures.0))) in
     record { value = whole.0; exactly = whole.1 }

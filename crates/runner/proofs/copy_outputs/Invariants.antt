@@ -1,4 +1,3 @@
-use Prim.Native.Nat.{◌-◌, ◌≤◌}
 use mathlib.Core.Path.{◌≡◌}
 use mathlib.Core.List.{map}
 use lib.ListN.{length}
@@ -8,7 +7,4 @@ use Rattle.bytecode.specs.Code.{addresses}
 use Rattle.runner.proofs.copy_outputs.Given as goal
 
 abbrev pub invariant-loop-i : goal.invariant-loop-i
-invariant-loop-i l = (l.out ≡ sets l.initial.out 0 (map (word_at l.work) (addresses l.i l.s l.from))) × (l.i ≤ l.count) × (length l.out ≡ length l.initial.out)
-
-abbrev pub decreases-loop-i : goal.decreases-loop-i
-decreases-loop-i l = l.count - l.i
+invariant-loop-i l = (l.out ≡ sets l.initial.out 0 (map (word_at l.work) (addresses l.i l.s l.from))) × (length l.out ≡ length l.initial.out)

@@ -1,16 +1,17 @@
--- `runner::outputs_less`: what is left decides.
-use mathlib.Core.Path.{sym, ◌∙◌}
-use native.Mathlib.Omega.{arith}
+-- `runner::outputs_less`: every address is below the word count.
+use Rattle.std.proofs.Common.{rules, refl, arith, ◌+◌, ◌*◌, ◌∙◌}
+use borrow.Author.Tests.{tests}
+use Rattle.std.proofs.lemmas.Iterator.{YieldsList-from_range}
+use Rattle.std.proofs.lemmas.Iterator.Search.{all_from_yields_List}
+use lib.Dec.{ltb}
 use Rattle.base.specs.Bytes.{u16}
-use borrow.Author.Tests.{lt-ltb}
-use Rattle.runner.proofs.Walks.{on}
+use Rattle.runner.proofs.Walks.{walk-all}
 use Rattle.runner.proofs.Checking.{outputs-walk}
 use Rattle.runner.proofs.outputs_less.Goals as goal
 
-pub loop-left-preserved : goal.loop-left-preserved
-loop-left-preserved c =
+pub returns : goal.returns
+returns c =
     let a = c.args in
-    let l = c.loop-left in (
-      sym (on (outputs-walk a.s.now a.words) l.left l.at c.loop-left-test.true (lt-ltb (u16 a.s.now l.at) a.words (omega (arith, c.if-words-u16_at.false, c.u16_at.ensures)))) ∙ l.invariant.0,
-      omega (arith, l.invariant.1, c.loop-left-test.true),
-    )
+    all_from_yields_List (λ i. ltb (u16 a.s.now (a.from + 2 * i)) a.words) _ _ _ c.all.ensures.ran (YieldsList-from_range 0 a.count a.count refl (omega arith))
+    (λ x b q k. search (rules, tests))
+    ∙ walk-all (outputs-walk a.s.now a.words) a.count a.from

@@ -1,9 +1,8 @@
-use Rattle.std.proofs.Common.{◌-◌, ◌≤◌}
-use Rattle.sums.proofs.Tabulate.{SumsIn}
+use Rattle.std.proofs.Common.{◌≡◌}
+use lib.Seq.{sets}
+use Rattle.sums.specs.Position.{tabulate}
+use Rattle.sums.specs.Capped.{capped_sums}
 use Rattle.sums.proofs.all_sums.Given as goal
 
 abbrev pub invariant-loop-k : goal.invariant-loop-k
-invariant-loop-k l = (l.k ≤ l.n) × SumsIn l.t l.initial.ops l.initial.words l.initial.counts l.initial.sizes l.ops l.words l.counts l.sizes l.k
-
-abbrev pub decreases-loop-k : goal.decreases-loop-k
-decreases-loop-k l = l.n - l.k
+invariant-loop-k l = l.sums ≡ sets l.initial.sums 0 (tabulate (capped_sums l.table) l.k)

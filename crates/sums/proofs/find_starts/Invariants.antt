@@ -1,9 +1,5 @@
-use Rattle.std.proofs.Common.{◌-◌}
 use Rattle.sums.proofs.Nodes.{Starting}
 use Rattle.sums.proofs.find_starts.Given as goal
 
-abbrev pub invariant-loop-k : goal.invariant-loop-k
-invariant-loop-k l = Starting l.t l.n l.initial.starts l.starts l.p l.k
-
-abbrev pub decreases-loop-k : goal.decreases-loop-k
-decreases-loop-k l = l.n - l.k
+abbrev pub invariant-loop-start : goal.invariant-loop-start
+invariant-loop-start l = Starting l.table l.n l.initial.start-items l.start-items l.p l.start-index

@@ -1,16 +1,15 @@
-use Rattle.std.proofs.Common.{sym, ap, ◌∙◌}
+use Rattle.std.proofs.Common.{◌≡◌, ap, ◌∙◌, rules}
+use Rattle.std.specs.Option.{option_map}
+use Rattle.reader.specs.declared.Found.{Found}
 use Rattle.reader.specs.Find.{function_found}
-use Rattle.sums.specs.Position.{found_at, position_of}
 use Rattle.sums.proofs.Tabulate.{starts-read, starts-known}
+use Rattle.sums.proofs.Positions.{position-found}
 use Rattle.sums.proofs.position_of.Goals as goal
 
-pub find_function-found-requires : goal.find_function-found-requires
-find_function-found-requires c = (starts-read c.requires.1, c.requires.0)
+pub find_function-requires : goal.find_function-requires
+find_function-requires c = (starts-read c.requires.1, c.requires.0)
 
-pub returns-in-At : goal.returns-in-At
-unfolding position_of
-returns-in-At c = ap found_at (sym c.in-At.is ∙ (c.find_function-found.ensures ∙ ap (function_found c.args.c) (starts-known c.requires.1)))
-
-pub returns-in-Nothing : goal.returns-in-Nothing
-unfolding position_of
-returns-in-Nothing c = ap found_at (sym c.in-Nothing.is ∙ (c.find_function-found.ensures ∙ ap (function_found c.args.c) (starts-known c.requires.1)))
+pub returns : goal.returns
+returns c =
+    let index : c.map.result ≡ option_map (λ (x : Found). x.index) c.find_function.result = search rules in
+    position-found c.args.table.now c.args.k c.args.id c.requires.0 (c.find_function.ensures ∙ ap (function_found c.args.id) (starts-known c.requires.1)) index

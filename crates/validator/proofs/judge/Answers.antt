@@ -1,8 +1,8 @@
 use Rattle.std.proofs.Common.{ℕ, ◌≤◌, ◌+◌, ◌-◌, refl, ap, sym, ◌∙◌, subst, arith, length}
-use Rattle.ports.specs.Kinds.{kind_of}
-use Rattle.ports.specs.Ports.{ports_of}
-use Rattle.ports.proofs.Laws.{row_of}
 use Rattle.base.specs.Limits.{header_length, word_limit}
+use Rattle.base.specs.Outcome.{fault}
+use Rattle.base.specs.Refusals.{number}
+use Rattle.base.specs.declared.refusal.Refusal.{Refusal}
 use Rattle.validator.specs.Tests.{results_from}
 use Rattle.validator.proofs.Following.{kept, going-first, listable, arguments-room, kind-there, number-there, steppable, wrong, going_next, outputs-there, refused, accepted, outputs-wrong}
 use Rattle.validator.proofs.judge.Goals as goal
@@ -29,11 +29,8 @@ loop-p-init c =
       going-first c.requires a.index.now a.words.now refl refl c.index_list.ensures.0 c.index_list.ensures.1 c.note_arguments.ensures,
     )
 
-pub byte_at-k-requires : goal.byte_at-k-requires
-byte_at-k-requires c = let (n, w, j, g) = c.loop-p.invariant in (kind-there j g c.loop-p-test.true).0
-
-pub bounds-rows-k : goal.bounds-rows-k
-bounds-rows-k c = let (n, w, j, g) = c.loop-p.invariant in omega (arith, (kind-there j g c.loop-p-test.true).1, c.byte_at-k.ensures.0)
+pub bounds-code-at : goal.bounds-code-at
+bounds-code-at c = let (n, w, j, g) = c.loop-p.invariant in (kind-there j g c.loop-p-test.true).0
 
 pub bounds-numbers-p : goal.bounds-numbers-p
 bounds-numbers-p c = let (n, w, j, g) = c.loop-p.invariant in number-there j g c.loop-p-test.true
@@ -41,17 +38,17 @@ bounds-numbers-p c = let (n, w, j, g) = c.loop-p.invariant in number-there j g c
 pub carry_out-requires : goal.carry_out-requires
 carry_out-requires c =
     let (n, w, j, g) = c.loop-p.invariant in
-    steppable j g c.loop-p-test.true c.wide16-m.ensures.0 (row_of c.byte_at-k.result ∙ ap (λ (k : ℕ). ports_of (kind_of k)) c.byte_at-k.ensures.0)
+    steppable j g c.loop-p-test.true c.from-m.ensures c.ports_of-row.ensures
 
 pub returns-in_default : goal.returns-in_default
 returns-in_default c =
     let (n, w, j, g) = c.loop-p.invariant in
-    refused j (wrong j g c.loop-p-test.true c.wide16-m.ensures.0 c.carry_out.ensures c.in_default.is)
+    ap (λ (r : Refusal). fault (number r.fault) r.place) c.at.ensures ∙ refused j (wrong j g c.loop-p-test.true c.from-m.ensures c.carry_out.ensures c.in_default.is)
 
 pub loop-p-preserved : goal.loop-p-preserved
 loop-p-preserved c =
     let (n, w, j, g) = c.loop-p.invariant in
-    (n, w, j, going_next j g c.loop-p-test.true c.wide16-m.ensures.0 c.carry_out.ensures _ c.in-Next.is)
+    (n, w, j, going_next j g c.loop-p-test.true c.from-m.ensures c.carry_out.ensures _ c.in-Some.is)
 
 pub overflow_sub-ours : goal.overflow_sub-ours
 overflow_sub-ours c = let (n, w, j, g) = c.loop-p.invariant in (outputs-there j).0
@@ -73,4 +70,4 @@ returns-then-held_outputs c =
 pub returns-else-held_outputs : goal.returns-else-held_outputs
 returns-else-held_outputs c =
     let (n, w, j, g) = c.loop-p.invariant in
-    outputs-wrong j g (omega (arith, c.loop-p-test.false)) c.held_outputs.ensures c.if-held_outputs.false
+    ap (λ (r : Refusal). fault (number r.fault) r.place) c.at-else-held_outputs.ensures ∙ outputs-wrong j g (omega (arith, c.loop-p-test.false)) c.held_outputs.ensures c.if-held_outputs.false

@@ -1,4 +1,4 @@
-use Rattle.std.proofs.Common.{ℕ, ◌-◌}
+use Rattle.std.proofs.Common.{ℕ}
 use Rattle.validator.specs.Tests.{Judgeable}
 use Rattle.validator.proofs.Following.{Going}
 use Rattle.validator.proofs.judge.Given as goal
@@ -6,6 +6,3 @@ use Rattle.validator.proofs.judge.Given as goal
 abbrev pub invariant-loop-p : goal.invariant-loop-p
 invariant-loop-p l =
     (n : ℕ) × (w : ℕ) × (j : Judgeable l.ours l.code l.numbers l.arguments l.outputs l.count l.total n w) × Going j l.p l.at l.index l.words
-
-abbrev pub decreases-loop-p : goal.decreases-loop-p
-decreases-loop-p l = l.count - l.p

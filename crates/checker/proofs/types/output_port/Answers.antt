@@ -1,68 +1,27 @@
-use Prim.Native.Nat.{ℕ, ◌+◌, ◌*◌}
-use mathlib.Core.Path.{ap, sym, ◌∙◌}
-use native.Mathlib.Omega.{arith}
+use Rattle.std.proofs.Common.{Some, ℕ, ◌+◌, ◌*◌, ap, sym, ◌∙◌, arith}
 use Rattle.base.specs.Bytes.{byte}
-use Rattle.reader.proofs.Passed.{Holds, function-holds}
-use Rattle.checker.specs.declared.PortType.{PortType}
+use Rattle.reader.proofs.Passed.{function-holds}
 use Rattle.checker.specs.Answers.{port_of}
 use Rattle.checker.proofs.AtPorts.{output-port-at, output-port-none}
 use Rattle.checker.proofs.types.output_port.Goals as goal
 
 pub overflow_add-at : goal.overflow_add-at
-overflow_add-at c =
-    let head : Holds c.args.s.now c.args.at =
-    function-holds c.args.s.now c.args.at c.requires in
-    omega (arith, head.head)
+overflow_add-at c = let h = function-holds c.args.s.now c.args.at c.requires in omega (arith, h.head)
 
 pub bounds-s-at : goal.bounds-s-at
-bounds-s-at c =
-    let head : Holds c.args.s.now c.args.at =
-    function-holds c.args.s.now c.args.at c.requires in
-    omega (arith, head.head)
-
-pub overflow_add-result : goal.overflow_add-result
-overflow_add-result c =
-    let head : Holds c.args.s.now c.args.at =
-    function-holds c.args.s.now c.args.at c.requires in
-    omega (arith, head.head)
-
-pub overflow_add-at-then-port-s : goal.overflow_add-at-then-port-s
-overflow_add-at-then-port-s c =
-    let head : Holds c.args.s.now c.args.at =
-    function-holds c.args.s.now c.args.at c.requires in
-    omega (arith, head.head)
-
-pub bounds-s-at-then-port-s : goal.bounds-s-at-then-port-s
-bounds-s-at-then-port-s c =
-    let head : Holds c.args.s.now c.args.at =
-    function-holds c.args.s.now c.args.at c.requires in
-    omega (arith, head.head)
-
-pub overflow_add-result-then-port-s : goal.overflow_add-result-then-port-s
-overflow_add-result-then-port-s c =
-    let head : Holds c.args.s.now c.args.at =
-    function-holds c.args.s.now c.args.at c.requires in
-    omega (arith, head.inputs, c.wide.ensures.0)
-
-pub overflow_add-result-then-port-s-2 : goal.overflow_add-result-then-port-s-2
-overflow_add-result-then-port-s-2 c =
-    let head : Holds c.args.s.now c.args.at =
-    function-holds c.args.s.now c.args.at c.requires in
-    omega (arith, head.outputs, c.wide.ensures.0, c.wide-then-port-s.ensures.0, c.if-port-s.true)
+bounds-s-at c = let h = function-holds c.args.s.now c.args.at c.requires in omega (arith, h.head)
 
 pub bounds-s-at-then-port-s-2 : goal.bounds-s-at-then-port-s-2
 bounds-s-at-then-port-s-2 c =
-    let head : Holds c.args.s.now c.args.at =
-    function-holds c.args.s.now c.args.at c.requires in
-    omega (arith, head.outputs, c.wide.ensures.0, c.wide-then-port-s.ensures.0, c.if-port-s.true)
+    let h = function-holds c.args.s.now c.args.at c.requires in
+    omega (arith, h.outputs, c.from.ensures, c.from-then-port-s.ensures, c.if-port-s.true)
 
 pub returns-then-port-s : goal.returns-then-port-s
 returns-then-port-s c =
     let a = c.args in
-    ap (λ (n : ℕ). PortType.Is (byte a.s.now (a.at + 6 + n + 4 * c.wide-then-port-s.result))) c.wide.ensures.0
-    ∙ ap (λ (n : ℕ). PortType.Is (byte a.s.now (a.at + 6 + byte a.s.now (a.at + 2) + 4 * n))) c.wide-then-port-s.ensures.0
+    ap (λ (n : ℕ). Some (byte a.s.now (a.at + 6 + n + 4 * c.from-then-port-s.result))) c.from.ensures
+    ∙ ap (λ (n : ℕ). Some (byte a.s.now (a.at + 6 + byte a.s.now (a.at + 2) + 4 * n))) c.from-then-port-s.ensures
     ∙ ap port_of (sym (output-port-at a.s.now a.at a.port c.if-port-s.true))
 
 pub returns-else-port-s : goal.returns-else-port-s
-returns-else-port-s c =
-    let a = c.args in ap port_of (sym (output-port-none a.s.now a.at a.port c.if-port-s.false))
+returns-else-port-s c = let a = c.args in ap port_of (sym (output-port-none a.s.now a.at a.port c.if-port-s.false))

@@ -1,10 +1,12 @@
-use Prim.Native.Nat.{◌+◌, ◌-◌, ◌≤◌}
-use Rattle.compiler.specs.Emit.{addresses_in}
+use Prim.Native.Nat.{◌-◌}
+use mathlib.Core.List.{map}
+use lib.ListN.{length, drop}
+use Rattle.compiler.specs.Emit.{address_of}
 use Rattle.compiler.proofs.Filling.{Noting}
 use Rattle.compiler.proofs.addresses.note_operands.Given as goal
 
-abbrev pub invariant-loop-j : goal.invariant-loop-j
-invariant-loop-j l = (l.j ≤ l.n) × Noting l.initial.place l.x (addresses_in l.locations l.ins l.first l.cell l.n) l.place (addresses_in l.locations l.ins l.first (l.cell + l.j) (l.n - l.j))
+abbrev pub invariant-loop-e : goal.invariant-loop-e
+invariant-loop-e l = Noting l.initial.place l.x (map (address_of l.frame.ins.now l.frame.first) l.cells) l.place (map (address_of l.frame.ins.now l.frame.first) (drop l.e-index l.cells))
 
-abbrev pub decreases-loop-j : goal.decreases-loop-j
-decreases-loop-j l = l.n - l.j
+abbrev pub decreases-loop-e : goal.decreases-loop-e
+decreases-loop-e l = length l.cells - l.e-index

@@ -1,21 +1,27 @@
-use Prim.Native.Nat.{◌+◌}
-use mathlib.Core.Path.{refl, ◌∙◌, ap}
+use Prim.Native.Nat.{ℕ, ◌+◌}
+use mathlib.Core.Path.{ap, ◌∙◌, sym}
+use mathlib.Core.List.{List, ◌∷◌, map}
 use native.Mathlib.Omega.{arith}
-use Rattle.base.proofs.Stores.{run_more, run-done, none_left}
+use lib.ListN.{drop}
+use Rattle.base.proofs.Stores.{run_more, run-done}
 use Rattle.base.specs.Bytes.{all_bytes, bytes_of}
-use Rattle.compiler.specs.Emit.{address_of, addresses_in}
-use Rattle.compiler.proofs.Filling.{addresses-next}
+use Rattle.compiler.specs.Emit.{address_of}
+use Rattle.compiler.specs.Whole.{relocate_by}
+use Rattle.compiler.proofs.Filling.{map-next, map-none}
 use Rattle.compiler.proofs.addresses.operands.Goals as goal
 
 pub loop-j-preserved : goal.loop-j-preserved
 loop-j-preserved c =
     let a = c.args in
-    let e = addresses-next a.locations.now a.ins.now a.first a.cell c.loop-j-test.true (c.address-a.ensures ∙ ap (address_of a.ins.now a.first) c.wide16.ensures.0) in
-    (omega arith, run_more c.loop-j.invariant.1 (bytes_of 2 c.address-a.result) (ap (all_bytes 2) e) c.put16.ensures (omega arith))
+    let f = address_of a.frame.ins.now a.frame.first in
+    let g = relocate_by a.pass a.place.now in
+    let e =
+    ap (map g) (map-next f a.cells.now c.loop-j-test.true c.address.ensures)
+    ∙ ap (λ (x : ℕ). x ∷ map g (map f (drop (c.loop-j.j + 1) a.cells.now))) (sym c.written.ensures) in
+    run_more c.loop-j.invariant (bytes_of 2 c.written.result) (ap (all_bytes 2) e) c.put16.ensures (omega arith)
 
 pub returns : goal.returns
-unfolding addresses_in
 returns c =
     let a = c.args in
-    let l = c.loop-j in
-    run-done l.invariant.1 (none_left (λ m. all_bytes 2 (addresses_in a.locations.now a.ins.now a.first (a.cell + l.j) m)) c.loop-j-test.false refl)
+    run-done c.loop-j.invariant
+    (ap (λ (xs : List ℕ). all_bytes 2 (map (relocate_by a.pass a.place.now) xs)) (map-none (address_of a.frame.ins.now a.frame.first) a.cells.now c.loop-j-test.false))

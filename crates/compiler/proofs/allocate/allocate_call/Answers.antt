@@ -11,21 +11,21 @@ loop-q-init c =
     let a = c.args in
     let z : a.count - 0 ≡ a.count = omega arith in
     let y : 8 * a.g + 0 ≡ 8 * a.g = omega arith in
-    (omega arith, run-start (omega arith) (rw (z, y)))
+    run-start (omega arith) (rw (z, y))
 
 pub rebase-requires : goal.rebase-requires
 rebase-requires c =
-    let (g, count, locations, i, d) = c.requires in (locations, omega arith, c.wide16-e.ensures.1)
+    let (g, count, locations, i, d) = c.requires in (locations, omega arith, omega (arith, c.from-e.ensures))
 
 pub loop-q-preserved : goal.loop-q-preserved
 loop-q-preserved c =
     let a = c.args in
-    let e = c.rebase.ensures ∙ ap (rebased_code a.locations.now a.cell a.n a.d) c.wide16-e.ensures.0 in
-    (omega arith, run_step c.loop-q.invariant.1 (rebase-next a.outs.now a.locations.now a.cell a.n a.d (8 * a.g) c.loop-q-test.true e) (omega arith))
+    let e = c.rebase.ensures ∙ ap (rebased_code a.layout.now.locations a.cell a.n a.d) c.from-e.ensures in
+    run_step c.loop-q.invariant (rebase-next a.layout.now.outs a.layout.now.locations a.cell a.n a.d (8 * a.g) c.loop-q-test.true e) (omega arith)
 
 pub returns : goal.returns
 unfolding rebased_codes
 returns c =
     let a = c.args in
     let l = c.loop-q in
-    run-done l.invariant.1 (none_left (rebased_codes a.outs.now a.locations.now a.cell a.n a.d (8 * a.g + l.q)) c.loop-q-test.false refl)
+    run-done l.invariant (none_left (rebased_codes a.layout.now.outs a.layout.now.locations a.cell a.n a.d (8 * a.g + l.q)) c.loop-q-test.false refl)

@@ -49,22 +49,22 @@ pub overflow_add-q-2 : goal.overflow_add-q-2
 overflow_add-q-2 c =
     let holds : Holds c.args.table.now c.args.p =
     function-holds c.args.table.now c.args.p c.requires.1 in
-    omega (arith, holds.inputs, c.wide.ensures.0)
+    omega (arith, holds.inputs, c.from.ensures)
 
 pub target-requires : goal.target-requires
 target-requires c =
     let holds : Holds c.args.table.now c.args.p =
     function-holds c.args.table.now c.args.p c.requires.1 in
-    let few : let n = c.wide-count.result in
+    let few : let n = c.from-count.result in
     let a = c.args in
-    (n ≡ output_count a.table.now a.p) × (n ≤ 8) × (a.p + 6 + c.wide.result ≡ outputs_place a.table.now a.p) =
-    let x = c.wide-count.ensures.0 in
+    (n ≡ output_count a.table.now a.p) × (n ≤ 8) × (a.p + 6 + c.from.result ≡ outputs_place a.table.now a.p) =
+    let x = c.from-count.ensures in
     let y = (few-ports c.args.table.now c.args.p c.requires.1).1 in
-    (x, omega arith, ap (λ (m : ℕ). c.args.p + 6 + m) c.wide.ensures.0) in
+    (x, omega arith, ap (λ (m : ℕ). c.args.p + 6 + m) c.from.ensures) in
     let near : (c.loop-j.q + 4 ≤ length c.args.table.now) × (c.loop-j.j < 8) =
     let (x, y, z) = few in
     let t = c.loop-j-test.true in
-    let q = c.loop-j.invariant.1 in
+    let q = c.loop-j.invariant.0 in
     let h = holds.outputs in
     (omega (arith, x, z, t, q, h), omega arith) in
     let (z, j) = near in let (k, p, few, read) = c.requires in (few, omega arith, read)
@@ -73,16 +73,16 @@ pub bounds-table-q : goal.bounds-table-q
 bounds-table-q c =
     let holds : Holds c.args.table.now c.args.p =
     function-holds c.args.table.now c.args.p c.requires.1 in
-    let few : let n = c.wide-count.result in
+    let few : let n = c.from-count.result in
     let a = c.args in
-    (n ≡ output_count a.table.now a.p) × (n ≤ 8) × (a.p + 6 + c.wide.result ≡ outputs_place a.table.now a.p) =
-    let x = c.wide-count.ensures.0 in
+    (n ≡ output_count a.table.now a.p) × (n ≤ 8) × (a.p + 6 + c.from.result ≡ outputs_place a.table.now a.p) =
+    let x = c.from-count.ensures in
     let y = (few-ports c.args.table.now c.args.p c.requires.1).1 in
-    (x, omega arith, ap (λ (m : ℕ). c.args.p + 6 + m) c.wide.ensures.0) in
+    (x, omega arith, ap (λ (m : ℕ). c.args.p + 6 + m) c.from.ensures) in
     let near : (c.loop-j.q + 4 ≤ length c.args.table.now) × (c.loop-j.j < 8) =
     let (x, y, z) = few in
     let t = c.loop-j-test.true in
-    let q = c.loop-j.invariant.1 in
+    let q = c.loop-j.invariant.0 in
     let h = holds.outputs in
     (omega (arith, x, z, t, q, h), omega arith) in
     let (z, j) = near in omega arith
@@ -91,16 +91,16 @@ pub bounds-outs-k : goal.bounds-outs-k
 bounds-outs-k c =
     let holds : Holds c.args.table.now c.args.p =
     function-holds c.args.table.now c.args.p c.requires.1 in
-    let few : let n = c.wide-count.result in
+    let few : let n = c.from-count.result in
     let a = c.args in
-    (n ≡ output_count a.table.now a.p) × (n ≤ 8) × (a.p + 6 + c.wide.result ≡ outputs_place a.table.now a.p) =
-    let x = c.wide-count.ensures.0 in
+    (n ≡ output_count a.table.now a.p) × (n ≤ 8) × (a.p + 6 + c.from.result ≡ outputs_place a.table.now a.p) =
+    let x = c.from-count.ensures in
     let y = (few-ports c.args.table.now c.args.p c.requires.1).1 in
-    (x, omega arith, ap (λ (m : ℕ). c.args.p + 6 + m) c.wide.ensures.0) in
+    (x, omega arith, ap (λ (m : ℕ). c.args.p + 6 + m) c.from.ensures) in
     let near : (c.loop-j.q + 4 ≤ length c.args.table.now) × (c.loop-j.j < 8) =
     let (x, y, z) = few in
     let t = c.loop-j-test.true in
-    let q = c.loop-j.invariant.1 in
+    let q = c.loop-j.invariant.0 in
     let h = holds.outputs in
     (omega (arith, x, z, t, q, h), omega arith) in
     let outs-fit : port_limit * c.args.k + c.loop-j.j < 128 =
@@ -114,23 +114,23 @@ loop-j-preserved c =
     let s = a.table.now in
     let ns = nodes_at a.n s a.at in
     let e =
-    c.location_of.ensures ∙ ap (λ (v : ℕ). port_code a.allocated.now v c.wide-port.result) (c.wide16-v.ensures.0 ∙ c.target.ensures)
-    ∙ ap (port_code a.allocated.now (Resolve.target ns (some (reference s (l.q + 1))))) c.wide-port.ensures.0 in
-    (omega arith, omega arith, run_step l.invariant.2 (outputs-next s a.allocated.now ns l.q c.loop-j-test.true e) (omega arith))
+    c.location_of.ensures ∙ ap (λ (v : ℕ). port_code a.allocated.now v c.from-port.result) (c.from-v.ensures ∙ c.target.ensures)
+    ∙ ap (port_code a.allocated.now (Resolve.target ns (some (reference s (l.q + 1))))) c.from-port.ensures in
+    (omega arith, run_step l.invariant.1 (outputs-next s a.allocated.now ns l.q c.loop-j-test.true e) (omega arith))
 
 pub returns : goal.returns
 unfolding output_codes
 returns c =
-    let few : let n = c.wide-count.result in
+    let few : let n = c.from-count.result in
     let a = c.args in
-    (n ≡ output_count a.table.now a.p) × (n ≤ 8) × (a.p + 6 + c.wide.result ≡ outputs_place a.table.now a.p) =
-    let x = c.wide-count.ensures.0 in
+    (n ≡ output_count a.table.now a.p) × (n ≤ 8) × (a.p + 6 + c.from.result ≡ outputs_place a.table.now a.p) =
+    let x = c.from-count.ensures in
     let y = (few-ports c.args.table.now c.args.p c.requires.1).1 in
-    (x, omega arith, ap (λ (m : ℕ). c.args.p + 6 + m) c.wide.ensures.0) in
+    (x, omega arith, ap (λ (m : ℕ). c.args.p + 6 + m) c.from.ensures) in
     let a = c.args in
     let s = a.table.now in
     let ns = nodes_at a.n s a.at in
     let (x, y, z) = few in
-    run-done c.loop-j.invariant.2 (none_left (λ m. output_codes s a.allocated.now ns m c.loop-j.q) c.loop-j-test.false refl)
-    ∙ ap (λ (m : ℕ). sets a.outs.now (8 * a.k) (output_codes s a.allocated.now ns m (a.p + 6 + c.wide.result))) x
+    run-done c.loop-j.invariant.1 (none_left (λ m. output_codes s a.allocated.now ns m c.loop-j.q) c.loop-j-test.false refl)
+    ∙ ap (λ (m : ℕ). sets a.outs.now (8 * a.k) (output_codes s a.allocated.now ns m (a.p + 6 + c.from.result))) x
     ∙ ap (λ (q : ℕ). sets a.outs.now (8 * a.k) (output_codes s a.allocated.now ns (output_count s a.p) q)) z

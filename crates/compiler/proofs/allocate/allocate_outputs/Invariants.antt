@@ -1,4 +1,4 @@
-use Prim.Native.Nat.{◌+◌, ◌-◌, ◌*◌, ◌≤◌}
+use Prim.Native.Nat.{◌+◌, ◌-◌, ◌*◌}
 use mathlib.Core.Path.{◌≡◌}
 use Rattle.base.proofs.Stores.{Run}
 use Rattle.reader.specs.Layout.{nodes_at}
@@ -6,7 +6,4 @@ use Rattle.compiler.specs.Locating.{output_codes}
 use Rattle.compiler.proofs.allocate.allocate_outputs.Given as goal
 
 abbrev pub invariant-loop-j : goal.invariant-loop-j
-invariant-loop-j l = (l.j ≤ l.count) × (l.q ≡ l.initial.q + 4 * l.j) × Run (output_codes l.table l.allocated (nodes_at l.n l.table l.at) l.count l.initial.q) l.initial.outs (8 * l.k) l.outs (8 * l.k + l.j) (output_codes l.table l.allocated (nodes_at l.n l.table l.at) (l.count - l.j) l.q)
-
-abbrev pub decreases-loop-j : goal.decreases-loop-j
-decreases-loop-j l = l.count - l.j
+invariant-loop-j l = (l.q ≡ l.initial.q + 4 * l.j) × Run (output_codes l.table l.allocated (nodes_at l.n l.table l.at) l.count l.initial.q) l.initial.outs (8 * l.k) l.outs (8 * l.k + l.j) (output_codes l.table l.allocated (nodes_at l.n l.table l.at) (l.count - l.j) l.q)

@@ -1,7 +1,6 @@
-use Prim.Native.Nat.{ℕ, ◌<◌}
+use Prim.Native.Nat.{ℕ}
 use mathlib.Core.Path.{◌≡◌, sym, ap, ◌∙◌}
 use native.Mathlib.Omega.{arith}
-use lib.ListN.{length}
 use Rattle.base.specs.Bytes.{u16}
 use Rattle.reader.specs.Layout.{nodes_at}
 use Rattle.reader.proofs.Passed.{nodes-named}
@@ -20,28 +19,20 @@ returns-then-id-eq0 c =
 
 pub overflow_cast-result : goal.overflow_cast-result
 overflow_cast-result c =
-    let index : let a = c.args in
-    let i = index_of c.u16_at-id.result (nodes_at a.n a.table.now a.at) in
-    (c.in-At.i ≡ i) × (i < length (nodes_at a.n a.table.now a.at)) =
     let a = c.args in
-    found-index c.u16_at-id.result (nodes_at a.n a.table.now a.at) c.in-At.i _ (c.in-At.ensures) in
-    let (x, y) = index in
-    let z = length-nodes c.args.n c.args.table.now c.args.at in
+    let (x, y) = found-index c.u16_at-id.result (nodes_at a.n a.table.now a.at) c.in-Some.found c.in-Some.ensures in
+    let z = length-nodes a.n a.table.now a.at in
     let n = c.requires.0 in
     omega arith
 
-pub returns-in-At : goal.returns-in-At
-returns-in-At c =
-    let index : let a = c.args in
-    let i = index_of c.u16_at-id.result (nodes_at a.n a.table.now a.at) in
-    (c.in-At.i ≡ i) × (i < length (nodes_at a.n a.table.now a.at)) =
+pub returns-in-Some : goal.returns-in-Some
+returns-in-Some c =
     let a = c.args in
-    found-index c.u16_at-id.result (nodes_at a.n a.table.now a.at) c.in-At.i _ (c.in-At.ensures) in
-    let a = c.args in
-    index.0 ∙ ap (λ (i : ℕ). index_of i (nodes_at a.n a.table.now a.at)) c.u16_at-id.ensures.0
+    (found-index c.u16_at-id.result (nodes_at a.n a.table.now a.at) c.in-Some.found c.in-Some.ensures).0
+    ∙ ap (λ (i : ℕ). index_of i (nodes_at a.n a.table.now a.at)) c.u16_at-id.ensures.0
 
-pub returns-in-Nothing : goal.returns-in-Nothing
-returns-in-Nothing c =
+pub returns-in-None : goal.returns-in-None
+returns-in-None c =
     let a = c.args in
     let ns = nodes_at a.n a.table.now a.at in
-    sym (ap (λ (v : ℕ). index_of v ns) (sym c.u16_at-id.ensures.0) ∙ none-index c.u16_at-id.result ns (c.in-Nothing.ensures))
+    sym (ap (λ (v : ℕ). index_of v ns) (sym c.u16_at-id.ensures.0) ∙ none-index c.u16_at-id.result ns c.in-None.ensures)

@@ -14,4 +14,4 @@ loop-j-preserved c =
     let h = c.loop-j in
     let x = b.a + h.j in
     let e = c.put16.ensures ∙ ap (sets h.code (b.at + 2 * h.j)) (address-bytes x) in
-    (omega arith, run_more h.invariant.1 (bytes_of 2 x) (ap (all_bytes 2) (span-next b.a c.loop-j-test.true)) e (omega arith))
+    run_more h.invariant (bytes_of 2 x) (ap (all_bytes 2) (span-next b.a c.loop-j-test.true)) e (omega arith)

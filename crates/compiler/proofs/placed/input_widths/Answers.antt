@@ -13,11 +13,9 @@ loop-j-preserved c =
     let a = c.args in
     let l = c.loop-j in
     let s = a.table.now in
-    let y : a.at + l.j + 1 ≡ a.at + (l.j + 1) = omega arith in (
-      omega arith,
-      run_step l.invariant.1
-          (ap (map width) (types-next 1 s (a.at + l.j) c.loop-j-test.true)
-          ∙ ap (λ (x : ℕ). x ∷ map width (types_by 1 (a.n - (l.j + 1)) s (a.at + l.j + 1))) (sym c.width.ensures.value)
-          ∙ ap (λ (q : ℕ). c.width.result ∷ map width (types_by 1 (a.n - (l.j + 1)) s q)) y)
-          refl,
-    )
+    let y : a.at + l.j + 1 ≡ a.at + (l.j + 1) = omega arith in
+    run_step l.invariant
+    (ap (map width) (types-next 1 s (a.at + l.j) c.loop-j-test.true)
+    ∙ ap (λ (x : ℕ). x ∷ map width (types_by 1 (a.n - (l.j + 1)) s (a.at + l.j + 1))) (sym c.width.ensures.value)
+    ∙ ap (λ (q : ℕ). c.width.result ∷ map width (types_by 1 (a.n - (l.j + 1)) s q)) y)
+    refl

@@ -1,86 +1,67 @@
-use mathlib.Core.Path.{◌≡◌, refl, sym, ap, ◌∙◌}
-use Prim.Native.Nat.{ℕ}
-use native.Mathlib.Omega.{arith}
-use Rattle.base.specs.Outcome.{fault}
+use Rattle.std.proofs.Common.{◌≡◌, refl, sym, ap, ◌∙◌, arith}
+use Rattle.std.proofs.lemmas.Result.{err_from_is_err_and}
+use Rattle.base.specs.Outcome.{ok}
 use Rattle.bytecode.specs.declared.Version.TheVariants.{V2}
-use Rattle.lowering.specs.Answers.{compiled}
-use Rattle.compiler.proofs.Texts.{extent-words}
-use Rattle.quetlapin.specs.declared.Compiled.{Compiled}
 use Rattle.quetlapin.specs.Compiling.{answer_of, code_after}
-use Rattle.quetlapin.specs.Measures.{chosen_at}
-use Rattle.quetlapin.proofs.Choosing.{compilable-refused, over-operations, over-placed, within-placed}
-use Rattle.quetlapin.proofs.Compiling.{refused, too_long, written, extent-over, sizes-low, placed-length, measured-placed}
+use Rattle.quetlapin.proofs.Choosing.{compilable-refused, within-placed}
+use Rattle.quetlapin.proofs.Compiling.{refused, written, few-there, too_many, sizes-low, placed-length, measured-placed}
 use Rattle.quetlapin.proofs.reusing.compile_reusing.Goals as goal
 
--- too many operations
-many : (c : goal.Then-sizes-gt-OPERATION_LIMIT) → compiled c.args.table.now c.args.id 2 c.args.code.now ≡ fault 15 0
-many c = refused c.args.table.now c.args.id 2 c.args.code.now 15 0 (over-operations c.args.table.now c.args.id c.in-At.k c.in-At.ensures.named c.in-At.sizes c.in-At.ensures.sizes.sizes 2 V2 refl c.if-sizes-gt-OPERATION_LIMIT.true)
+pub returns-in_err-found-clause-value : goal.returns-in_err-found-clause-value
+returns-in_err-found-clause-value c =
+    let p = err_from_is_err_and c.from_residual.result c.from_residual.ensures.1 in
+    rw (p.1, p.2) (sym (ap answer_of (refused c.args.table.now c.args.id 2 c.args.code.now _ _ (compilable-refused c.args.table.now c.args.id 2 _ _ c.in_err-found.ensures))))
 
-pub returns-then-sizes-gt-OPERATION_LIMIT-clause-value : goal.returns-then-sizes-gt-OPERATION_LIMIT-clause-value
-returns-then-sizes-gt-OPERATION_LIMIT-clause-value c = sym (ap answer_of (many c))
+pub returns-in_err-found-clause-code_after : goal.returns-in_err-found-clause-code_after
+returns-in_err-found-clause-code_after c = sym (ap (code_after c.args.code.now) (refused c.args.table.now c.args.id 2 c.args.code.now _ _ (compilable-refused c.args.table.now c.args.id 2 _ _ c.in_err-found.ensures)))
 
-pub returns-then-sizes-gt-OPERATION_LIMIT-clause-code_after : goal.returns-then-sizes-gt-OPERATION_LIMIT-clause-code_after
-returns-then-sizes-gt-OPERATION_LIMIT-clause-code_after c = sym (ap (code_after c.args.code.now) (many c))
+pub returns-in_err-check_operations-clause-value : goal.returns-in_err-check_operations-clause-value
+returns-in_err-check_operations-clause-value c =
+    let p = err_from_is_err_and c.from_residual-in_err-check_operations.result c.from_residual-in_err-check_operations.ensures.1 in
+    rw (p.1, p.2) (sym (ap answer_of (refused c.args.table.now c.args.id 2 c.args.code.now _ _ (too_many _ _ _ c.in_ok-found.ensures 2 V2 _ _ refl c.in_err-check_operations.ensures))))
 
-pub lay_out-extent-requires-clause-measured : goal.lay_out-extent-requires-clause-measured
-lay_out-extent-requires-clause-measured c = measured-placed _ _ _ _ _ _ _ c.in-At.ensures c.if-sizes-gt-OPERATION_LIMIT.false
+pub returns-in_err-check_operations-clause-code_after : goal.returns-in_err-check_operations-clause-code_after
+returns-in_err-check_operations-clause-code_after c = sym (ap (code_after c.args.code.now) (refused c.args.table.now c.args.id 2 c.args.code.now _ _ (too_many _ _ _ c.in_ok-found.ensures 2 V2 _ _ refl c.in_err-check_operations.ensures)))
 
-pub placed_length-length-requires : goal.placed_length-length-requires
-placed_length-length-requires c = sizes-low _ _ _ _ _ _ _ c.in-At.ensures c.if-sizes-gt-OPERATION_LIMIT.false
+pub returns-in_err-words-clause-value : goal.returns-in_err-words-clause-value
+returns-in_err-words-clause-value c =
+    let p = err_from_is_err_and c.from_residual-in_err-words.result c.from_residual-in_err-words.ensures.1 in
+    rw (p.1, p.2) (sym (ap answer_of (c.in_err-words.ensures c.args.id c.in_ok-found.ensures.named c.args.code.now refl)))
 
--- the buffer is too short
-short : (c : goal.Then-code-length) → compiled c.args.table.now c.args.id 2 c.args.code.now ≡ fault 17 0
-short c =
-    let w = extent-words _ _ (sym c.in-Words.is ∙ c.lay_out-extent.ensures.places.extent) in
-    let q = c.placed_length-length.ensures ∙ placed-length _ _ _ _ _ _ _ c.in-At.ensures c.if-sizes-gt-OPERATION_LIMIT.false in
-    let l = c.if-code-length.true in
-    too_long c.args.table.now c.args.id 2 c.args.code.now V2 (chosen_at c.args.table.now c.in-At.k) (within-placed c.args.table.now c.args.id c.in-At.k c.in-At.ensures.named c.in-At.sizes c.in-At.ensures.sizes.sizes c.if-sizes-gt-OPERATION_LIMIT.false w.1) (omega arith)
+pub returns-in_err-words-clause-code_after : goal.returns-in_err-words-clause-code_after
+returns-in_err-words-clause-code_after c = sym (ap (code_after c.args.code.now) (c.in_err-words.ensures c.args.id c.in_ok-found.ensures.named c.args.code.now refl))
 
-pub returns-then-code-length-clause-value : goal.returns-then-code-length-clause-value
-returns-then-code-length-clause-value c = sym (ap answer_of (short c))
+pub lay_out-requires : goal.lay_out-requires
+lay_out-requires c = ((c.args.id, c.in_ok-found.ensures), few-there c.in_ok-found.found.sizes _ c.in_ok-check_operations.ensures, refl)
 
-pub returns-then-code-length-clause-code_after : goal.returns-then-code-length-clause-code_after
-returns-then-code-length-clause-code_after c = sym (ap (code_after c.args.code.now) (short c))
+pub compile_placed-requires-clause-accepted : goal.compile_placed-requires-clause-accepted
+compile_placed-requires-clause-accepted c = let f = c.in_ok-found.ensures in (f.accepted, f.places, c.in_ok-words.ensures.0)
 
 pub compile_placed-requires-clause-measured : goal.compile_placed-requires-clause-measured
 compile_placed-requires-clause-measured c =
-    let w = extent-words _ _ (sym c.in-Words.is ∙ c.lay_out-extent.ensures.places.extent) in
-    let q = c.placed_length-length.ensures ∙ placed-length _ _ _ _ _ _ _ c.in-At.ensures c.if-sizes-gt-OPERATION_LIMIT.false in
-    let l = c.if-code-length.false in
-    (measured-placed _ _ _ _ _ _ _ c.in-At.ensures c.if-sizes-gt-OPERATION_LIMIT.false, omega arith, omega arith)
+    let f = c.in_ok-found.ensures in
+    let few = few-there c.in_ok-found.found.sizes _ c.in_ok-check_operations.ensures in
+    let w = c.in_ok-words.ensures in
+    let q = placed-length _ _ _ f few in
+    (measured-placed _ _ _ f few, w.2, omega (arith, q, w.3))
 
-pub returns-else-code-length-clause-value : goal.returns-else-code-length-clause-value
-returns-else-code-length-clause-value c =
-    let w = extent-words _ _ (sym c.in-Words.is ∙ c.lay_out-extent.ensures.places.extent) in
-    let q = c.placed_length-length.ensures ∙ placed-length _ _ _ _ _ _ _ c.in-At.ensures c.if-sizes-gt-OPERATION_LIMIT.false in
-    let l = c.if-code-length.false in
-    let e = written c.args.table.now c.args.id 2 c.args.code.now V2 (chosen_at c.args.table.now c.in-At.k) (within-placed c.args.table.now c.args.id c.in-At.k c.in-At.ensures.named c.in-At.sizes c.in-At.ensures.sizes.sizes c.if-sizes-gt-OPERATION_LIMIT.false w.1) (omega arith) in
-    ap (λ (n : ℕ). Compiled.Length n) (c.placed_length-length.ensures ∙ placed-length _ _ _ _ _ _ _ c.in-At.ensures c.if-sizes-gt-OPERATION_LIMIT.false) ∙ sym (ap answer_of e)
+pub placed_length-requires : goal.placed_length-requires
+placed_length-requires c = sizes-low _ _ _ c.in_ok-found.ensures (few-there c.in_ok-found.found.sizes _ c.in_ok-check_operations.ensures)
 
-pub returns-else-code-length-clause-code_after : goal.returns-else-code-length-clause-code_after
-returns-else-code-length-clause-code_after c =
-    let w = extent-words _ _ (sym c.in-Words.is ∙ c.lay_out-extent.ensures.places.extent) in
-    let q = c.placed_length-length.ensures ∙ placed-length _ _ _ _ _ _ _ c.in-At.ensures c.if-sizes-gt-OPERATION_LIMIT.false in
-    let l = c.if-code-length.false in
-    let e = written c.args.table.now c.args.id 2 c.args.code.now V2 (chosen_at c.args.table.now c.in-At.k) (within-placed c.args.table.now c.args.id c.in-At.k c.in-At.ensures.named c.in-At.sizes c.in-At.ensures.sizes.sizes c.if-sizes-gt-OPERATION_LIMIT.false w.1) (omega arith) in
-    c.compile_placed.ensures ∙ sym (ap (code_after c.args.code.now) e)
+pub returns-clause-value : goal.returns-clause-value
+returns-clause-value c =
+    let f = c.in_ok-found.ensures in
+    let few = few-there c.in_ok-found.found.sizes _ c.in_ok-check_operations.ensures in
+    let w = c.in_ok-words.ensures in
+    let q = placed-length _ _ _ f few in
+    let can = within-placed c.args.table.now c.args.id _ f.named _ f.sizes.sizes few (omega (arith, w.1, w.2)) in
+    ap ok (c.placed_length.ensures ∙ q) ∙ sym (ap answer_of (written c.args.table.now c.args.id 2 c.args.code.now V2 _ can (omega (arith, q, w.3))))
 
--- too many words
-wide : (c : goal.In-Over) → compiled c.args.table.now c.args.id 2 c.args.code.now ≡ fault 16 0
-wide c = refused c.args.table.now c.args.id 2 c.args.code.now 16 0 (over-placed c.args.table.now c.args.id c.in-At.k c.in-At.ensures.named c.in-At.sizes c.in-At.ensures.sizes.sizes c.if-sizes-gt-OPERATION_LIMIT.false (extent-over _ (sym c.in-Over.is ∙ c.lay_out-extent.ensures.places.extent)))
-
-pub returns-in-Over-clause-value : goal.returns-in-Over-clause-value
-returns-in-Over-clause-value c = sym (ap answer_of (wide c))
-
-pub returns-in-Over-clause-code_after : goal.returns-in-Over-clause-code_after
-returns-in-Over-clause-code_after c = sym (ap (code_after c.args.code.now) (wide c))
-
--- the table or the id is refused
-none_found : (c : goal.In-Refused) → compiled c.args.table.now c.args.id 2 c.args.code.now ≡ fault c.in-Refused.number c.in-Refused.place
-none_found c = refused c.args.table.now c.args.id 2 c.args.code.now _ _ (compilable-refused c.args.table.now c.args.id 2 _ _ c.in-Refused.ensures)
-
-pub returns-in-Refused-clause-value : goal.returns-in-Refused-clause-value
-returns-in-Refused-clause-value c = sym (ap answer_of (none_found c))
-
-pub returns-in-Refused-clause-code_after : goal.returns-in-Refused-clause-code_after
-returns-in-Refused-clause-code_after c = sym (ap (code_after c.args.code.now) (none_found c))
+pub returns-clause-code_after : goal.returns-clause-code_after
+returns-clause-code_after c =
+    let f = c.in_ok-found.ensures in
+    let few = few-there c.in_ok-found.found.sizes _ c.in_ok-check_operations.ensures in
+    let w = c.in_ok-words.ensures in
+    let q = placed-length _ _ _ f few in
+    let can = within-placed c.args.table.now c.args.id _ f.named _ f.sizes.sizes few (omega (arith, w.1, w.2)) in
+    c.compile_placed.ensures ∙ sym (ap (code_after c.args.code.now) (written c.args.table.now c.args.id 2 c.args.code.now V2 _ can (omega (arith, q, w.3))))

@@ -1,47 +1,53 @@
-use mathlib.Core.Path.{◌≡◌, sym, ap, ◌∙◌}
-use Prim.Native.Nat.{ℕ}
-use native.Mathlib.Omega.{arith}
+use Rattle.std.proofs.Common.{◌≡◌, refl, sym, ap, ◌∙◌, arith}
+use Rattle.std.proofs.lemmas.Result.{err_from_is_err_and}
+use Rattle.base.specs.Outcome.{ok}
 use Rattle.bytecode.specs.declared.Version.TheVariants.{V1}
-use Rattle.lowering.specs.Answers.{compiled}
-use Rattle.base.specs.Outcome.{fault}
-use Rattle.quetlapin.specs.declared.Compiled.{Compiled}
 use Rattle.quetlapin.specs.Compiling.{answer_of, code_after}
-use Rattle.quetlapin.specs.Measures.{chosen_at}
-use Rattle.quetlapin.proofs.Compiling.{refused, too_long, written, code_is, words_are, measured}
+use Rattle.quetlapin.proofs.Choosing.{compilable-refused}
+use Rattle.quetlapin.proofs.Compiling.{refused, written, not_ready, ready, room-there, no-room, code_is, words_are, measured}
 use Rattle.quetlapin.proofs.sequential.compile_sequential.Goals as goal
 
--- the buffer is too short
-pub returns-then-code-size : goal.returns-then-code-size
-returns-then-code-size c =
-    let q = code_is _ _ _ _ _ _ _ c.in-At.ensures in
-    let l = c.if-code-size.true in
-    let short : compiled c.args.table.now c.args.id 1 c.args.code.now ≡ fault 17 0 =
-    too_long c.args.table.now c.args.id 1 c.args.code.now V1 (chosen_at c.args.table.now c.in-At.k) c.in-At.ensures.compilable (omega arith) in
-    record { value = sym (ap answer_of short); code_after = sym (ap (code_after c.args.code.now) short) }
+pub returns-in_err-found-clause-value : goal.returns-in_err-found-clause-value
+returns-in_err-found-clause-value c =
+    let p = err_from_is_err_and c.from_residual.result c.from_residual.ensures.1 in
+    rw (p.1, p.2) (sym (ap answer_of (refused c.args.table.now c.args.id 1 c.args.code.now _ _ (compilable-refused c.args.table.now c.args.id 1 _ _ c.in_err-found.ensures))))
+
+pub returns-in_err-found-clause-code_after : goal.returns-in_err-found-clause-code_after
+returns-in_err-found-clause-code_after c = sym (ap (code_after c.args.code.now) (refused c.args.table.now c.args.id 1 c.args.code.now _ _ (compilable-refused c.args.table.now c.args.id 1 _ _ c.in_err-found.ensures)))
+
+pub returns-in_err-check_limits-clause-value : goal.returns-in_err-check_limits-clause-value
+returns-in_err-check_limits-clause-value c =
+    let p = err_from_is_err_and c.from_residual-in_err-check_limits.result c.from_residual-in_err-check_limits.ensures.1 in
+    rw (p.1, p.2) (sym (ap answer_of (refused c.args.table.now c.args.id 1 c.args.code.now _ _ (not_ready _ _ _ c.in_ok-found.ensures _ _ c.in_err-check_limits.ensures))))
+
+pub returns-in_err-check_limits-clause-code_after : goal.returns-in_err-check_limits-clause-code_after
+returns-in_err-check_limits-clause-code_after c = sym (ap (code_after c.args.code.now) (refused c.args.table.now c.args.id 1 c.args.code.now _ _ (not_ready _ _ _ c.in_ok-found.ensures _ _ c.in_err-check_limits.ensures)))
+
+pub returns-in_err-check_room-clause-value : goal.returns-in_err-check_room-clause-value
+returns-in_err-check_room-clause-value c =
+    let p = err_from_is_err_and c.from_residual-in_err-check_room.result c.from_residual-in_err-check_room.ensures.1 in
+    rw (p.1, p.2) (sym (ap answer_of (no-room _ _ _ (ready _ _ _ c.in_ok-found.ensures _ c.in_ok-check_limits.ensures) c.args.code.now _ _ c.in_err-check_room.ensures)))
+
+pub returns-in_err-check_room-clause-code_after : goal.returns-in_err-check_room-clause-code_after
+returns-in_err-check_room-clause-code_after c = sym (ap (code_after c.args.code.now) (no-room _ _ _ (ready _ _ _ c.in_ok-found.ensures _ c.in_ok-check_limits.ensures) c.args.code.now _ _ c.in_err-check_room.ensures))
 
 pub compile-requires-clause-measured : goal.compile-requires-clause-measured
 compile-requires-clause-measured c =
-    let r = c.in-At.ensures in
-    let q = code_is _ _ _ _ _ _ _ r in
-    let l = c.if-code-size.false in
-    (measured _ _ _ _ _ _ _ r, words_are _ _ _ _ _ _ _ r, r.few_words, omega arith)
+    let r = ready _ _ _ c.in_ok-found.ensures _ c.in_ok-check_limits.ensures in
+    let l = room-there c.in_ok-found.found.sizes _ _ c.in_ok-check_room.ensures in
+    let q = code_is _ _ _ r in
+    (measured _ _ _ r, words_are _ _ _ r, r.few_words, omega (arith, q, l))
 
-pub returns-else-code-size-clause-value : goal.returns-else-code-size-clause-value
-returns-else-code-size-clause-value c =
-    let q = code_is _ _ _ _ _ _ _ c.in-At.ensures in
-    let fits = c.if-code-size.false in
-    let e = written c.args.table.now c.args.id 1 c.args.code.now V1 (chosen_at c.args.table.now c.in-At.k) c.in-At.ensures.compilable (omega arith) in
-    ap (λ (n : ℕ). Compiled.Length n) (code_is _ _ _ _ _ _ _ c.in-At.ensures) ∙ sym (ap answer_of e)
+pub returns-clause-value : goal.returns-clause-value
+returns-clause-value c =
+    let r = ready _ _ _ c.in_ok-found.ensures _ c.in_ok-check_limits.ensures in
+    let l = room-there c.in_ok-found.found.sizes _ _ c.in_ok-check_room.ensures in
+    let q = code_is _ _ _ r in
+    ap ok q ∙ sym (ap answer_of (written c.args.table.now c.args.id 1 c.args.code.now V1 _ r.compilable (omega (arith, q, l))))
 
-pub returns-else-code-size-clause-code_after : goal.returns-else-code-size-clause-code_after
-returns-else-code-size-clause-code_after c =
-    let q = code_is _ _ _ _ _ _ _ c.in-At.ensures in
-    let room = c.if-code-size.false in
-    let e = written c.args.table.now c.args.id 1 c.args.code.now V1 (chosen_at c.args.table.now c.in-At.k) c.in-At.ensures.compilable (omega arith) in
-    c.compile.ensures ∙ sym (ap (code_after c.args.code.now) e)
-
-pub returns-in-Refused-clause-value : goal.returns-in-Refused-clause-value
-returns-in-Refused-clause-value c = sym (ap answer_of (refused c.args.table.now c.args.id 1 c.args.code.now _ _ c.in-Refused.ensures))
-
-pub returns-in-Refused-clause-code_after : goal.returns-in-Refused-clause-code_after
-returns-in-Refused-clause-code_after c = sym (ap (code_after c.args.code.now) (refused c.args.table.now c.args.id 1 c.args.code.now _ _ c.in-Refused.ensures))
+pub returns-clause-code_after : goal.returns-clause-code_after
+returns-clause-code_after c =
+    let r = ready _ _ _ c.in_ok-found.ensures _ c.in_ok-check_limits.ensures in
+    let l = room-there c.in_ok-found.found.sizes _ _ c.in_ok-check_room.ensures in
+    let q = code_is _ _ _ r in
+    c.compile.ensures ∙ sym (ap (code_after c.args.code.now) (written c.args.table.now c.args.id 1 c.args.code.now V1 _ r.compilable (omega (arith, q, l))))

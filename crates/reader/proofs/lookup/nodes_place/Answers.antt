@@ -13,7 +13,7 @@ pub bounds-s-at : goal.bounds-s-at
 bounds-s-at c = omega (arith, (function-holds c.args.s.now c.args.at c.requires).head)
 
 pub overflow_add-result-2 : goal.overflow_add-result-2
-overflow_add-result-2 c = omega (arith, (function-holds c.args.s.now c.args.at c.requires).inputs, c.wide.ensures.0)
+overflow_add-result-2 c = omega (arith, (function-holds c.args.s.now c.args.at c.requires).inputs, c.from.ensures)
 
 pub overflow_add-at-2 : goal.overflow_add-at-2
 overflow_add-at-2 c = omega (arith, (function-holds c.args.s.now c.args.at c.requires).head)
@@ -23,6 +23,6 @@ bounds-s-at-2 c = omega (arith, (function-holds c.args.s.now c.args.at c.require
 
 pub overflow_add-result-3 : goal.overflow_add-result-3
 overflow_add-result-3 c = let a = c.args in
-    let e : a.at + 6 + c.wide.result + 4 * c.wide-2.result ≡ nodes_place a.s.now a.at =
-    ap (λ (n : ℕ). a.at + 6 + n + 4 * c.wide-2.result) c.wide.ensures.0 ∙ ap (λ (n : ℕ). a.at + 6 + input_count a.s.now a.at + 4 * n) c.wide-2.ensures.0 in
+    let e : a.at + 6 + c.from.result + 4 * c.from-2.result ≡ nodes_place a.s.now a.at =
+    ap (λ (n : ℕ). a.at + 6 + n + 4 * c.from-2.result) c.from.ensures ∙ ap (λ (n : ℕ). a.at + 6 + input_count a.s.now a.at + 4 * n) c.from-2.ensures in
     omega (arith, (function-holds c.args.s.now c.args.at c.requires).outputs, e)

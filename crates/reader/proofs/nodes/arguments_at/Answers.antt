@@ -10,5 +10,5 @@ bounds-s-at c = omega (arith, (callee-fits c.args.s.now c.args.at c.requires.0 c
 
 pub returns : goal.returns
 returns c = let a = c.args in
-    let e : record { first = a.at + 4 + 3; count = c.wide.result } ≡ arguments_at a.s.now a.at = ap (λ (n : ℕ). record { first = a.at + 4 + 3; count = n }) c.wide.ensures.0 in
+    let e : record { first = a.at + 4 + 3; count = c.from.result } ≡ arguments_at a.s.now a.at = ap (λ (n : ℕ). record { first = a.at + 4 + 3; count = n }) c.from.ensures in
     (e, subst (ReadsOf a.s.now a.at) (sym e) (call-reads a.s.now a.at c.requires.0 c.requires.1))

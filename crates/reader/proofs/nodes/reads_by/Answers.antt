@@ -30,13 +30,13 @@ overflow_add-at-5 c = omega (arith, count_fits c.args.s.now c.args.at c.requires
 
 pub returns : goal.returns
 returns c = let a = c.args in
-    let n = c.wide-n.result in
-    let m = c.wide.result in
+    let n = c.from-n.result in
+    let m = c.from.result in
     let found : record { first = c.either.result; count = c.either-2.result } ≡ reads_by a.row a.s.now a.at =
     ap (λ (x : ℕ). record { first = x; count = c.either-2.result }) c.either.ensures
     ∙ ap (λ (x : ℕ). record { first = cond c.is_call-call.result (a.at + 4 + 3) (a.at + 4); count = x }) c.either-2.ensures
     ∙ chosen c.is_call-call.result a.at n m
     ∙ ap (λ (b : Bool). cond b (record { first = a.at + 4 + 3; count = n }) (operands_at a.at m)) c.is_call-call.ensures
-    ∙ ap (λ (x : ℕ). cond (calling a.row.form) (record { first = a.at + 4 + 3; count = x }) (operands_at a.at m)) c.wide-n.ensures.0
-    ∙ ap (λ (x : ℕ). cond (calling a.row.form) (arguments_at a.s.now a.at) (operands_at a.at x)) c.wide.ensures.0 in
+    ∙ ap (λ (x : ℕ). cond (calling a.row.form) (record { first = a.at + 4 + 3; count = x }) (operands_at a.at m)) c.from-n.ensures
+    ∙ ap (λ (x : ℕ). cond (calling a.row.form) (arguments_at a.s.now a.at) (operands_at a.at x)) c.from.ensures in
     (found, subst (ReadsOf a.s.now a.at) (sym found) (row_reads a.s.now a.at c.requires.0 a.row c.requires.1))

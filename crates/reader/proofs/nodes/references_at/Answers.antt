@@ -8,5 +8,5 @@ use Rattle.reader.proofs.nodes.references_at.Goals as goal
 pub returns : goal.returns
 returns c = let a = c.args in
     let s = a.s.now in
-    let e = c.wide.ensures.0 ∙ ap (λ (r : Ports). r.operands) c.requires.1 in
-    (ap (operands_at a.at) c.wide.ensures.0, operand-reads s a.at c.requires.0 (form-is s a.at a.row c.requires.1 _ c.requires.2) c.wide.result e)
+    let e = c.from.ensures ∙ ap (λ (r : Ports). r.operands) c.requires.1 in
+    (ap (operands_at a.at) c.from.ensures, operand-reads s a.at c.requires.0 (form-is s a.at a.row c.requires.1 _ c.requires.2) c.from.result e)

@@ -1,17 +1,30 @@
-use Rattle.std.proofs.Common.{◌≡◌, refl, sym, ◌∙◌, arith}
+use Rattle.std.proofs.Common.{◌≡◌, ◌+◌, ◌-◌, ◌<◌, sym, ap, ◌∙◌, ℕ, arith}
+use Rattle.std.proofs.lemmas.Result.{err_from_is_err_and}
+use Rattle.graph.specs.Read.{functions}
+use Rattle.reader.specs.Records.{next}
 use Rattle.reader.proofs.Functions.{functions-on, functions-fault}
 use Rattle.reader.proofs.records.read_functions.Goals as goal
 
-pub loop-left-init : goal.loop-left-init
-loop-left-init c = refl
+pub loop-init : goal.loop-init
+loop-init c = let a = c.args in
+    let z : a.n ≡ a.n - 0 = omega arith in
+    ap (λ (k : ℕ). next (functions a.limit k a.s.now a.at)) z
 
-pub returns-in-Refused : goal.returns-in-Refused
-returns-in-Refused c = let l = c.loop-left in sym (l.invariant ∙ functions-fault _ l.p l.left c.loop-left-test.true _ _ _ (sym c.in-Refused.is ∙ c.read_function-read.ensures))
+pub returns-in_err-p : goal.returns-in_err-p
+returns-in_err-p c = let l = c.loop in
+    let left = c.args.n - l.counter in
+    let h : 0 < left = omega (arith, c.loop-test.true) in
+    let p = err_from_is_err_and c.from_residual.result c.from_residual.ensures.1 in
+    rw (p.1, p.2) (sym (l.invariant ∙ functions-fault _ l.p left h _ _ _ c.in_err-p.ensures))
 
-pub loop-left-preserved : goal.loop-left-preserved
-loop-left-preserved c = let l = c.loop-left in l.invariant ∙ functions-on _ l.p l.left c.loop-left-test.true _ _ (sym c.in-At.is ∙ c.read_function-read.ensures)
+pub loop-preserved : goal.loop-preserved
+loop-preserved c = let l = c.loop in
+    let left = c.args.n - l.counter in
+    let h : 0 < left = omega (arith, c.loop-test.true) in
+    let z : left - 1 ≡ c.args.n - (l.counter + 1) = omega arith in
+    rw (sym z) (l.invariant ∙ functions-on _ l.p left h _ _ c.in_ok-p.ensures)
 
 pub returns : goal.returns
-returns c = let l = c.loop-left in
-    let z : l.left ≡ 0 = omega arith in
+returns c = let l = c.loop in
+    let z : c.args.n - l.counter ≡ 0 = omega (arith, c.loop-test.false) in
     sym (rw z at l.invariant)

@@ -1,16 +1,15 @@
--- `runner::written::words_written`: what is left decides.
-use mathlib.Core.Path.{sym, ◌∙◌}
-use native.Mathlib.Omega.{arith}
-use borrow.Author.Tests.{not-false}
+-- `runner::written::words_written`: each word is marked.
+use Rattle.std.proofs.Common.{rules, refl, arith, ◌∙◌}
+use borrow.Author.Tests.{tests}
+use Rattle.std.proofs.lemmas.Iterator.{YieldsList-from_range}
+use Rattle.std.proofs.lemmas.Iterator.Search.{all_from_yields_List}
 use Rattle.runner.specs.Checks.{marked}
-use Rattle.runner.proofs.Walks.{on}
-use Rattle.runner.proofs.Marks.{words-walk}
+use Rattle.runner.proofs.Walks.{span-all}
 use Rattle.runner.proofs.written.words_written.Goals as goal
 
-pub loop-left-preserved : goal.loop-left-preserved
-loop-left-preserved c =
-    let l = c.loop-left in (
-      sym (on (words-walk (marked c.args.marks.now)) l.left l.at c.loop-left-test.true (sym c.is_written.ensures ∙ not-false _ c.if-not-is_written.false-raw))
-          ∙ l.invariant.0,
-      omega (arith, l.invariant.1, c.loop-left-test.true),
-    )
+pub returns : goal.returns
+returns c =
+    let a = c.args in
+    all_from_yields_List (marked a.marks.now) _ _ _ c.all.ensures.ran (YieldsList-from_range a.from _ a.count refl (omega arith))
+    (λ x b q k. search (rules, tests))
+    ∙ span-all (marked a.marks.now) a.from a.count

@@ -1,29 +1,14 @@
-use Rattle.std.proofs.Common.{ap, sym, ◌∙◌, arith}
+use Rattle.std.proofs.Common.{rules, tests, ◌+◌, ◌*◌, eqb, refl, ◌∙◌, arith}
+use Rattle.std.proofs.lemmas.Iterator.{YieldsList-from_range}
+use Rattle.std.proofs.lemmas.Iterator.Search.{all_from_yields_List}
+use Rattle.base.specs.Bytes.{u16}
 use Rattle.validator.specs.Tests.{held_at}
-use Rattle.validator.proofs.Holding.{agree, differ, on, off, over, outputs-walk}
+use Rattle.validator.proofs.Holding.{outputs-walked}
 use Rattle.validator.proofs.held.held_outputs.Goals as goal
-
-pub returns-then-held-wanted : goal.returns-then-held-wanted
-returns-then-held-wanted c =
-    let a = c.args in
-    let l = c.loop-left in
-    let held = c.held_at-held.ensures ∙ ap (held_at a.words.now) c.u16_at.ensures.0 in
-    sym (off (outputs-walk a.words.now a.ours.now a.code.now) l.left (l.own, l.here) c.loop-left-test.true (differ held c.u16_at-wanted.ensures.0 c.if-held-wanted.true))
-    ∙ l.invariant.0
-
-pub loop-left-preserved : goal.loop-left-preserved
-loop-left-preserved c =
-    let a = c.args in
-    let l = c.loop-left in
-    let held = c.held_at-held.ensures ∙ ap (held_at a.words.now) c.u16_at.ensures.0 in (
-      sym (on (outputs-walk a.words.now a.ours.now a.code.now) l.left (l.own, l.here) c.loop-left-test.true (agree held c.u16_at-wanted.ensures.0 c.if-held-wanted.false))
-          ∙ l.invariant.0,
-      omega (arith, l.invariant.1, c.loop-left-test.true),
-      omega (arith, l.invariant.2, c.loop-left-test.true),
-    )
 
 pub returns : goal.returns
 returns c =
     let a = c.args in
-    let l = c.loop-left in
-    sym (over (outputs-walk a.words.now a.ours.now a.code.now) l.left (l.own, l.here) (omega (arith, c.loop-left-test.false))) ∙ l.invariant.0
+    all_from_yields_List (λ i. eqb (held_at a.words.now (u16 a.code.now (a.at + 2 * i))) (u16 a.ours.now (a.from + 2 * i))) _ _ _ c.all.ensures.ran (YieldsList-from_range 0 a.count a.count refl (omega arith))
+    (λ x b q k. search (rules, tests))
+    ∙ outputs-walked a.words.now a.ours.now a.code.now a.from a.at a.count

@@ -1,26 +1,13 @@
-use Rattle.std.proofs.Common.{refl, sym, ◌∙◌, arith}
-use Rattle.validator.proofs.Holding.{agree, differ, words-start, words-on, words-off, words-over}
+use Rattle.std.proofs.Common.{rules, tests, ◌+◌, eqb, refl, ◌∙◌, arith}
+use Rattle.std.proofs.lemmas.Iterator.{YieldsList-from_range}
+use Rattle.std.proofs.lemmas.Iterator.Search.{all_from_yields_List}
+use Rattle.validator.specs.Tests.{held_at}
+use Rattle.validator.proofs.Holding.{words-walked}
 use Rattle.validator.proofs.held.held_words.Goals as goal
-
-pub loop-i-init : goal.loop-i-init
-loop-i-init c = let a = c.args in (words-start a.words.now a.a a.w a.count, omega arith)
-
-pub returns-then-held-own : goal.returns-then-held-own
-returns-then-held-own c =
-    let a = c.args in
-    let l = c.loop-i in
-    sym (words-off a.words.now a.a a.w a.count l.i c.loop-i-test.true (differ c.held_at-held.ensures refl c.if-held-own.true)) ∙ l.invariant.0
-
-pub loop-i-preserved : goal.loop-i-preserved
-loop-i-preserved c =
-    let a = c.args in
-    let l = c.loop-i in (
-      sym (words-on a.words.now a.a a.w a.count l.i c.loop-i-test.true (agree c.held_at-held.ensures refl c.if-held-own.false)) ∙ l.invariant.0,
-      omega (arith, c.loop-i-test.true),
-    )
 
 pub returns : goal.returns
 returns c =
     let a = c.args in
-    let l = c.loop-i in
-    sym (words-over a.words.now a.a a.w a.count l.i c.loop-i-test.false) ∙ l.invariant.0
+    all_from_yields_List (λ i. eqb (held_at a.words.now (a.a + i)) (a.w + i)) _ _ _ c.all.ensures.ran (YieldsList-from_range 0 a.count a.count refl (omega arith))
+    (λ x b q k. search (rules, tests))
+    ∙ words-walked a.words.now a.a a.w a.count

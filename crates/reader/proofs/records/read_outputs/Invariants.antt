@@ -1,9 +1,0 @@
-use Rattle.graph.specs.Read.{outputs}
-use Rattle.reader.proofs.Functions.{Left}
-use Rattle.reader.proofs.records.read_outputs.Given as goal
-
-abbrev pub invariant-loop-left : goal.invariant-loop-left
-invariant-loop-left l = Left outputs 4 l.s l.at l.n l.p l.left
-
-abbrev pub decreases-loop-left : goal.decreases-loop-left
-decreases-loop-left l = l.left
