@@ -49,7 +49,8 @@ fn up_to(limit: usize, n: usize) -> Option<usize>
     (n <= limit).then_some(n)
 }
 
-// The operations of the function of an id, unless they are above their limit: the table's refusals, then 14.
+// The operations of the function of an id, unless they are above their limit: the table's refusals, then 14. This and `words` are two
+// lines each under a clause of their own: one function of both would be told the field and the limit, and be no shorter.
 pub fn operations(table: &[u8], id: u16) -> Result<Option<usize>, Refusal>
     ensures { outcome result ≡ count_of operation_count (named table.now id) }
 {

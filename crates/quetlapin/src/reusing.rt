@@ -1,4 +1,6 @@
 // A function's list in version 2. Its words are placed before anything is written: only then is it known whether they pass the limit.
+// Compiling and evaluating begin alike, here and in version 1: the arrays of the first half are lent to the second, so that a function
+// of the first half alone would have to hand them out.
 ghost use Rattle.std.specs.Prelude.{◌≡◌, ◌≤◌, ℕ, length, replicate, Ok};
 ghost use Rattle.base.specs.Limits.{operation_limit, placed_limit, port_word_limit};
 ghost use Rattle.base.specs.Refusals.{outcome};

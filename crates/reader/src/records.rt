@@ -191,7 +191,8 @@ pub fn read_function(s: &[u8], at: usize, limit: usize) -> Result<usize, Refusal
     read_nodes(s, nodes, node_count)
 }
 
-// n functions, one after another: where they end.
+// n functions, one after another: where they end. As `read_nodes`, but for what is read: one function of both would take a closure
+// with a law, for three lines.
 pub fn read_functions(s: &[u8], at: usize, n: usize, limit: usize) -> Result<usize, Refusal>
     ensures { outcome result ≡ next (functions limit n s.now at) }
 {

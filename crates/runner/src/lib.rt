@@ -39,6 +39,7 @@ pub struct Cursor {
 
 // ---- the check of a code
 
+// Apart from `written::outputs_written`: this asks of each address how large it is, that what stands at it.
 fn outputs_less(s: &[u8], from: usize, count: usize, words: usize) -> bool
     requires { from + 2 * count ≤ length s.now }
     ensures { result ≡ all_less words (addresses count s.now from) }
