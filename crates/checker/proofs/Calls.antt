@@ -42,7 +42,7 @@ module _ (s : List ℕ) (at : ℕ) (early : List Function) where
   unfolding node_at
   of-form h e = ap (λ (x : Form). call_ok early at (payload_at x (kind_at s at) s (at + 4))) e
 
-  no_call : (h : Form) → form_of (kind_at s at) ≡ h → call_ok early at (payload_at h (kind_at s at) s (at + 4)) ≡ ok tt → call_ok early at (node_at s at).payload ≡ need true 10 at
+  pub no_call : (h : Form) → form_of (kind_at s at) ≡ h → call_ok early at (payload_at h (kind_at s at) s (at + 4)) ≡ ok tt → call_ok early at (node_at s at).payload ≡ need true 10 at
   unfolding need
   no_call h e q = of-form h e ∙ q
 

@@ -141,7 +141,7 @@ reference-at (suc n) s at (suc j) h =
     let e : at + 3 + 3 * j ≡ at + 3 * suc j = omega arith in
     reference-at n s (at + 3) j (omega arith) ∙ ap (λ (p : ℕ). some (reference s p)) e
 
-row_is :
+pub row_is :
     (s : List ℕ) (f begin m i count : ℕ) (ts : List ℕ) → RowsAre s f count ts → i < count → m ≤ operand_limit
     → reads (node_at s (node_place s (nodes_place s f) i)) ≡ references m s begin → RowIs s f begin m i ts
 row_is s f begin m i count ts h b l e = λ j c.

@@ -40,6 +40,9 @@ unfolding function_at
 nodes-of s f = refl
 
 module _ (s : List ℕ) (early : List Function) (f at : ℕ) where
+  pub input-typed : u16 s at ≡ 0 → type_at s early f at ≡ port_of (get_elem? (function_at s f).inputs (byte s (at + 2)))
+  input-typed e = rw (eq-eqb (u16 s at) 0 e)
+
   pub node-typed :
       (p : ℕ) → (u16 s at ≡ 0 → ⊥) → find_node (u16 s at) (function_at s f).nodes ≡ some (node_at s p)
       → type_at s early f at ≡ port_of (get_elem? (gives_of early (node_at s p) (node_at s p).payload) (byte s (at + 2)))
@@ -177,7 +180,7 @@ module _ (s : List ℕ) (early : List Function) (f at : ℕ) where
       e
 
   -- a node that reads nothing
-  bare-node : (h : Form) → form_of (kind_at s at) ≡ h → reads_of (payload_at h (kind_at s at) s (at + 4)) ≡ [] → node_checked s early f (node_at s at) ≡ ok tt
+  pub bare-node : (h : Form) → form_of (kind_at s at) ≡ h → reads_of (payload_at h (kind_at s at) s (at + 4)) ≡ [] → node_checked s early f (node_at s at) ≡ ok tt
   bare-node h e q =
       let ws = wants_of early (node_at s at) (payload_at h (kind_at s at) s (at + 4)) in
       by_form h e ∙ ap (references_checked s early f ws) q ∙ no-references s early f ws

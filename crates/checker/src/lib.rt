@@ -14,11 +14,14 @@ ghost use Rattle.checker.specs.Scenes.{judged};
 ghost use Rattle.checker.specs.Slots.{SlotsReady, Filled};
 
 use base::{FUNCTION_LIMIT, Fault, NODE_LIMIT, Refusal, SLOT_LIMIT, u16_at};
-use scene::{Head, Scene};
+use scene::Scene;
 
 mod names;
 mod scene;
 mod types;
+
+pub use scene::Head;
+pub use types::Want;
 
 // ---- loops
 

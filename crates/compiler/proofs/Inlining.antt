@@ -129,16 +129,21 @@ module _ (ver : Version) (s locations : List ℕ) (k p cell : ℕ) (ins : List �
       ∙ ap (λ (d : ℕ). inlined (sizing ver) (before s k) d given next) (sym ec)
 
   -- the call is the function at its callee's position, on these addresses; where there is none, nothing
-  pub callee-is : {args : List ℕ} {g m : ℕ} → cell + n ≤ length locations → m ≡ n → args ≡ sets (replicate 8 0) 0 (map (address_of ins first) (take m (drop cell locations))) → n ≤ 8 → g ≡ position_of s k c
+  pub callee-is : {args : List ℕ} {g : ℕ} → args ≡ sets (replicate 8 0) 0 given → n ≤ 8 → g ≡ position_of s k c
       → (k ≤ function_limit → g < k → node_inlined ver s locations k p cell ins first next ≡ function_inlined ver s g args next)
       × (k ≤ g → node_inlined ver s locations k p cell ins first next ≡ nothing next)
   unfolding function_inlined
-  callee-is {args} {g} fits em er few eg =
-      let l : length given ≡ n = addresses-length locations ins first cell n in
-      let ea : args ≡ sets (replicate 8 0) 0 given = er ∙ ap (sets (replicate 8 0) 0) (sym (addresses-part locations ins first n cell fits em)) in (
+  callee-is {args} {g} ea few eg =
+      let l : length given ≡ n = addresses-length locations ins first cell n in (
         λ b lt. inlined-here
             ∙ inlined-at ver s given next k c b (subst (λ (q : ℕ). q < k) eg lt)
             ∙ ap (λ (q : ℕ). function_inlined ver s q given next) (sym eg)
             ∙ function-same ver given args (subst (λ (ys : List ℕ). Same given ys) (sym ea) (padded 8 given (omega arith))) (inlined (sizing ver) (before s g)) (function_in s g) next,
         λ le. inlined-here ∙ inlined-none ver s given next k c (subst (λ (q : ℕ). k ≤ q) eg le),
       )
+
+  -- the addresses as a part of all locations
+  pub callee-part : {args : List ℕ} {g m : ℕ} → cell + n ≤ length locations → m ≡ n → args ≡ sets (replicate 8 0) 0 (map (address_of ins first) (take m (drop cell locations))) → n ≤ 8 → g ≡ position_of s k c
+      → (k ≤ function_limit → g < k → node_inlined ver s locations k p cell ins first next ≡ function_inlined ver s g args next)
+      × (k ≤ g → node_inlined ver s locations k p cell ins first next ≡ nothing next)
+  callee-part fits em er few eg = callee-is (er ∙ ap (sets (replicate 8 0) 0) (sym (addresses-part locations ins first n cell fits em))) few eg

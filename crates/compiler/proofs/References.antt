@@ -1,17 +1,19 @@
 -- What a node that was read reads, and what it is as read.
 use Prim.Native.Nat.{ℕ, ◌+◌, ◌≤◌}
 use mathlib.Core.Path.{◌≡◌, refl, sym, ap, ◌∙◌, subst}
-use mathlib.Core.Bool.{Bool, true, false}
+use mathlib.Core.Bool.{Bool, true, false, ◌&&◌}
 use mathlib.Core.List.{List}
 use native.Mathlib.Omega.{arith}
+use lib.Dec.{eqb, leb}
 use lib.ListN.{length}
 use Rattle.base.specs.Limits.{operand_limit}
 use Rattle.base.specs.Bytes.{byte, u16, Bytes}
 use Rattle.base.specs.Lists.{Each}
+use Rattle.base.proofs.Bools.{and-false}
 use Rattle.ports.specs.Kinds.{Kind, kind_of}
 use Rattle.ports.specs.declared.Form.{Form}
 use Rattle.ports.specs.declared.Form.TheVariants.{Absent, Constant, References, Call}
-use Rattle.ports.specs.Ports.{ports_of, arity, form_of, calling}
+use Rattle.ports.specs.Ports.{ports_of, arity, form_of, calling, has_type}
 use Rattle.value.specs.declared.Value.{Value}
 use Rattle.value.specs.Values.{words_of, value_of}
 use Rattle.value.specs.Typed.{Finite}
@@ -30,7 +32,7 @@ use Rattle.reader.specs.Layout.{kind_at, payload_at, node_at}
 use Rattle.reader.specs.Records.{payload_of, arguments_at, operands_at, node_of}
 use Rattle.reader.specs.Find.{ReadsNode, ReadsOf}
 use Rattle.reader.proofs.Standing.{standing-formed}
-use Rattle.reader.proofs.Rows.{constant-width}
+use Rattle.reader.proofs.Rows.{constant-width, constant-operands}
 use Rattle.reader.proofs.AsRead.{calling-call, call-calling, call-reads, other-reads}
 
 -- ---- how many
@@ -77,6 +79,18 @@ module _ (s : List ℕ) (p : ℕ) (n : Node) (e : n ≡ node_of (node_at s p)) w
           let finite = each-finite ws t h in
           let e : ws ≡ words_of v = sym (ap words_of a ∙ words-of-value (ports_of kind).result ws finite (l ∙ constant-width (node_at s p).kind f)) in
           (ap consts e, subst (Each Finite) e finite)
+      pick_one (refs rs) h z = let y : ◌≡◌ {A = ℕ} 0 1 = cc in absurd (omega arith)
+      pick_one (calls c rs) h z = let y : ◌≡◌ {A = ℕ} 0 1 = cc in absurd (omega arith)
+
+  -- the kind of a constant has no T: its words are its row's
+  pub constant-untyped : Bytes s → ReadsNode s p → (v : Value) → n.payload ≡ Payloads.Payload.Constant v → has_type (ports_of (kind_of n.kind)) ≡ false
+  constant-untyped small r v q =
+      ap (λ (m : Node). has_type (ports_of (kind_of m.kind))) e ∙ pick_one (node_at s p).payload (standing-formed s small p r).payload (sym q ∙ payload-kept)
+    where
+      pick_one : (y : Graph.Payload) → FormedPayload kind y → Payloads.Payload.Constant v ≡ payload_of kind ((node_at s p).place + 4) y
+          → has_type (ports_of kind) ≡ false
+      pick_one (consts ws) (f, l, t, h) z =
+          ap (λ (m : ℕ). eqb (ports_of kind).words 0 && leb 1 m) (constant-operands (node_at s p).kind f) ∙ and-false (eqb (ports_of kind).words 0)
       pick_one (refs rs) h z = let y : ◌≡◌ {A = ℕ} 0 1 = cc in absurd (omega arith)
       pick_one (calls c rs) h z = let y : ◌≡◌ {A = ℕ} 0 1 = cc in absurd (omega arith)
 

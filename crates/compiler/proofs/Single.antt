@@ -196,10 +196,10 @@ module _ (ver : Version) (s locations : List ℕ) (k p c : ℕ) (ins : List ℕ)
       let (a, b) = by-payload (consts (words_of v)) c in
       (a ∙ own-bytes [] (words_of v), b, finite)
 
-  operation-is : (r : Reads) → n.payload ≡ Payloads.Payload.References r
+  pub operation-inlined : (r : Reads) → n.payload ≡ Payloads.Payload.References r
       → (node_inlined ver s locations k p c ins first next ≡ single (sizing ver) n.kind n.ty (addresses_in locations ins first c r.count) [] next)
       × (length (reads (node_at s p)) ≡ r.count)
-  operation-is r q =
+  operation-inlined r q =
       let (rs, x, l) = references-are s p n e r q in
       let (a, b) = by-payload (refs rs) x in (
         a ∙ ap (λ (m : ℕ). single (sizing ver) (node_at s p).kind (node_at s p).type (addresses_in locations ins first c m) [] next) l
@@ -208,8 +208,8 @@ module _ (ver : Version) (s locations : List ℕ) (k p c : ℕ) (ins : List ℕ)
       )
 
   -- what it reads, as a part of all locations
-  pub operation-inlined : (r : Reads) → n.payload ≡ Payloads.Payload.References r → (length (reads (node_at s p)) ≡ r.count)
+  pub operation-part : (r : Reads) → n.payload ≡ Payloads.Payload.References r → (length (reads (node_at s p)) ≡ r.count)
       × (c + r.count ≤ length locations → (m : ℕ) → m ≡ r.count → node_inlined ver s locations k p c ins first next ≡ single (sizing ver) n.kind n.ty (map (address_of ins first) (take m (drop c locations))) [] next)
-  operation-inlined r q =
-      let (o, l) = operation-is r q in
+  operation-part r q =
+      let (o, l) = operation-inlined r q in
       (l, λ fits m em. o ∙ ap (λ (xs : List ℕ). single (sizing ver) n.kind n.ty xs [] next) (addresses-part locations ins first r.count c fits em))

@@ -1,9 +1,11 @@
 // One instruction: what a survey notes of it, and how it is written in version 1 and in version 2.
-ghost use Rattle.std.specs.Prelude.{◌≡◌, List, [], ◌∷◌, ℕ, suc, ◌+◌, ◌-◌, ◌/◌, ◌<◌, ◌≤◌, length, map, set};
+ghost use Rattle.std.specs.Prelude.{◌≡◌, false, List, [], ◌∷◌, ℕ, suc, ◌+◌, ◌-◌, ◌/◌, ◌<◌, ◌≤◌, length, map, set};
 ghost use Rattle.std.proofs.lemmas.List.Edits.{sets};
 ghost use Rattle.base.specs.Limits.{reference_limit};
 ghost use Rattle.base.specs.Bytes.{bytes_of};
 ghost use Rattle.base.specs.Lists.{Each};
+ghost use Rattle.ports.specs.Kinds.{kind_of};
+ghost use Rattle.ports.specs.Ports.{ports_of, has_type};
 ghost use Rattle.value.specs.Values.{words_of};
 ghost use Rattle.value.specs.Typed.{Finite};
 ghost use Rattle.lowering.specs.Compile.{single};
@@ -78,13 +80,13 @@ pub fn survey_instruction(
 // The versions differ in an instruction's head (no address in version 1, the result's in version 2) and in what the next result takes:
 // one function for both would be two arms around two shared lines.
 
-// The instruction of a constant in version 1.
+// The instruction of a constant in version 1. Its kind has no T, so that the row alone says how many words it has.
 pub fn write_constant(kind: u8, ty: u8, v: Value, code: &mut [u8], from: Reached) -> Reached
-    requires { CodeRoom Sequential code.old [] from.at from.next (single (sizing V1) kind ty [] (words_of v) from.next) × Each Finite (words_of v) }
+    requires { CodeRoom Sequential code.old [] from.at from.next (single (sizing V1) kind ty [] (words_of v) from.next) × Each Finite (words_of v) × (has_type (ports_of (kind_of kind)) ≡ false) }
     ensures { ((m : ℕ) (place wide : List ℕ) → Walks Sequential m code.old place wide code.new place wide from.at
         (single (sizing V1) kind ty [] (words_of v) from.next) result) × (result.cell ≡ from.cell) }
 {
-    let w = ports::ports_of(kind).result_words(ty);
+    let w = usize::from(ports::ports_of(kind).words);
     code[from.at] = kind;
     code[from.at + 1] = ty;
     let end = put_constant(code, from.at + 2, v);

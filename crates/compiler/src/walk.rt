@@ -1,9 +1,11 @@
 // A walk over the instructions of a function, each call opened where it stands. It comes by them in the order of the list,
 // and does with each what its pass says.
-ghost use Rattle.std.specs.Prelude.{◌≡◌, [], suc, ◌+◌, ◌<◌, ◌≤◌, length, map};
+ghost use Rattle.std.specs.Prelude.{◌≡◌, false, [], suc, ◌+◌, ◌<◌, ◌≤◌, length, map};
 ghost use Rattle.base.specs.Limits.{function_limit, reference_limit};
 ghost use Rattle.base.specs.Bytes.{Bytes};
 ghost use Rattle.base.specs.Lists.{Each};
+ghost use Rattle.ports.specs.Kinds.{kind_of};
+ghost use Rattle.ports.specs.Ports.{ports_of, has_type};
 ghost use Rattle.value.specs.Values.{words_of};
 ghost use Rattle.value.specs.Typed.{Finite};
 ghost use Rattle.graph.specs.Look.{reads};
@@ -50,6 +52,7 @@ impl Walk<'_> {
     ) -> Reached
         requires first_le_unit_bound { (frame.first ≤ unit_bound) × (from.cell ≤ reference_limit) }
         requires code_room { CodeRoom self.pass code.old place.old from.at from.next (single (sizing (naming_of self.pass)) kind ty [] (words_of v) from.next) × Each Finite (words_of v) }
+        requires untyped { has_type (ports_of (kind_of kind)) ≡ false }
         ensures walks { Walks self.entry.pass self.entry.inputs code.old place.old wide.old code.new place.new wide.new from.at
             (single (sizing (naming_of self.entry.pass)) kind ty [] (words_of v) from.next) result }
         ensures cell_value { result.cell ≡ from.cell }
@@ -123,7 +126,8 @@ impl Walk<'_> {
             }
             Payload::Call(callee, reads) => {
                 let cell = from.cell + reads.count;
-                let args = arguments(&locations[from.cell..cell], frame);
+                let mut args = [0; PORT_LIMIT];
+                arguments(&locations[from.cell..cell], frame, &mut args);
                 let reached = match sums::position_of(table, self.starts, k, callee) {
                     Some(g) => self.function(g, &args, code, place, wide, from.at, from.next),
                     None => from,

@@ -21,6 +21,10 @@ use Rattle.executor.specs.Execution.{instruction_at, end_of, code_bytes, words_g
 
 -- ---- equal operands, equal results
 
+module _ {A B : Type 0} (f : A → A → A → B) where
+  pub three : {a b c p q r : A} → a ≡ p → b ≡ q → c ≡ r → f a b c ≡ f p q r
+  three {a} {b} {c} {p} {q} {r} e g h = ap (λ (x : A). f x b c) e ∙ ap (λ (x : A). f p x c) g ∙ ap (λ (x : A). f p q x) h
+
 module _ {A B : Type 0} (f : A → A → A → A → B) where
   pub four : {a b c d p q r s : A} → a ≡ p → b ≡ q → c ≡ r → d ≡ s → f a b c d ≡ f p q r s
   four {a} {b} {c} {d} {p} {q} {r} {s} e g h i =

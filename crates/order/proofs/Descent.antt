@@ -389,6 +389,15 @@ module _
   pub searching-fewer : (w : ℕ) → w < n → marked pushed w ≡ false → unmarked pushed ≡ suc (unmarked (set pushed w true))
   searching-fewer w l e = unmarked-set pushed w (subst (λ (k : ℕ). w < k) (sym s.descent.1.sizes.1) (omega arith)) e
 
+  -- the node itself was pushed
+  pub searching-on : root < n → depth ≡ 0 → marked pushed root ≡ true → Searching ts n taken pushed stack (root + 1) depth count
+  searching-on go z e =
+      record {
+        bound = omega arith;
+        begun = λ v h. ⊎_elim (λ q. rw q e) (λ d. s.begun v (omega arith)) (eq-or-not v root);
+        descent = s.descent;
+      }
+
   kept : (w : ℕ) → w < n → (v : ℕ) → v < root → marked (set pushed w true) v ≡ true
   kept w l v h = mark-keeps pushed w v (subst (λ (k : ℕ). w < k) (sym s.descent.1.sizes.1) (omega arith)) (s.begun v h)
 

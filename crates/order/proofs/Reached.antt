@@ -8,15 +8,16 @@ use native.Mathlib.Omega.{arith}
 use native.Mathlib.Nat.{not-suc-le-zero}
 use native.Mathlib.Numerals.{add-one}
 use lib.Dec.{eqb, ltb}
-use lib.ListN.{length, get_or, set, replicate, length-set, length-replicate}
+use lib.ListN.{length, get_or, set, replicate, length-set, length-replicate, get_or-eq_default}
 use lib.Seq.{get_or-set_same, get_or-set_other}
-use borrow.Author.Tests.{eqb-true, eqb-false, ltb-true, ltb-false}
+use borrow.Author.Tests.{eqb-true, eqb-false, ltb-true, ltb-false, lt-ltb, le-ltb}
 use Rattle.order.specs.Indices.{slot, marked}
 use Rattle.order.specs.Paths.{reads_index, Path, one, more, on_loop}
 use Rattle.order.specs.Walk.{Walk, walk, visit, visit_from, unmarked}
 use Rattle.order.proofs.Marks.{mark-same, mark-other, mark-keeps, mark-none}
 use Rattle.order.proofs.Closure.{read_below, read-slot, slot_read, follow, on-loop-iff}
-use Rattle.order.proofs.Range.{eq-or-not}
+use Rattle.order.proofs.Range.{eq-or-not, both}
+use Rattle.base.proofs.Numbers.{lt-or-le}
 use Rattle.base.specs.Limits.{node_limit, operand_limit}
 
 -- ---- marks that are not set
@@ -32,6 +33,9 @@ unmarked-set (m ∷ ms) zero h e = ap (λ (b : Bool). cond b (unmarked ms) (suc 
 unmarked-set (true ∷ ms) (suc v) h e = unmarked-set ms v (omega arith) e
 unmarked-set (false ∷ ms) (suc v) h e = ap suc (unmarked-set ms v (omega arith) e)
 
+seen_below : (ms : List Bool) (v : ℕ) → marked ms v ≡ true → v < length ms
+seen_below ms v e = ⊎_elim (λ l. l) (λ h. both (marked ms v) e (get_or-eq_default ms false h)) (lt-or-le v (length ms))
+
 -- ---- one visit
 
 -- the queue has room for each node that was not seen
@@ -44,7 +48,7 @@ abbrev added : ℕ → Walk → Walk
 added v w = walk (set w.seen v true) (set w.queue w.tail v) (w.tail + 1)
 
 -- a node that was not seen has a place in the queue
-has-place : (w : Walk) (v : ℕ) → Room w → v < node_limit → marked w.seen v ≡ false → w.tail < node_limit
+pub has-place : (w : Walk) (v : ℕ) → Room w → v < node_limit → marked w.seen v ≡ false → w.tail < node_limit
 has-place w v r l e =
     let f = unmarked-set w.seen v (subst (λ (k : ℕ). v < k) (sym r.marks) l) e in
     omega (arith, r.rest)
@@ -67,6 +71,20 @@ visit-cases P n v w new old = pick_one (ltb v n) (marked w.seen v) refl refl
     pick_one true true qa qb = old (λ l. qb)
     pick_one true false qa qb = new (ltb-true v n qa) qb
     pick_one false b qa qb = old (λ l. absurd (omega (arith, ltb-false v n qa)))
+
+pub visit-room : (n v : ℕ) (w : Walk) → n ≤ node_limit → Room w → Room (visit n v w)
+visit-room n v w few r = visit-cases Room n v w (λ l e. added-room w v r (omega arith) e) (λ h. r)
+
+-- what a visit does, by the node x that the slot's value v is
+module _ (n x v : ℕ) (w : Walk) (same : x ≡ v) where
+  pub visit-new : x < n → marked w.seen x ≡ false → walk (set w.seen x true) (set w.queue w.tail v) (w.tail + 1) ≡ visit n v w
+  visit-new l e = rw (same, lt-ltb v n (subst (λ (k : ℕ). k < n) same l), ap (marked w.seen) (sym same) ∙ e) refl
+
+  pub visit-seen : x < n → marked w.seen x ≡ true → w ≡ visit n v w
+  visit-seen l e = rw (lt-ltb v n (subst (λ (k : ℕ). k < n) same l), ap (marked w.seen) (sym same) ∙ e) refl
+
+  pub visit-none : n ≤ x → w ≡ visit n v w
+  visit-none l = rw (le-ltb v n (subst (λ (k : ℕ). n ≤ k) same l)) refl
 
 -- the nodes in the queue are those that were seen
 pub record Good (w : Walk) : Type 0 where
@@ -195,7 +213,7 @@ pub record Walking (ts : List ℕ) (n i head : ℕ) (w : Walk) : Type 0 where
 abbrev pub nothing : Walk
 nothing = walk (replicate node_limit false) (replicate node_limit 0) 0
 
-nothing-room : Room nothing
+pub nothing-room : Room nothing
 nothing-room = record { marks = length-replicate node_limit false; places = length-replicate {A = ℕ} node_limit 0; rest = let e = unmarked-none node_limit in omega arith }
 
 nothing_seen : {A : Type 0} (v : ℕ) → marked (replicate node_limit false) v ≡ true → A
@@ -216,6 +234,9 @@ module _ {ts : List ℕ} {n i : ℕ} (few : n ≤ node_limit) where
         first = all-marks ts n few i nothing nothing-good;
         closed = λ q h. absurd (not-suc-le-zero h);
       })
+
+  pub at_head : {head : ℕ} {w : Walk} → Walking ts n i head w → head < w.tail → get_or w.queue head 0 < node_limit
+  at_head {head} {w} k h = subst (λ (m : ℕ). get_or w.queue head 0 < m) k.good.room.marks (seen_below w.seen (get_or w.queue head 0) (k.good.inside head h))
 
   pub walking-step : {head : ℕ} {w : Walk} (z : Walk) → Walking ts n i head w → head < w.tail → z ≡ visit_from ts n (get_or w.queue head 0) 0 operand_limit w → Walking ts n i (head + 1) z
   walking-step {head} {w} z k h e =

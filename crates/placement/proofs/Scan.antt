@@ -1,11 +1,13 @@
 -- The search for a gap, word by word and by blocks, and the stores that hold words. A word that is free at an instruction is held later at
 -- most longer than before, so that what is known of a block stays true.
-use Prim.Native.Nat.{ℕ, suc, ◌+◌, ◌-◌, ◌*◌, ◌/◌, ◌%◌, ◌≤◌, ◌<◌, max}
+use Prim.Native.Nat.{ℕ, zero, suc, ◌+◌, ◌-◌, ◌*◌, ◌/◌, ◌%◌, ◌≤◌, ◌<◌, max}
 use mathlib.Core.Path.{◌≡◌, refl, ap, sym, ◌∙◌, subst}
 use mathlib.Core.Bool.{Bool, true, false, cond}
 use mathlib.Core.List.{List}
 use mathlib.Core.Logic.{◌⊎◌, inl, inr}
 use native.Mathlib.Omega.{arith}
+use native.Mathlib.Nat.{add-zero, add-suc, suc-add}
+use native.Mathlib.Numerals.{add-one}
 use lib.Dec.{ltb, eqb}
 use lib.ListN.{length, get_or, set, replicate, length-replicate, length-set}
 use lib.Seq.{sets, get_or-set_same, get_or-set_other}
@@ -209,3 +211,10 @@ bounds-hold until low k n high at x b low-gap room late = record {
         pick : (t : Bool) → inside (record { first = at; width = n }) a ≡ t → get_or until a 0 ≤ cond t x (get_or until a 0)
         pick true e = free-there a e
         pick false e = omega arith
+
+pub stored_more : (x j : ℕ) (m : List ℕ) (at : ℕ) → set (sets m at (replicate j x)) (at + j) x ≡ sets m at (replicate (j + 1) x)
+stored_more x j m at = go j m at ∙ ap (λ (n : ℕ). sets m at (replicate n x)) (sym (add-one j))
+  where
+    go : (j : ℕ) (m : List ℕ) (at : ℕ) → set (sets m at (replicate j x)) (at + j) x ≡ sets m at (replicate (suc j) x)
+    go zero m at = ap (λ (i : ℕ). set m i x) (add-zero at)
+    go (suc j) m at = ap (λ (i : ℕ). set (sets (set m at x) (suc at) (replicate j x)) i x) (add-suc at j ∙ sym (suc-add at j)) ∙ go j (set m at x) (suc at)

@@ -2,8 +2,9 @@
 use Prim.Native.Nat.{ℕ, zero, suc, ◌+◌, ◌≤◌}
 use mathlib.Core.Path.{◌≡◌, refl, ap, sym, ◌∙◌, subst}
 use mathlib.Core.Bool.{Bool, true, false, ◌&&◌, cond}
+use mathlib.Core.List.{◌∷◌}
 use native.Mathlib.Omega.{arith}
-use borrow.Author.Tests.{eqb-true, leb-true}
+use borrow.Author.Tests.{eqb-true, leb-true, leb-false}
 use lib.Dec.{eqb, leb}
 use lib.ListN.{length, replicate, length-replicate, get_or-eq_default, get_or-map}
 use Rattle.base.specs.Limits.{kind_limit, value_limit}
@@ -11,7 +12,7 @@ use Rattle.base.proofs.Bools.{and-inv}
 use Rattle.ports.specs.declared.Ports.{Ports}
 use Rattle.ports.specs.Kinds.{Kind, unknown, kinds, kind_of}
 use Rattle.ports.specs.Ports.{width, widths, absent, ports_of, ports_at, types, takes, own, gives, arity, has_type, result_words, exists, form_of, type_fits, legal}
-use Rattle.ports.proofs.Table.{every-kind}
+use Rattle.ports.proofs.Table.{upto-at, every-kind, NoneOf, any_of, last_of, down_from}
 
 pub row_of : (k : ℕ) → ports_at k ≡ ports_of (kind_of k)
 row_of k = get_or-map ports_of kinds k unknown
@@ -21,6 +22,14 @@ no_kind k h = ap ports_of (get_or-eq_default kinds unknown h)
 
 pub row_at : {k n : ℕ} → k ≡ n → ports_of (kind_of n) ≡ ports_of (kind_of k)
 row_at e = ap (λ (i : ℕ). ports_of (kind_of i)) (sym e)
+
+-- the last arm of a `match` on the kinds
+pub no_row : (k : ℕ) → NoneOf (down_from 24) k → ports_of (kind_of k) ≡ absent
+no_row k r = pick (leb kind_limit k) refl
+  where
+    pick : (b : Bool) → leb kind_limit k ≡ b → ports_of (kind_of k) ≡ absent
+    pick true q = no_kind k (leb-true kind_limit k q)
+    pick false q = sym (row_at (last_of 0 (down_from 24) k (upto-at (any_of (0 ∷ down_from 24)) kind_limit refl k (leb-false kind_limit k q)) r))
 
 pub length_types : (n a b : ℕ) → length (types n a b) ≡ n
 length_types zero a b = refl

@@ -78,3 +78,8 @@ none_of (x ∷ xs) k e r = ⊎_elim (λ a. r.1 (eqb-true k x a)) (λ b. none_of 
 
 pub last_of : (y : ℕ) (xs : List ℕ) (k : ℕ) → any_of (y ∷ xs) k ≡ true → NoneOf xs k → k ≡ y
 last_of y xs k e r = ⊎_elim (λ a. eqb-true k y a) (λ b. absurd (none_of xs k b r)) (or-inv (eqb k y) (any_of xs k) e)
+
+-- the numbers from n down to 1
+abbrev pub down_from : ℕ → List ℕ
+down_from zero = []
+down_from (suc n) = suc n ∷ down_from n

@@ -31,7 +31,7 @@ use Rattle.sums.proofs.Accepted.{functions-are, refused-table}
 use Rattle.sums.proofs.CodeLimits.{function-operations, bytes_below}
 use Rattle.sums.proofs.Measuring.{leb-cap}
 use Rattle.std.specs.Prelude as Rust
-use Rattle.std.specs.Prelude.{Some}
+use Rattle.std.specs.Prelude.{Some, None}
 use Rattle.std.specs.Bool.{then_some}
 use Rattle.quetlapin.specs.Measures.{named, chosen_at, job_at, exact_sizes, measured_of, up_to, count_of, operation_count, word_count, code_count}
 
@@ -109,6 +109,12 @@ up-to-cap limit n = by-limit (leb n limit) refl
         let z : min (suc limit) n ≡ n = omega arith in
         ap (up_to limit) z
     by-limit false e = rw (leb-cap limit n, e)
+
+pub up_to_fits : (limit n : ℕ) → n ≤ limit → Some n ≡ up_to limit n
+up_to_fits limit n l = rw (le-leb n limit l)
+
+pub up-to-over : (limit n : ℕ) → limit < n → None ≡ up_to limit n
+up-to-over limit n l = rw (lt-leb n limit l)
 
 module _ (s : List ℕ) (c k : ℕ) (e : named s c ≡ ok (chosen_at s k)) (m : Sizes) (em : m ≡ sizes_of s k) where
   capped-operations : m.operations ≡ min operation_cap (function_operations (operations_of (before s k)) (function_in s k))

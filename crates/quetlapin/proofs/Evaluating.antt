@@ -37,7 +37,7 @@ use Rattle.base.specs.declared.refusal.Refusal.{Refusal}
 use Rattle.quetlapin.specs.declared.lookup.Found.{Found}
 use Rattle.quetlapin.specs.Measures.{chosen_at, exact_sizes, placed_length, FoundAt, ReadyAt}
 use Rattle.quetlapin.proofs.Choosing.{within-placed}
-use Rattle.quetlapin.proofs.Compiling.{placed-length}
+use Rattle.quetlapin.proofs.Compiling.{too_long, placed-length}
 use Rattle.base.specs.Limits.{operation_limit, word_limit}
 use Rattle.sums.specs.Answers.{capped_sizes}
 use Rattle.quetlapin.specs.Numbers.{number_of}
@@ -177,6 +177,9 @@ module _ (s : List ℕ) (c n : ℕ) (arguments code work out : List ℕ) where
   pub refused-table : {a p : ℕ} → compilable s c n ≡ fault a p → Says code work out (fault a p)
   unfolding compiled
   refused-table {a} {p} e = refused-compiled (stops (compilable s c n) _ a p e)
+
+  pub refused-17 : (v : Version) (size words inputs outs : ℕ) (x : Chosen) → Sized s c n v size words inputs outs x → length code < size → Says code work out (fault 17 0)
+  refused-17 v size words inputs outs x z l = let q = z.code in refused-compiled (too_long s c n code v x z.found (omega arith))
 
   module _ (small : Bytes s) (v : Version) (m : Sizes) (size words : ℕ) (x : Chosen) (z : Sized s c n v size words m.arguments m.outputs x) (l17 : size ≤ length code) where
     abbrev functions : List Function

@@ -58,6 +58,10 @@ unfolding guard
 guard_none true = refl
 guard_none false = refl
 
+-- a well-formed list has no more words than the limit
+pub words-low : {s : List ℕ} {k : ℕ} {code numbers : List ℕ} {words : ℕ} → Comparable s k code numbers words → words ≤ word_limit
+words-low c = omega (arith, c.words_are, c.codes.formed.words)
+
 -- ---- the function's own list
 
 module _ {s : List ℕ} {g : Found} (ready : Ready s g) where

@@ -57,9 +57,10 @@ pub record FoundAt (s : List ℕ) (c : ℕ) (f : Found) : Type 0 where
   pub places : Started s f.starts (suc f.position)
   pub held : SumsHeld s f.sums (suc f.position)
 
-abbrev pub Finds : List ℕ → ℕ → Result Found Refusal → Type 0
-Finds s c (Ok f) = FoundAt s c f
-Finds s c (Err e) = named s c ≡ fault (number e.fault) e.place
+-- what was lent was filled, or a refusal
+abbrev pub Finds : List ℕ → ℕ → Found → Result (Unit {0}) Refusal → Type 0
+Finds s c f (Ok u) = FoundAt s c f
+Finds s c f (Err e) = named s c ≡ fault (number e.fault) e.place
 
 -- a function and a version
 abbrev pub job_at : Version → List ℕ → ℕ → Job

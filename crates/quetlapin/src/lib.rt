@@ -24,6 +24,7 @@ ghost use Rattle.quetlapin.specs.Answers.{lent, Answered};
 ghost use Rattle.quetlapin.specs.Numbers.{number_of, Tellable, Told, JudgeTold, code_length, RunAnswered, EvaluationAnswered};
 
 use base::{Fault, OPERATION_LIMIT, Refusal, WORD_LIMIT};
+use lookup::Found;
 use sums::Sizes;
 
 mod judging;
@@ -37,9 +38,10 @@ mod sequential;
 pub fn measure(table: &[u8], id: u16) -> Result<Sizes, Refusal>
     ensures { outcome result ≡ measured_of (compilable table.now id 1) }
 {
-    let found = lookup::find(table, id)?;
-    found.check_limits()?;
-    Ok(found.sizes)
+    let mut function = Found::NONE;
+    lookup::find(table, id, &mut function)?;
+    function.check_limits()?;
+    Ok(function.sizes)
 }
 
 // A count within its limit.
@@ -49,12 +51,13 @@ fn up_to(limit: usize, n: usize) -> Option<usize>
     (n <= limit).then_some(n)
 }
 
-// The operations of the function of an id, unless they are above their limit: the table's refusals, then 14. This and `words` are two
+// The operations of the function of an id, unless they are above their limit: the table's refusals, then 14. This and `words` are three
 // lines each under a clause of their own: one function of both would be told the field and the limit, and be no shorter.
 pub fn operations(table: &[u8], id: u16) -> Result<Option<usize>, Refusal>
     ensures { outcome result ≡ count_of operation_count (named table.now id) }
 {
-    let found = lookup::find(table, id)?;
+    let mut found = Found::NONE;
+    lookup::find(table, id, &mut found)?;
     Ok(up_to(OPERATION_LIMIT, found.sizes.operations))
 }
 
@@ -62,7 +65,8 @@ pub fn operations(table: &[u8], id: u16) -> Result<Option<usize>, Refusal>
 pub fn words(table: &[u8], id: u16) -> Result<Option<usize>, Refusal>
     ensures { outcome result ≡ count_of word_count (named table.now id) }
 {
-    let found = lookup::find(table, id)?;
+    let mut found = Found::NONE;
+    lookup::find(table, id, &mut found)?;
     Ok(up_to(WORD_LIMIT, found.sizes.words))
 }
 
@@ -70,7 +74,8 @@ pub fn words(table: &[u8], id: u16) -> Result<Option<usize>, Refusal>
 pub fn code_length(table: &[u8], id: u16) -> Result<Option<usize>, Refusal>
     ensures { outcome result ≡ count_of code_count (named table.now id) }
 {
-    let found = lookup::find(table, id)?;
+    let mut found = Found::NONE;
+    lookup::find(table, id, &mut found)?;
     let sizes = found.sizes;
     Ok(base::within_limits(sizes.operations, sizes.words).then_some(sizes.code))
 }
@@ -81,7 +86,8 @@ pub fn code_length(table: &[u8], id: u16) -> Result<Option<usize>, Refusal>
 fn unknown_version(table: &[u8], id: u16) -> Refusal
     ensures { (n : ℕ) → version_of n ≡ none → compilable table.now id n ≡ fault (number result.fault) result.place }
 {
-    match lookup::find(table, id) {
+    let mut found = Found::NONE;
+    match lookup::find(table, id, &mut found) {
         Ok(_) => Fault::ListVersion.at(0),
         Err(refusal) => refusal,
     }
@@ -157,7 +163,8 @@ pub fn judge_placement(
     ensures value { outcome result ≡ judged_placement table.now id code.now numbers.now }
     ensures promise { Promise (λ n. result ≡ Ok n) (λ n p. outcome result ≡ fault n p) table.now id code.now numbers.now }
 {
-    let found = lookup::find(table, id)?;
+    let mut found = Found::NONE;
+    lookup::find(table, id, &mut found)?;
     found.check_limits()?;
     judging::judge_proposed(table, &found, code, numbers)
 }

@@ -17,6 +17,23 @@ pub struct Found {
 
 // What a version asks of its sizes. It stands once on the stack: so each asks of what was lent, and gives no copy on.
 impl Found {
+    // Before any is found.
+    pub const NONE: Found = Found {
+        position: 0,
+        sizes: Sizes {
+            place: 0,
+            operations: 0,
+            words: 0,
+            instructions: 0,
+            bytes: 0,
+            code: 0,
+            arguments: 0,
+            outputs: 0,
+        },
+        starts: [0; FUNCTION_LIMIT],
+        sums: [Sums::NONE; FUNCTION_LIMIT],
+    };
+
     // 15.
     pub fn check_operations(&self) -> Result<(), Refusal>
         ensures { outcome result ≡ operations_allowed self.now.sizes }
@@ -49,22 +66,16 @@ impl Found {
     }
 }
 
-// The table's refusals, then 14.
-pub fn find(table: &[u8], id: u16) -> Result<Found, Refusal>
-    ensures { Finds table.now id result }
+// The table's refusals, then 14. It fills what it is lent: a `Found` in a result would stand twice on its caller's stack.
+pub fn find(table: &[u8], id: u16, found: &mut Found) -> Result<(), Refusal>
+    ensures { Finds table.now id found.new result }
 {
     let count = checker::check(table)?;
-    let mut starts = [0; FUNCTION_LIMIT];
-    sums::find_starts(table, count, &mut starts);
-    let Some(position) = sums::position_of(table, &starts, count, usize::from(id)) else {
+    sums::find_starts(table, count, &mut found.starts);
+    let Some(position) = sums::position_of(table, &found.starts, count, usize::from(id)) else {
         return Err(Fault::NoFunction.at(0));
     };
-    let mut sums = [Sums::NONE; FUNCTION_LIMIT];
-    let sizes = sums::measure(table, &starts, position, &mut sums);
-    Ok(Found {
-        position,
-        sizes,
-        starts,
-        sums,
-    })
+    found.position = position;
+    found.sizes = sums::measure(table, &found.starts, position, &mut found.sums);
+    Ok(())
 }

@@ -61,7 +61,8 @@ pub fn compile_reusing(table: &[u8], id: u16, code: &mut [u8]) -> Result<usize, 
     ensures value { outcome result ≡ compiling.answer_of (compiled table.now id 2 code.old) }
     ensures code_after { code.new ≡ compiling.code_after code.old (compiled table.now id 2 code.old) }
 {
-    let found = find(table, id)?;
+    let mut found = Found::NONE;
+    find(table, id, &mut found)?;
     found.check_operations()?;
     let sizes = found.sizes;
     let mut layout = Layout::new();
@@ -94,7 +95,8 @@ pub fn evaluate_reusing(
     ensures demand3 { Demand3 (λ n. result ≡ Ok n) table.now id 2 arguments.now code.old work.old out.old
         code.new work.new out.new }
 {
-    let found = find(table, id)?;
+    let mut found = Found::NONE;
+    find(table, id, &mut found)?;
     found.check_operations()?;
     let sizes = found.sizes;
     let mut layout = Layout::new();

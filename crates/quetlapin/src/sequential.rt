@@ -7,7 +7,7 @@ ghost use Rattle.quetlapin.specs.Compiling as compiling;
 ghost use Rattle.quetlapin.specs.Answers.{Answered};
 
 use super::check_lent;
-use super::lookup::find;
+use super::lookup::{Found, find};
 use base::Refusal;
 
 // The list of version 1.
@@ -15,15 +15,16 @@ pub fn compile_sequential(table: &[u8], id: u16, code: &mut [u8]) -> Result<usiz
     ensures value { outcome result ≡ compiling.answer_of (compiled table.now id 1 code.old) }
     ensures code_after { code.new ≡ compiling.code_after code.old (compiled table.now id 1 code.old) }
 {
-    let found = find(table, id)?;
-    found.check_limits()?;
-    found.check_room(code.len())?;
-    let sizes = found.sizes;
+    let mut function = Found::NONE;
+    find(table, id, &mut function)?;
+    function.check_limits()?;
+    function.check_room(code.len())?;
+    let sizes = function.sizes;
     compiler::compile(
         table,
-        &found.starts,
-        &found.sums,
-        found.position,
+        &function.starts,
+        &function.sums,
+        function.position,
         sizes,
         code,
     );
@@ -45,7 +46,8 @@ pub fn evaluate_sequential(
     ensures demand3 { Demand3 (λ n. result ≡ Ok n) table.now id 1 arguments.now code.old work.old out.old
         code.new work.new out.new }
 {
-    let found = find(table, id)?;
+    let mut found = Found::NONE;
+    find(table, id, &mut found)?;
     found.check_limits()?;
     found.check_room(code.len())?;
     let sizes = found.sizes;

@@ -95,3 +95,6 @@ module _ {s ps : List ℕ} {i left : ℕ} {wanted₀ : List ℕ} where
 
     pub gather-full : 0 < m → Gathered s ps i left wanted₀ wanted (record { nodes = n; refs = m })
     gather-full l = record { some = some-nodes s ps i n m h.size l; most = h.most; fits = h.fits; size = h.size; ids = h.ids }
+
+    pub gather-done : 0 < left → left ≤ n → Gathered s ps i left wanted₀ wanted (record { nodes = n; refs = m })
+    gather-done l e = record { some = omega arith; most = h.most; fits = h.fits; size = h.size; ids = h.ids }

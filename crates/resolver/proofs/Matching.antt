@@ -29,6 +29,22 @@ pub record Marking (wanted : List ℕ) (id i : ℕ) (found₀ found : List ℕ) 
   pub done : (q : ℕ) → q < r → get_or found q 0 ≡ cond (eqb id (get_or wanted q 0)) i (get_or found₀ q 0)
   pub rest : (q : ℕ) → r ≤ q → get_or found q 0 ≡ get_or found₀ q 0
 
+-- going down from `no_node`
+module _ (b : Bool) (i old : ℕ) (l : i ≤ no_node) (h : b ≡ true → old ≡ no_node) where
+  pub lower : old - cond b (no_node - i) 0 ≡ cond b i old
+  lower = pick_one b h
+    where
+      pick_one : (c : Bool) → (c ≡ true → old ≡ no_node) → old - cond c (no_node - i) 0 ≡ cond c i old
+      pick_one true g = let e = g refl in omega (arith, e, l)
+      pick_one false g = omega arith
+
+  pub lower-fits : cond b (no_node - i) 0 ≤ old
+  lower-fits = pick_one b h
+    where
+      pick_one : (c : Bool) → (c ≡ true → old ≡ no_node) → cond c (no_node - i) 0 ≤ old
+      pick_one true g = let e = g refl in omega (arith, e, l)
+      pick_one false g = omega arith
+
 abbrev ids : List Node → List ℕ
 ids = map (λ n. n.id)
 

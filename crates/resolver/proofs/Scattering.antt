@@ -18,7 +18,7 @@ use Rattle.reader.specs.Find.{ReadsOf}
 use Rattle.order.specs.Resolve.{index_of, target}
 use Rattle.resolver.specs.Slots.{padded, row_of, rows_of, nodes_by}
 use Rattle.resolver.specs.Groups.{ids_of, named, entries, rows_from, FoundAll, GroupDone}
-use Rattle.resolver.proofs.ByPlaces.{by_next, by-none, length-by, by-split}
+use Rattle.resolver.proofs.ByPlaces.{by_all, by_next, by-none, length-by, by-split}
 use Rattle.resolver.proofs.Rows.{length-padded, length-rows, rows_none}
 use Rattle.resolver.proofs.Gathering.{ids-length}
 
@@ -75,6 +75,14 @@ pub record Scattering (s ps found targets₀ : List ℕ) (i nodes : ℕ) (target
   pub run : Run (rows_from found 0 (nodes_by s ps i nodes)) targets₀ (operand_limit * i) targets (operand_limit * (i + n)) (rows_from found m (nodes_by s ps (i + n) (nodes - n)))
 
 module _ {s ps found targets₀ : List ℕ} {i nodes : ℕ} where
+  pub scatter-start : Scattering s ps found targets₀ i nodes targets₀ 0 0
+  scatter-start =
+      record {
+        index = omega arith;
+        size = zero-add (length (named (nodes_by s ps (i + 0) (nodes - 0)))) ∙ ap (λ (ns : List Node). length (named ns)) (sym (by_all s ps i nodes));
+        run = run-start (omega arith) (ap (rows_from found 0) (sym (by_all s ps i nodes)));
+      }
+
   module _ {targets : List ℕ} {n m : ℕ} (h : Scattering s ps found targets₀ i nodes targets n m) (l : n < nodes) {p : ℕ} {r : Reads} (ep : p ≡ get_or ps (i + n) 0) (f : ReadsOf s p r) where
     rest : List Node
     rest = nodes_by s ps (i + (n + 1)) (nodes - (n + 1))

@@ -5,9 +5,8 @@ use mathlib.Core.List.{List, [], ◌∷◌, ◌++◌, map, map-append}
 use native.Mathlib.Nat.{zero-add}
 use native.Mathlib.Numerals.{add-one}
 use native.Mathlib.Omega.{arith}
-use lib.ListN.{length, set, drop, length-map}
-use Rattle.std.proofs.lemmas.List.Edits.{sets-eq}
-use lib.Seq.{sets}
+use lib.ListN.{length, get_or, set, take, length-map}
+use lib.Seq.{sets, take-suc, take-length, length-take-le}
 use Rattle.base.specs.Lists.{word_at, Each}
 use Rattle.base.proofs.Stores.{then}
 use Rattle.base.specs.Bytes.{u16}
@@ -19,9 +18,14 @@ use Rattle.bytecode.proofs.Decoded.{addresses-length}
 one_more : (l : List ℕ) (m : List ℕ) (i x : ℕ) (xs : List ℕ) → length xs ≡ i → m ≡ sets l 0 xs → set m i x ≡ sets l 0 (xs ++ (x ∷ []))
 one_more l m i x xs e h = then l 0 xs (x ∷ []) h (ap (λ (k : ℕ). set m k x) (sym e ∙ sym (zero-add (length xs))))
 
--- all of a list, copied to the front
-pub copied-front : (xs l : List ℕ) → length xs ≤ length l → xs ++ drop (length xs) l ≡ sets l 0 xs
-copied-front xs l h = let e : 0 + length xs ≡ length xs = omega arith in sym (sets-eq xs l 0 (omega arith) ∙ ap (λ (n : ℕ). xs ++ drop n l) e)
+pub copy_more : (l m from : List ℕ) (i : ℕ) → i < length from → m ≡ sets l 0 (take i from) → set m i (get_or from i 0) ≡ sets l 0 (take (i + 1) from)
+copy_more l m from i h e =
+    let n : i ≤ length from = omega arith in
+    one_more l m i (get_or from i 0) (take i from) (length-take-le i from n) e
+    ∙ ap (sets l 0) (sym (ap (λ (k : ℕ). take k from) (add-one i) ∙ take-suc from i 0 h))
+
+pub copy-all : (l m from : List ℕ) (i : ℕ) → length from ≤ i → i ≤ length from → m ≡ sets l 0 (take i from) → m ≡ sets l 0 from
+copy-all l m from i p q e = let z : i ≡ length from = omega arith in e ∙ ap (sets l 0) (ap (λ (k : ℕ). take k from) z ∙ take-length from)
 
 -- ---- outputs
 

@@ -193,11 +193,14 @@ pub fn arguments_allowed(xs: &[u64]) -> bool
     xs.iter().all(|w| value::argument_word(*w))
 }
 
+// Word by word: `copy_from_slice` is a call of `memmove`, which an archive for C would want from outside.
 fn copy(from: &[u64], to: &mut [u64])
     requires { length from.now ≤ length to.old }
     ensures { to.new ≡ sets to.old 0 from.now }
 {
-    to[..from.len()].copy_from_slice(from);
+    for i in 0..from.len() {
+        to[i] = from[i];
+    }
 }
 
 // The words at `count` addresses, which stand at the byte `from`.

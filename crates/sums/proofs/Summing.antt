@@ -123,6 +123,9 @@ module _ (s : List ℕ) (n first k : ℕ) where
   pub sum-here : (x : Sums) (i p : ℕ) → Summing x i p → i < n → ReadsNode s p
   sum-here x i p h l = first_reads s (n - i) p (omega arith) h.reads
 
+  pub sum-small : (x : Sums) (i p : ℕ) → Summing x i p → Small x
+  sum-small x i p h = subst Small h.capped (omega arith, omega arith, omega arith, omega arith)
+
   pub sum_step : (x : Sums) (i p : ℕ) → Summing x i p → i < n → (r : Sums) → Caps s k (node_at s p) r → (y : Sums) (q : ℕ) → y ≡ cap_sums (both x r) → q ≡ node_end s p → Summing y (i + 1) q
   unfolding nodes_at
   sum_step x i p h l r c y q ey eq =

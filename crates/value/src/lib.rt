@@ -55,7 +55,7 @@ pub enum Value {
     Matrix(Mat4),
 }
 
-// The steps that go component by component. Its values stand in clauses alone: `steps.rt` has a type for each.
+// The steps that go component by component, as values: in clauses, and for callers that learn the operator at run time. `steps.rt` has a type for each.
 #[derive(Clone, Copy)]
 pub enum Operator {
     Add,

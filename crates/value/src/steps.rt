@@ -2,7 +2,10 @@
 ghost use Rattle.std.specs.Prelude.{◌≡◌, refl, ℕ};
 ghost use Rattle.value.specs.declared.Operator.{Operator};
 ghost use Rattle.value.specs.declared.Operator.TheVariants as Operators;
-ghost use Rattle.value.specs.Steps.{step_of, operands_of};
+ghost use Rattle.value.specs.Steps.{step_of, operands_of, components};
+
+use super::shapes::{Components, Shape};
+use super::{Mat4, Operator, Value, Vec3};
 
 pub trait Step {
     ghost operator: { Operator };
@@ -128,7 +131,7 @@ impl Step for Absolute {
 
     ghost operands_are = { refl };
 
-    #[tactic(auto, using(crate::proofs::Floats::absolute_is))]
+    #[tactic(auto, using(crate::proofs::Floats::absolute_by_cases))]
     fn step(a: f64, _: f64, _: f64, _: f64) -> f64 {
         a.abs()
     }
@@ -186,6 +189,37 @@ impl Step for Clamp {
             high
         } else {
             a
+        }
+    }
+}
+
+// Where the operator is known only at run time: the step of its type.
+impl Operator {
+    pub fn step<S: Components>(self, a: S, b: S, c: S, d: S) -> S
+        ensures { result ≡ S.each (step_of self) a b c d }
+    {
+        match self {
+            Operator::Add => a.step::<Add>(b, c, d),
+            Operator::Subtract => a.step::<Subtract>(b, c, d),
+            Operator::Multiply => a.step::<Multiply>(b, c, d),
+            Operator::Divide => a.step::<Divide>(b, c, d),
+            Operator::Minimum => a.step::<Minimum>(b, c, d),
+            Operator::Maximum => a.step::<Maximum>(b, c, d),
+            Operator::Absolute => a.step::<Absolute>(b, c, d),
+            Operator::Remainder => a.step::<Remainder>(b, c, d),
+            Operator::Select => a.step::<Select>(b, c, d),
+            Operator::Clamp => a.step::<Clamp>(b, c, d),
+        }
+    }
+
+    // Of the first operand's type.
+    pub fn step_value(self, a: Value, b: Value, c: Value, d: Value) -> Value
+        ensures { result ≡ components (step_of self) a b c d }
+    {
+        match a {
+            Value::Scalar(x) => Value::Scalar(self.step(x, f64::of(b), f64::of(c), f64::of(d))),
+            Value::Vector(x) => Value::Vector(self.step(x, Vec3::of(b), Vec3::of(c), Vec3::of(d))),
+            Value::Matrix(x) => Value::Matrix(self.step(x, Mat4::of(b), Mat4::of(c), Mat4::of(d))),
         }
     }
 }

@@ -2,7 +2,7 @@
 ghost use Rattle.std.specs.Prelude.{◌≡◌, ◌+◌, ◌*◌, ◌≤◌, ℕ, length};
 ghost use Rattle.std.specs.Float.Ieee as Ieee;
 ghost use Rattle.std.specs.Float.{binary64};
-ghost use Rattle.base.specs.Bytes.{constants};
+ghost use Rattle.base.specs.Bytes.{u64, constants};
 ghost use Rattle.base.specs.Lists.{every};
 ghost use Rattle.value.specs.Values as Values;
 ghost use Rattle.value.specs.Values.{word, constant_word, argument_word};
@@ -91,12 +91,21 @@ pub fn constant_word(w: u64) -> bool
     finite(w)
 }
 
+// Whether the constant at `at` may be one. Its two highest bytes tell: only these are loaded, and such a load seldom lies across two
+// lines of the cache, as one of eight bytes does at each eighth constant.
+fn constant_allowed(s: &[u8], at: usize) -> bool
+    requires { at + 8 ≤ length s.now }
+    ensures { result ≡ constant_word (u64 s.now at) }
+{
+    base::u16_at(s, at + 6) % 0x8000 < 0x7FF0
+}
+
 // Whether each of `count` constants from the byte `from` on may be one.
 pub fn constants_allowed(s: &[u8], from: usize, count: usize) -> bool
     requires { from + 8 * count ≤ length s.now }
     ensures { result ≡ every constant_word (constants count s.now from) }
 {
-    (0..count).all(|i| constant_word(base::u64_at(s, from + 8 * i)))
+    (0..count).all(|i| constant_allowed(s, from + 8 * i))
 }
 
 // Whether a word may be an argument's.

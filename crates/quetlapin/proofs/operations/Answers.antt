@@ -3,10 +3,10 @@ use Rattle.quetlapin.specs.Measures.{operation_count}
 use Rattle.quetlapin.proofs.Choosing.{count-refused, its-operations}
 use Rattle.quetlapin.proofs.operations.Goals as goal
 
-pub returns-in_err-found : goal.returns-in_err-found
-returns-in_err-found c =
+pub returns-in_err-find : goal.returns-in_err-find
+returns-in_err-find c =
     let p = err_from_is_err_and c.from_residual.result c.from_residual.ensures.1 in
-    rw (p.1, p.2) (count-refused operation_count c.args.table.now c.args.id c.in_err-found.ensures)
+    rw (p.1, p.2) (count-refused operation_count c.args.table.now c.args.id c.in_err-find.ensures)
 
 pub returns : goal.returns
-returns c = let f = c.in_ok-found.ensures in its-operations c.args.table.now c.args.id _ f.named _ f.sizes.sizes c.up_to.ensures
+returns c = let f = c.in_ok-find.ensures in its-operations c.args.table.now c.args.id _ f.named _ f.sizes.sizes c.up_to.ensures

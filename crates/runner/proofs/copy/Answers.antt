@@ -1,10 +1,13 @@
--- `runner::copy`: the front of the one is the other.
-use Rattle.std.proofs.Common.{◌++◌, ap, ◌∙◌, length}
-use Rattle.std.proofs.Math.ListN.{drop}
-use Rattle.runner.proofs.Buffers.{copied-front}
+-- `runner::copy`, word by word.
+use mathlib.Core.Path.{◌∙◌}
+use lib.ListN.{length-set}
+use Rattle.runner.proofs.Buffers.{copy_more, copy-all}
 use Rattle.runner.proofs.copy.Goals as goal
 
-pub returns : goal.returns
-returns c =
-    let a = c.args in
-    ap (λ xs. xs ++ drop (length a.from.now) a.to.now) c.copy_from_slice.ensures.after ∙ copied-front a.from.now a.to.now c.requires
+pub loop-i-preserved : goal.loop-i-preserved
+loop-i-preserved c =
+    let l = c.loop-i in
+    let a = c.args in (
+      copy_more a.to.now l.to a.from.now l.i c.loop-i-test.true l.invariant.0,
+      length-set l.to l.i _ ∙ l.invariant.1,
+    )

@@ -38,9 +38,9 @@ returns-in_default c = let a = c.args in
     let n = c.in_ok-count.count in
     rw c.at.ensures (named_none a.table.now a.id n (position_of a.table.now n a.id) (accepted (goal.at.returns-in_default c).In_ok-count) refl (rw c.from.ensures at c.in_default.ensures.1))
 
-pub measure-sizes-requires : goal.measure-sizes-requires
-measure-sizes-requires c = let a = c.args in
-    let g = (goal.at.measure-sizes-requires c).In_ok-count in
+pub measure-found-requires : goal.measure-found-requires
+measure-found-requires c = let a = c.args in
+    let g = (goal.at.measure-found-requires c).In_ok-count in
     let l = c.in-Some.ensures.1 in (
       record { functions = c.in_ok-count.count; judged = accepted g; most = omega arith; small = small g },
       fewer-starts a.table.now _ c.in_ok-count.count _ c.find_starts.ensures.started (omega arith),
@@ -54,7 +54,7 @@ returns c = let a = c.args in
     record {
       accepted = record { functions = c.in_ok-count.count; judged = accepted g; most = omega arith; small = small g };
       named = named-at a.table.now a.id c.in_ok-count.count c.in-Some.position (accepted g) e (few g) l;
-      sizes = c.measure-sizes.ensures.0;
+      sizes = c.measure-found.ensures.0;
       places = fewer-starts a.table.now _ c.in_ok-count.count _ c.find_starts.ensures.started (omega arith);
-      held = c.measure-sizes.ensures.1;
+      held = c.measure-found.ensures.1;
     }

@@ -30,15 +30,15 @@ returns-else-same_constants c =
     let code = a.code.now in
     let ours = a.ours.now in
     c.if-same_constants.false ∙ (elim c.if-t-ours.branch [
-      | then-t-ours w ↦
-          let is = constants-are ours a.from code a.at a.words.now r c.from-n.ensures c.constant_words-constants.ensures.0 w.same_constants.ensures in
+      | then-t-ours u ↦
+          let is = constants-are ours a.from code a.at a.words.now r c.from-n.ensures c.constant_words-constants.ensures.0 u.same_constants.ensures in
           elim c.if-code-at.branch [
             | then-code-at v ↦
-                other-constants ours a.from code a.at a.words.now r v.if-code-at.true (eqb-true _ _ (sym v.value-is ∙ w.if-t-ours.true)) (is ∙ sym w.value-is ∙ c.if-same_constants.false)
-            | else-code-at v ↦ never (not-same v.value-is v.if-code-at.false w.if-t-ours.true)
+                other-constants ours a.from code a.at a.words.now r v.if-code-at.true (eqb-true _ _ (sym v.value-is ∙ u.if-t-ours.true)) (is ∙ sym u.value-is ∙ c.if-same_constants.false)
+            | else-code-at v ↦ never (not-same v.value-is v.if-code-at.false u.if-t-ours.true)
           ]
-      | else-t-ours w ↦ elim c.if-code-at.branch [
-        | then-code-at v ↦ other-type ours a.from code a.at a.words.now r v.if-code-at.true (eqb-false _ _ (sym v.value-is ∙ w.if-t-ours.false))
+      | else-t-ours u ↦ elim c.if-code-at.branch [
+        | then-code-at v ↦ other-type ours a.from code a.at a.words.now r v.if-code-at.true (eqb-false _ _ (sym v.value-is ∙ u.if-t-ours.false))
         | else-code-at v ↦ other-kind ours a.from code a.at a.words.now r v.if-code-at.false
       ]
     ])

@@ -7,9 +7,9 @@ use Rattle.sums.specs.Position.{place_of}
 use Rattle.sums.proofs.Nodes.{call-form}
 use Rattle.sums.proofs.Tabulate.{fewer-starts}
 use Rattle.compiler.specs.Emit.{naming_of}
-use Rattle.compiler.proofs.References.{call-is}
-use Rattle.compiler.proofs.Single.{same-room, same_walks, constant-inlined, operation-inlined}
-use Rattle.compiler.proofs.Inlining.{count-is, callee-is, nothing-walks}
+use Rattle.compiler.proofs.References.{call-is, constant-untyped}
+use Rattle.compiler.proofs.Single.{same-room, same_walks, constant-inlined, operation-part}
+use Rattle.compiler.proofs.Inlining.{count-is, callee-part, nothing-walks}
 use Rattle.compiler.proofs.Filling.{part-length}
 use Rattle.compiler.proofs.Emission.{words-fit, start, node-ready, advance}
 use Rattle.compiler.proofs.walk.Walk.+function_node.Goals as goal
@@ -78,6 +78,12 @@ node-constant-requires-clause-code_room t c =
     c.requires.k_lt_function_limit.3 c.requires.k_lt_function_limit.2 c.in-Constant.v c.in-Constant.is in
     (same-room o c.requires.code_room, finite)
 
+pub node-constant-requires-clause-untyped : goal.node-constant-requires-clause-untyped
+node-constant-requires-clause-untyped t c =
+    let a = c.args in
+    let (k16, starts, read, small) = c.requires.k_lt_function_limit in
+    constant-untyped a.self.table.now a.p c.node_at-node.result c.node_at-node.ensures small read c.in-Constant.v c.in-Constant.is
+
 pub node-returns-in-Constant-clause-walks : goal.node-returns-in-Constant-clause-walks
 node-returns-in-Constant-clause-walks t c =
     let a = c.args in
@@ -91,19 +97,19 @@ node-returns-in-Constant-clause-walks t c =
 pub node-operation-requires-clause-code_room : goal.node-operation-requires-clause-code_room
 node-operation-requires-clause-code_room t c =
     let a = c.args in
-    let (l, o) = operation-inlined (naming_of a.self.pass) a.self.table.now a.self.layout.now.locations a.k a.p a.from.cell a.frame.ins.now a.frame.first a.from.next c.node_at-node.result c.node_at-node.ensures c.in-References.reads c.in-References.is in
+    let (l, o) = operation-part (naming_of a.self.pass) a.self.table.now a.self.layout.now.locations a.k a.p a.from.cell a.frame.ins.now a.frame.first a.from.next c.node_at-node.result c.node_at-node.ensures c.in-References.reads c.in-References.is in
     same-room (o (omega arith) _ (omega arith)) c.requires.code_room
 
 pub node-returns-in-References-clause-walks : goal.node-returns-in-References-clause-walks
 node-returns-in-References-clause-walks t c =
     let a = c.args in
-    let (l, o) = operation-inlined (naming_of a.self.pass) a.self.table.now a.self.layout.now.locations a.k a.p a.from.cell a.frame.ins.now a.frame.first a.from.next c.node_at-node.result c.node_at-node.ensures c.in-References.reads c.in-References.is in
+    let (l, o) = operation-part (naming_of a.self.pass) a.self.table.now a.self.layout.now.locations a.k a.p a.from.cell a.frame.ins.now a.frame.first a.from.next c.node_at-node.result c.node_at-node.ensures c.in-References.reads c.in-References.is in
     same_walks (o (omega arith) _ (omega arith)) c.operation.ensures.walks
 
 -- ---- a call
 
-pub node-arguments-args-requires : goal.node-arguments-args-requires
-node-arguments-args-requires t c =
+pub node-arguments-requires : goal.node-arguments-requires
+node-arguments-requires t c =
     let a = c.args in
     let (f, i, n) = call-is a.self.table.now a.p c.node_at-node.result c.node_at-node.ensures c.in-Call.callee c.in-Call.reads c.in-Call.is in
     let x = (callee-fits a.self.table.now a.p c.requires.k_lt_function_limit.2 (call-form _ f)).1 in
@@ -122,8 +128,8 @@ node-function-reached-requires t c =
     let l = count-is (naming_of a.self.pass) a.self.table.now a.self.layout.now.locations a.k a.p a.from.cell a.frame.ins.now a.frame.first a.from.next f c.in-Call.reads.count c.in-Call.callee n i in
     let (eg, lt) = c.in-Some.ensures in
     let (on, off) =
-    callee-is (naming_of a.self.pass) a.self.table.now a.self.layout.now.locations a.k a.p a.from.cell a.frame.ins.now a.frame.first a.from.next f c.in-Call.reads.count c.in-Call.callee n i
-    (omega arith) (omega arith) c.arguments-args.ensures (omega (arith, n, x)) eg in (
+    callee-part (naming_of a.self.pass) a.self.table.now a.self.layout.now.locations a.k a.p a.from.cell a.frame.ins.now a.frame.first a.from.next f c.in-Call.reads.count c.in-Call.callee n i
+    (omega arith) (omega arith) c.arguments.ensures (omega (arith, n, x)) eg in (
       omega (arith, c.decreases),
       (
         (omega arith, fewer-starts _ _ _ _ starts (omega arith), small),
@@ -140,8 +146,8 @@ node-returns-in-Some-clause-walks t c =
     let l = count-is (naming_of a.self.pass) a.self.table.now a.self.layout.now.locations a.k a.p a.from.cell a.frame.ins.now a.frame.first a.from.next f c.in-Call.reads.count c.in-Call.callee n i in
     let (eg, lt) = c.in-Some.ensures in
     let (on, off) =
-    callee-is (naming_of a.self.pass) a.self.table.now a.self.layout.now.locations a.k a.p a.from.cell a.frame.ins.now a.frame.first a.from.next f c.in-Call.reads.count c.in-Call.callee n i
-    (omega arith) (omega arith) c.arguments-args.ensures (omega (arith, n, y)) eg in
+    callee-part (naming_of a.self.pass) a.self.table.now a.self.layout.now.locations a.k a.p a.from.cell a.frame.ins.now a.frame.first a.from.next f c.in-Call.reads.count c.in-Call.callee n i
+    (omega arith) (omega arith) c.arguments.ensures (omega (arith, n, y)) eg in
     let x = same_walks (on (omega arith) lt) c.function-reached.ensures in
     record { written = x.written; noted = x.noted; measured = x.measured; end = x.end; next = x.next }
 
@@ -153,6 +159,6 @@ node-returns-in-None-clause-walks t c =
     let x = (callee-fits a.self.table.now a.p read (call-form _ f)).1 in
     let l = count-is (naming_of a.self.pass) a.self.table.now a.self.layout.now.locations a.k a.p a.from.cell a.frame.ins.now a.frame.first a.from.next f c.in-Call.reads.count c.in-Call.callee n i in
     let (on, off) =
-    callee-is (naming_of a.self.pass) a.self.table.now a.self.layout.now.locations a.k a.p a.from.cell a.frame.ins.now a.frame.first a.from.next f c.in-Call.reads.count c.in-Call.callee n i
-    (omega arith) (omega arith) c.arguments-args.ensures (omega (arith, n, x)) refl in
+    callee-part (naming_of a.self.pass) a.self.table.now a.self.layout.now.locations a.k a.p a.from.cell a.frame.ins.now a.frame.first a.from.next f c.in-Call.reads.count c.in-Call.callee n i
+    (omega arith) (omega arith) c.arguments.ensures (omega (arith, n, x)) refl in
     same_walks (off c.in-None.ensures.1) (nothing-walks a.self.pass)
